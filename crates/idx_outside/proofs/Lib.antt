@@ -1,0 +1,3 @@
+pub mod ContentsLemmas
+pub mod CountsLemmas
+pub mod ObjectsLemmas

@@ -1,0 +1,6 @@
+pub mod Bytes
+pub mod Cause
+pub mod Contents
+pub mod Counts
+pub mod Objects
+pub mod Memory

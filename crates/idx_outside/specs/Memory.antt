@@ -1,0 +1,27 @@
+-- The forms in memory: bytes, and the calls that are to fail.
+use Rattle.std.specs.Prelude.{ℕ, List, Contains, Bool, if◌then◌else◌}
+use Rattle.idx_outside.specs.Cause.{counted}
+
+-- the numbers of the calls that are to fail, how many calls there were, and how many faults
+pub record FaultState : Type 0 where
+  pub fails : List ℕ
+  pub calls : ℕ
+  pub faults : ℕ
+
+-- before the first call
+abbrev pub untouched : List ℕ → FaultState
+untouched fails = record { fails = fails; calls = 0; faults = 0 }
+
+-- The call that comes next is to fail. Calls are numbered from 1, and their number stands still at 2 ^ 64 - 1.
+abbrev pub NextFails : FaultState → Type 0
+NextFails s = Contains s.fails (counted s.calls)
+
+-- after a call that counted no fault, or one
+abbrev pub after_call : Bool → FaultState → FaultState
+after_call succeeded s =
+    record { fails = s.fails; calls = counted s.calls; faults = (if succeeded then s.faults else counted s.faults) }
+
+-- the bytes of an object in memory, and which of its calls fail
+pub record MemState : Type 0 where
+  pub bytes : List ℕ
+  pub script : FaultState
