@@ -1,0 +1,5 @@
+pub mod PointsLemmas
+pub mod EndsLemmas
+pub mod LiesInLemmas
+pub mod RegionSteps
+pub mod VolumeLemmas

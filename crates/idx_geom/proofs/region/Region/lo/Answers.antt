@@ -1,0 +1,6 @@
+use Rattle.std.proofs.Common.{sym}
+use Rattle.std.proofs.lemmas.Slice.Zip.{firsts-zip}
+use Rattle.idx_geom.proofs.region.Region.lo.Goals as goal
+
+pub returns : goal.returns
+returns c = rw (← c.self.view_is) (sym (firsts-zip c.self.inside.lo c.self.inside.hi (sym c.self.invariant.same_axes)))

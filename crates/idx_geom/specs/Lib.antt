@@ -1,0 +1,5 @@
+pub mod Point
+pub mod PointFields
+pub mod Region
+pub mod RegionFields
+pub mod Volume

@@ -1,0 +1,14 @@
+//! Points, regions and row-major places of a regular grid of two to five axes.
+#![tactic(auto)]
+
+mod examples;
+mod laws;
+mod point;
+mod region;
+#[cfg(test)]
+mod tests;
+
+pub use examples::worked_regions;
+pub use laws::{places_are_points, raw_gives_volume};
+pub use point::Point;
+pub use region::Region;
