@@ -1,0 +1,11 @@
+pub mod AddressLaws
+pub mod BlockLemmas
+pub mod GuessLemmas
+pub mod GuessSteps
+pub mod HzLemmas
+pub mod LevelLemmas
+pub mod MaskLemmas
+pub mod PointLemmas
+pub mod PrefixLemmas
+pub mod ShiftLemmas
+pub mod ZLemmas

@@ -1,0 +1,11 @@
+pub mod Mask
+pub mod MaskText
+pub mod MaskFields
+pub mod Address
+pub mod Answer
+pub mod Coordinate
+pub mod Guess
+pub mod Stride
+pub use Rattle.idx_geom.specs.Point
+pub use Rattle.idx_geom.specs.Region
+pub use Rattle.idx_geom.specs.Volume

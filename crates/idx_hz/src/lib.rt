@@ -1,0 +1,16 @@
+//! Masks, Z addresses and hierarchical Z addresses.
+#![tactic(auto)]
+
+mod examples;
+mod guessed;
+mod laws;
+mod mask;
+mod mask_fault;
+#[cfg(test)]
+mod tests;
+
+pub use examples::{worked_addresses, worked_answers, worked_guesses, worked_strides};
+pub use guessed::guess;
+pub use laws::{addresses_are_one_to_one, blocks_are_boxes, levels_are_grids};
+pub use mask::Mask;
+pub use mask_fault::MaskFault;

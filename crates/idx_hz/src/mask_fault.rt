@@ -1,0 +1,12 @@
+/// Why a text is no mask. The first in this order that applies is answered.
+#[derive(Clone, Copy, Debug, PartialEq, Eq)]
+pub enum MaskFault {
+    /// The first byte is not `V`, or there is none.
+    NoV,
+    /// Nothing follows the `V`.
+    Empty,
+    /// The byte at place `at`, counted from 0 in the text, is the first behind the `V` that is not `0` to `4`.
+    BadDigit { at: u64 },
+    /// More than forty digits follow the `V`.
+    TooLong,
+}
