@@ -1,0 +1,9 @@
+pub mod NumberLemmas
+pub mod RunLemmas
+pub mod MaskWordLemmas
+pub mod RegionWordLemmas
+pub mod CutLemmas
+pub mod CutOfLemmas
+pub mod SoundLemmas
+pub mod InsideLemmas
+pub mod SampleLemmas

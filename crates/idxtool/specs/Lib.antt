@@ -1,0 +1,10 @@
+pub mod Number
+pub mod PathWord
+pub mod BoxWord
+pub mod MaskWord
+pub mod CutGrammar
+pub mod CutOutput
+pub mod Cause
+pub mod CutRun
+pub mod Words
+pub mod Run

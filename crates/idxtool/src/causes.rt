@@ -1,0 +1,76 @@
+ghost use Rattle.std.specs.Prelude.{◌≡◌};
+ghost use Rattle.std.specs.Process.{exit_status};
+ghost use Rattle.idxtool.specs.Cause.{status_of};
+
+use std::fmt;
+use std::process::ExitCode;
+
+/// Why a run ended.
+#[derive(Clone, Copy, Debug, PartialEq, Eq)]
+pub enum Cause {
+    /// All was written.
+    Done,
+    /// The words are not in the grammar. The word at place `at`, counted from 0, is wrong, or one is missing there.
+    Usage { at: u64 },
+    /// The raw volume has `found` bytes and not the `want` that the words ask for.
+    RawWrongSize { want: u64, found: u64 },
+    /// The raw volume could not be read.
+    RawFault,
+    /// The output could not be written.
+    SinkFault,
+    /// There was not enough memory.
+    NoMemory,
+}
+
+/// How a run ended: the exit status, and why.
+#[derive(Clone, Copy, Debug, PartialEq, Eq)]
+pub struct Done {
+    /// The exit status.
+    pub status: u8,
+    /// Why.
+    pub cause: Cause,
+}
+
+impl Done {
+    /// The end with this cause.
+    pub fn of(cause: Cause) -> Done
+        ensures cause { result.cause ≡ cause }
+        ensures status { result.status ≡ status_of cause }
+    {
+        let status = match cause {
+            Cause::Done => 0,
+            Cause::Usage { .. } => 1,
+            Cause::RawWrongSize { .. } => 3,
+            Cause::RawFault => 4,
+            Cause::SinkFault => 9,
+            Cause::NoMemory => 11,
+        };
+        Done { status, cause }
+    }
+
+    /// What the program ends with.
+    pub fn exit_code(&self) -> ExitCode
+        ensures { exit_status result ≡ self.now.status }
+    {
+        ExitCode::from(self.status)
+    }
+}
+
+/// The line that the program prints: nothing where all was written.
+impl fmt::Display for Cause {
+    ghost use Rattle.std.specs.Prelude.{Some};
+    ghost use Rattle.idxtool.specs.Cause.{line_of};
+
+    ghost output = { λ cause. Some (line_of cause) };
+
+    fn fmt<W: fmt::Write>(&self, f: &mut fmt::Formatter<W>) -> fmt::Result {
+        match self {
+            Cause::Done => Ok(()),
+            Cause::Usage { at } => write!(f, "usage at {at}"),
+            Cause::RawWrongSize { want, found } => write!(f, "raw size want {want} found {found}"),
+            Cause::RawFault => write!(f, "raw fault"),
+            Cause::SinkFault => write!(f, "sink fault"),
+            Cause::NoMemory => write!(f, "no memory"),
+        }
+    }
+}

@@ -1,0 +1,65 @@
+ghost use Rattle.std.specs.Prelude.{◌≡◌, ◌≢◌, ◌↔◌, ◌⊎◌, ℕ, ◌<◌, ◌≤◌, None, length, map, vec_len, string_bytes};
+ghost use Rattle.idx_outside.specs.Cause.{NeverFalls, Rose};
+ghost use Rattle.idx_outside.specs.Objects.{contents_at, faults_at, UsesOnly};
+ghost use Rattle.idxtool.specs.Cause.{status_of};
+ghost use Rattle.idxtool.specs.Words.{command_of};
+ghost use Rattle.idxtool.specs.Run.{HaveSameContents, WroteAnswer, WrotePrefix, AsksForOther, HasOtherSize, HasRightSize};
+
+use crate::causes::{Cause, Done};
+use crate::cut::cut_volume;
+use crate::words::{Command, read_words};
+use idx_outside::{Sink, Source};
+use std::alloc::Global;
+
+/// Does what the words ask for, and says how it ended. The first refusal ends it, in this order: the words, the length
+/// of the raw volume, reading it, writing. It uses the first raw volume alone, and reads it once.
+pub fn run<V: Source, K: Sink>(
+    alloc: Global,
+    words: &[String],
+    raws: &mut Vec<V>,
+    out: &mut K,
+) -> Done
+    requires some { 0 < vec_len raws.old }
+    requires same { HaveSameContents V.contents raws.old.items }
+
+    ensures status { result.status ≡ status_of result.cause }
+
+    // At status 0 the sink got exactly the answer, at status 9 some first bytes of it. At every other status it was not
+    // touched.
+    ensures done { result.status ≡ 0 → WroteAnswer (map string_bytes words.now)
+        (contents_at V.contents raws.old.items 0) (K.contents out.old) (K.contents out.new) }
+    ensures cut_off { result.status ≡ 9 → WrotePrefix (map string_bytes words.now)
+        (contents_at V.contents raws.old.items 0) (K.contents out.old) (K.contents out.new) }
+    ensures silent { result.status ≢ 0 → result.status ≢ 9 → out.new ≡ out.old }
+
+    // Usage comes exactly where the words are not in the grammar, and then nothing was asked of a raw volume.
+    ensures usage { (result.status ≡ 1) ↔ (command_of (map string_bytes words.now) ≡ None) }
+    ensures place { (at : ℕ) → result.cause ≡ Cause.Usage at → at ≤ length words.now }
+    ensures unasked { result.status ≡ 1 → raws.new.items ≡ raws.old.items }
+
+    // A wrong size comes exactly where the raw volume has another length than the words ask for.
+    ensures wrong_size { (want found : ℕ) → result.cause ≡ Cause.RawWrongSize want found →
+        AsksForOther (map string_bytes words.now) (contents_at V.contents raws.old.items 0) want found }
+    ensures other_size { HasOtherSize (map string_bytes words.now) (contents_at V.contents raws.old.items 0) →
+        (result.status ≡ 3) ⊎ (result.status ≡ 4) }
+
+    // A fault comes only where it was counted in this call.
+    ensures raw_fault { result.status ≡ 4 →
+        Rose (faults_at V.faults raws.old.items 0) (faults_at V.faults raws.new.items 0) }
+    ensures sink_fault { result.status ≡ 9 → Rose (K.faults out.old) (K.faults out.new) }
+
+    // Where nothing is wrong and no fault was counted, all is written, unless there is not enough memory.
+    ensures complete { HasRightSize (map string_bytes words.now) (contents_at V.contents raws.old.items 0) →
+        ¬ Rose (faults_at V.faults raws.old.items 0) (faults_at V.faults raws.new.items 0) →
+        ¬ Rose (K.faults out.old) (K.faults out.new) → (result.status ≡ 0) ⊎ (result.status ≡ 11) }
+
+    // What is known of the raw volumes' bytes stays, none but the first was touched, and no count fell.
+    ensures raws { UsesOnly V.contents V.faults 0 raws.old.items raws.new.items }
+    ensures sink_count { NeverFalls (K.faults out.old) (K.faults out.new) }
+{
+    let cause = match read_words(words) {
+        Ok(Command::Cut(cut)) => cut_volume(alloc, &cut, &mut raws[0], out),
+        Err(at) => Cause::Usage { at },
+    };
+    Done::of(cause)
+}

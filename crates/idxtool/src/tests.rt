@@ -1,0 +1,284 @@
+use crate::causes::{Cause, Done};
+use crate::run::run;
+use idx_outside::{Bytes, MemSink, MemSource};
+use std::alloc::{AllocError, Global};
+use std::test::Fail;
+
+const BASE: [&str; 8] = ["cut", "r.raw", "1", "0 3 0 3", "V0101", "0 3 0 3", "0", "2"];
+
+/// The bytes 00 to 0f, and one more.
+const RAW: [u8; 17] = [0, 1, 2, 3, 4, 5, 6, 7, 8, 9, 10, 11, 12, 13, 14, 15, 16];
+
+fn owned(alloc: Global, words: &[&str]) -> Result<Vec<String>, AllocError> {
+    let mut all = Vec::new(alloc);
+    for word in words {
+        all.push(String::from_str(alloc, word)?)?;
+    }
+    Ok(all)
+}
+
+/// The base words with others in the place of some.
+fn changed(alloc: Global, changes: &[(usize, &str)]) -> Result<Vec<String>, AllocError> {
+    let mut all = owned(alloc, &BASE)?;
+    for (at, word) in changes {
+        if *at < all.len() {
+            all[*at] = String::from_str(alloc, word)?;
+        }
+    }
+    Ok(all)
+}
+
+/// How a run over memory ends, and what it writes.
+fn run_in_memory(
+    alloc: Global,
+    words: &[String],
+    raw: &[u8],
+    raw_fails: &[u64],
+    sink_fails: &[u64],
+) -> Result<(Done, Vec<u8>), AllocError> {
+    let raw = Bytes::from_vec(Vec::from_slice(alloc, raw)?);
+    let mut raws = Vec::with_capacity(alloc, 1)?;
+    raws.push(MemSource::new(raw, Vec::from_slice(alloc, raw_fails)?))?;
+    let mut out = MemSink::new(Vec::from_slice(alloc, sink_fails)?);
+    let done = run(alloc, words, &mut raws, &mut out);
+    let written = Vec::from_slice(alloc, out.written().as_slice())?;
+    Ok((done, written))
+}
+
+#[test]
+fn samples_between_levels_are_written(rt: HostRuntime) -> Result<(), Fail> {
+    let all = &RAW[..16];
+    for (region, lo, hi, want) in [
+        ("0 3 0 3", "0", "2", [0, 2, 8, 10].as_slice()),
+        ("0 3 0 3", "0", "3", [0, 1, 2, 3, 8, 9, 10, 11].as_slice()),
+        ("0 3 0 3", "0", "4", all),
+        ("1 1 1 1", "0", "0", [].as_slice()),
+        ("1 2 1 3", "3", "3", [9].as_slice()),
+    ] {
+        let words = changed(rt.alloc(), &[(5, region), (6, lo), (7, hi)])?;
+        let (done, written) = run_in_memory(rt.alloc(), &words, all, &[], &[])?;
+        assert_eq!(rt; done.cause, Cause::Done, "{region} {lo} {hi}");
+        assert_eq!(rt; written.as_slice(), want, "{region} {lo} {hi}");
+    }
+    Ok(())
+}
+
+#[test]
+fn samples_have_any_size_and_any_axes(rt: HostRuntime) -> Result<(), Fail> {
+    let bytes: Vec<u8> = (0..=255u8).collect(rt.alloc())?;
+    assert_eq!(rt; bytes.len(), 256);
+    let five = "0 1 0 0 0 0 0 0 0 1";
+    for (size, extent, mask, lo, hi, length, want) in [
+        (
+            "2",
+            "0 3 0 3",
+            "V0101",
+            "0",
+            "1",
+            32,
+            [0, 1, 4, 5].as_slice(),
+        ),
+        (
+            "3",
+            "0 3 0 3",
+            "V0101",
+            "2",
+            "2",
+            48,
+            [24, 25, 26, 30, 31, 32].as_slice(),
+        ),
+        ("1", "0 1 0 1 0 1", "V012", "2", "2", 8, [2, 3].as_slice()),
+        ("64", five, "V04", "1", "1", 256, &bytes[64..128]),
+        ("1", "1 2 1 2", "V0101", "0", "3", 4, [2, 3].as_slice()),
+    ] {
+        let changes = [
+            (2, size),
+            (3, extent),
+            (4, mask),
+            (5, extent),
+            (6, lo),
+            (7, hi),
+        ];
+        let words = changed(rt.alloc(), &changes)?;
+        let (done, written) = run_in_memory(rt.alloc(), &words, &bytes[..length], &[], &[])?;
+        assert_eq!(rt; done.cause, Cause::Done, "{size} {extent}");
+        assert_eq!(rt; written.as_slice(), want, "{size} {extent}");
+    }
+    Ok(())
+}
+
+/// The length is asked, the volume is read, and the answer is written, each in one call.
+#[test]
+fn each_object_is_called_as_often_as_needed(rt: HostRuntime) -> Result<(), Fail> {
+    let words = owned(rt.alloc(), &BASE)?;
+    let (done, written) = run_in_memory(rt.alloc(), &words, &RAW[..16], &[3], &[2])?;
+    assert_eq!(rt; done.cause, Cause::Done);
+    assert_eq!(rt; written.as_slice(), [0, 2, 8, 10].as_slice());
+    Ok(())
+}
+
+/// The cause of a run over the right raw volume with these words.
+fn cause_of(alloc: Global, words: &[String]) -> Result<Cause, AllocError> {
+    let (done, _) = run_in_memory(alloc, words, &RAW[..16], &[], &[])?;
+    Ok(done.cause)
+}
+
+#[test]
+fn each_rule_of_the_words_is_kept(rt: HostRuntime) -> Result<(), Fail> {
+    for (at, word, place) in [
+        (0, "Cut", 0),
+        (1, "", 1),
+        (1, "-r.raw", 1),
+        (1, "r\t.raw", 1),
+        (1, "r\u{7f}.raw", 1),
+        (1, "r\u{e9}.raw", 1),
+        (2, "", 2),
+        (2, "0", 2),
+        (2, "65", 2),
+        (2, "+1", 2),
+        (2, "1 ", 2),
+        (2, "00000000000000000001", 2),
+        (3, "", 3),
+        (3, "0 3", 3),
+        (3, "0 3 0 3 0", 3),
+        (3, "0 3 0 3 0 0 0 0 0 0 0 0", 3),
+        (3, "0 3 3 0", 3),
+        (3, "0 3,0 3", 3),
+        (3, "0 3 0 1099511627776", 3),
+        (3, "0 1099511627775 0 1", 3),
+        (3, "0 32767 0 32768", 3),
+        (3, "0 4 0 3", 4),
+        (3, "0 3 0 3 0 1", 4),
+        (4, "V", 4),
+        (4, "v0101", 4),
+        (4, "V0151", 4),
+        (4, "V0102", 4),
+        (4, "V01010101010101010101010101010101010101010", 4),
+        (5, "0 3", 5),
+        (5, "0 3 0 4", 5),
+        (5, "0 3 0 3 0 0", 5),
+        (6, "3", 7),
+        (6, "5", 6),
+        (6, "-0", 6),
+        (7, "5", 7),
+        (7, "two", 7),
+    ] {
+        let words = changed(rt.alloc(), &[(at, word)])?;
+        let cause = cause_of(rt.alloc(), &words)?;
+        assert_eq!(rt; cause, Cause::Usage { at: place }, "{at} {word}");
+    }
+    Ok(())
+}
+
+#[test]
+fn lists_of_another_length_are_no_words(rt: HostRuntime) -> Result<(), Fail> {
+    for count in 0..8 {
+        let words = owned(rt.alloc(), &BASE[..count])?;
+        let cause = cause_of(rt.alloc(), &words)?;
+        assert_eq!(rt; cause, Cause::Usage { at: count as u64 });
+    }
+    let mut words = owned(rt.alloc(), &BASE)?;
+    words.push(String::from_str(rt.alloc(), "3")?)?;
+    let cause = cause_of(rt.alloc(), &words)?;
+    assert_eq!(rt; cause, Cause::Usage { at: 8 });
+    Ok(())
+}
+
+#[test]
+fn leading_zeros_and_blanks_are_right(rt: HostRuntime) -> Result<(), Fail> {
+    for (at, word) in [
+        (2, "0000000000000000001"),
+        (3, " 0\t3  00 03\t"),
+        (5, "\t 0 3 0 3"),
+        (7, "02"),
+    ] {
+        let words = changed(rt.alloc(), &[(at, word)])?;
+        assert_eq!(rt; cause_of(rt.alloc(), &words)?, Cause::Done, "{at} {word}");
+    }
+    Ok(())
+}
+
+/// A path of so many bytes.
+fn long_path(alloc: Global, length: u32) -> Result<String, AllocError> {
+    let mut path = String::new(alloc);
+    for _ in 0..length {
+        path.push('p')?;
+    }
+    Ok(path)
+}
+
+#[test]
+fn limits_are_those_of_the_words(rt: HostRuntime) -> Result<(), Fail> {
+    let path = long_path(rt.alloc(), 4096)?;
+    let words = changed(rt.alloc(), &[(1, path.as_str())])?;
+    assert_eq!(rt; cause_of(rt.alloc(), &words)?, Cause::Done);
+    let path = long_path(rt.alloc(), 4097)?;
+    let words = changed(rt.alloc(), &[(1, path.as_str())])?;
+    assert_eq!(rt; cause_of(rt.alloc(), &words)?, Cause::Usage { at: 1 });
+    let forty = "V0101010101010101010101010101010101010101";
+    let words = changed(rt.alloc(), &[(4, forty), (7, "40")])?;
+    assert_eq!(rt; cause_of(rt.alloc(), &words)?, Cause::Done);
+    let thirty = "V010101010101010101010101010101";
+    let words = changed(rt.alloc(), &[(3, "0 32767 0 32767"), (4, thirty)])?;
+    let want = 1 << 30;
+    assert_eq!(rt;
+        cause_of(rt.alloc(), &words)?,
+        Cause::RawWrongSize { want, found: 16 }
+    );
+    Ok(())
+}
+
+#[test]
+fn the_first_refusal_ends_the_run(rt: HostRuntime) -> Result<(), Fail> {
+    let words = owned(rt.alloc(), &BASE)?;
+    for (length, raw_fails, sink_fails, cause) in [
+        (
+            15,
+            [].as_slice(),
+            [].as_slice(),
+            Cause::RawWrongSize {
+                want: 16,
+                found: 15,
+            },
+        ),
+        (
+            17,
+            [2].as_slice(),
+            [1].as_slice(),
+            Cause::RawWrongSize {
+                want: 16,
+                found: 17,
+            },
+        ),
+        (15, [1].as_slice(), [1].as_slice(), Cause::RawFault),
+        (16, [2].as_slice(), [1].as_slice(), Cause::RawFault),
+        (16, [].as_slice(), [1].as_slice(), Cause::SinkFault),
+    ] {
+        let raw = &RAW[..length];
+        let (done, written) = run_in_memory(rt.alloc(), &words, raw, raw_fails, sink_fails)?;
+        assert_eq!(rt; done, Done::of(cause), "{length}");
+        assert!(rt; written.is_empty(), "{length}");
+    }
+    Ok(())
+}
+
+#[test]
+fn causes_have_statuses_and_lines(rt: HostRuntime) -> Result<(), Fail> {
+    for (cause, status, line) in [
+        (Cause::Done, 0, ""),
+        (Cause::Usage { at: 7 }, 1, "usage at 7"),
+        (
+            Cause::RawWrongSize { want: 16, found: 0 },
+            3,
+            "raw size want 16 found 0",
+        ),
+        (Cause::RawFault, 4, "raw fault"),
+        (Cause::SinkFault, 9, "sink fault"),
+        (Cause::NoMemory, 11, "no memory"),
+    ] {
+        assert_eq!(rt; Done::of(cause).status, status);
+        let printed = format!(in rt.alloc(); "{cause}")?;
+        assert_eq!(rt; printed.as_str(), line);
+    }
+    Ok(())
+}
