@@ -13,6 +13,10 @@ Rose old new = (old < new) ⊎ ((old ≡ 2 ^ 64 - 1) × (new ≡ 2 ^ 64 - 1))
 abbrev pub OnlyWhereRose : {T E : Type 0} → Result T E → E → ℕ → ℕ → Type 0
 OnlyWhereRose result fault old new = IsErrOf result fault → Rose old new
 
+-- a count that is higher than before is answered: by this fault
+abbrev pub AnswersRise : {T E : Type 0} → Result T E → E → ℕ → ℕ → Type 0
+AnswersRise result fault old new = old < new → IsErrOf result fault
+
 -- one more, or the same at the end of the type
 abbrev pub counted : ℕ → ℕ
 counted n = min (n + 1) (2 ^ 64 - 1)

@@ -1,4 +1,4 @@
-ghost use Rattle.std.specs.Prelude.{◌≡◌, ◌+◌, ◌≤◌, ◌<◌, ◌↔◌, [], ◌∷◌, ◌++◌, length, take, drop, replicate, IsTrue, OnOk, OnErr, IfOk, slice_get};
+ghost use Rattle.std.specs.Prelude.{◌≡◌, ◌↔◌, [], ◌∷◌, ◌++◌, length, replicate, IsTrue, OnOk, OnErr, IfOk};
 ghost use Rattle.std.specs.Borrow.{Lends, Array, sem, u8};
 ghost use Rattle.idx_outside.specs.Bytes.{overwritten};
 ghost use Rattle.idx_outside.specs.contracts.bytes.Bytes.{the_row};
@@ -103,13 +103,6 @@ impl Bytes {
         self.items.as_mut_slice()
     }
 
-    /// The byte at this place, counted from 0.
-    pub fn get(&self, at: usize) -> Option<u8>
-        ensures { result ≡ slice_get self.now at }
-    {
-        self.items.get(at).copied()
-    }
-
     /// Appends a byte.
     pub fn push(&mut self, byte: u8) -> Result<(), NoMemory>
         ensures ok { OnOk result (self.new ≡ self.old ++ byte ∷ []) }
@@ -127,50 +120,4 @@ impl Bytes {
         self.items.extend_from_slice(piece)?;
         Ok(())
     }
-
-    /// Makes room for so many more bytes, for speed alone: no clause promises it.
-    pub fn reserve(&mut self, additional: usize) -> Result<(), NoMemory>
-        ensures { self.new ≡ self.old }
-    {
-        self.items.reserve(additional)?;
-        Ok(())
-    }
-
-    /// Drops the bytes and keeps the memory.
-    pub fn clear(&mut self)
-        ensures { self.new ≡ [] }
-    {
-        self.items.clear();
-    }
-
-    /// Keeps the first bytes, at most so many.
-    pub fn truncate(&mut self, count: usize)
-        ensures { self.new ≡ take count self.old }
-    {
-        self.items.truncate(count);
-    }
-
-    /// A copy on this allocator.
-    pub fn copy(&self, alloc: Global) -> Result<Bytes, NoMemory>
-        ensures { IfOk result (λ copy. copy ≡ self.now) }
-    {
-        Bytes::from_slice(alloc, self.as_slice())
-    }
-
-    /// Whether the bytes are the same.
-    pub fn equals(&self, other: &Bytes) -> bool
-        ensures { IsTrue result ↔ (self.now ≡ other.now) }
-    {
-        self.as_slice() == other.as_slice()
-    }
-}
-
-/// Fills `into` with the bytes from place `at` on.
-pub(crate) fn read_from(bytes: &[u8], at: u64, into: &mut [u8])
-    requires { at + length into.old ≤ length bytes.now }
-    ensures { into.new ≡ take (length into.old) (drop at bytes.now) }
-{
-    let start = at as usize;
-    let end = start + into.len();
-    into.copy_from_slice(&bytes[start..end]);
 }

@@ -1,4 +1,4 @@
-ghost use Rattle.std.specs.Prelude.{◌≡◌, ◌↔◌, IsErr, OnErr, is_ok};
+ghost use Rattle.std.specs.Prelude.{◌≡◌, ◌↔◌, IsErr, OnOk, OnErr, is_ok};
 ghost use Rattle.idx_outside.specs.Cause.{counted, NeverFalls, Rose};
 ghost use Rattle.idx_outside.specs.Memory.{untouched, NextFails, after_call};
 
@@ -38,6 +38,7 @@ impl FaultScript {
         ensures fails { IsErr result ↔ NextFails self.old }
         ensures state { self.new ≡ after_call (is_ok result) self.old }
         ensures count { NeverFalls self.old.faults self.new.faults }
+        ensures quiet { OnOk result (self.new.faults ≡ self.old.faults) }
         ensures cause { OnErr result (Rose self.old.faults self.new.faults) }
     {
         self.calls = self.calls.saturating_add(1);

@@ -54,6 +54,7 @@ impl Sink for MemSink {
           script = after_call (is_ok result) self.old.script;
         } }
         ensures count { NeverFalls self.old.script.faults self.new.script.faults }
+        ensures quiet { OnOk result (self.new.script.faults ≡ self.old.script.faults) }
         ensures cause { OnErr result (Rose self.old.script.faults self.new.script.faults) }
     {
         self.script.call()?;

@@ -2,16 +2,15 @@ ghost use Rattle.std.specs.Prelude.{◌≡◌, ◌↔◌, ◌+◌, ◌≤◌, le
 ghost use Rattle.idx_outside.specs.Cause.{NeverFalls, Rose};
 ghost use Rattle.idx_outside.specs.Memory.{untouched, NextFails, after_call};
 
-use crate::bytes::read_from;
 use crate::fault_script::FaultScript;
-use crate::{Bytes, Outage, Source};
+use crate::{Bytes, Outage, Source, SureSource};
 use std::marker::Model;
 
 /// A source in memory, whose bytes are known. Its calls `len` and `read_at` are numbered from 1, and those whose
 /// numbers were given fail; no other call does.
 #[derive(Drop)]
 pub struct MemSource {
-    bytes: Bytes,
+    source: SureSource,
     script: FaultScript,
 }
 
@@ -20,7 +19,7 @@ impl Model for MemSource {
 
     ghost Value = { MemState };
 
-    ghost view = { λ s. record { bytes = s.bytes; script = s.script } };
+    ghost view = { λ s. record { bytes = s.source; script = s.script } };
 }
 
 impl MemSource {
@@ -29,7 +28,7 @@ impl MemSource {
         ensures { result ≡ record { bytes = bytes; script = untouched fails.items } }
     {
         MemSource {
-            bytes,
+            source: SureSource::new(bytes),
             script: FaultScript::new(fails),
         }
     }
@@ -45,10 +44,11 @@ impl Source for MemSource {
         ensures fails { IsErr result ↔ NextFails self.old.script }
         ensures state { self.new ≡ record self.old { script = after_call (is_ok result) self.old.script } }
         ensures count { NeverFalls self.old.script.faults self.new.script.faults }
+        ensures quiet { OnOk result (self.new.script.faults ≡ self.old.script.faults) }
         ensures cause { OnErr result (Rose self.old.script.faults self.new.script.faults) }
     {
         self.script.call()?;
-        Ok(self.bytes.len() as u64)
+        self.source.len()
     }
 
     fn read_at(&mut self, at: u64, into: &mut [u8]) -> Result<(), Outage>
@@ -57,11 +57,11 @@ impl Source for MemSource {
         ensures fails { IsErr result ↔ NextFails self.old.script }
         ensures state { self.new ≡ record self.old { script = after_call (is_ok result) self.old.script } }
         ensures count { NeverFalls self.old.script.faults self.new.script.faults }
+        ensures quiet { OnOk result (self.new.script.faults ≡ self.old.script.faults) }
         ensures cause { OnErr result (Rose self.old.script.faults self.new.script.faults) }
     {
         self.script.call()?;
-        read_from(self.bytes.as_slice(), at, into);
-        Ok(())
+        self.source.read_at(at, into)
     }
 
     fn faults(&self) -> u64 {

@@ -6,7 +6,7 @@ use crate::Outage;
 
 /// Takes bytes in their order, as a file or standard output does.
 ///
-/// A call that answers `Outage` has counted a fault of this sink.
+/// A call that answers `Outage` has counted a fault of this sink, and no other call has.
 pub trait Sink {
     /// The bytes that were written, where they are known.
     ghost contents: { Self → Option (List ℕ) };
@@ -19,6 +19,7 @@ pub trait Sink {
         ensures written { OnOk result (contents self.new ≡ appended (contents self.old) piece.now) }
         ensures prefix { OnErr result (AppendsPrefix (contents self.old) (contents self.new) piece.now) }
         ensures count { NeverFalls (faults self.old) (faults self.new) }
+        ensures quiet { OnOk result (faults self.new ≡ faults self.old) }
         ensures cause { OnErr result (Rose (faults self.old) (faults self.new)) };
 
     /// How many faults were counted.

@@ -6,7 +6,7 @@ use crate::Outage;
 
 /// Bytes that are read by their places, as those of a file.
 ///
-/// A call that answers `Outage` has counted a fault of this source. No call changes the bytes.
+/// A call that answers `Outage` has counted a fault of this source, and no other call has. No call changes the bytes.
 pub trait Source {
     /// The bytes, where they are known.
     ghost contents: { Self → Option (List ℕ) };
@@ -19,6 +19,7 @@ pub trait Source {
         ensures length { IfOk result (λ n. IfSome (contents self.old) (λ bytes. n ≡ length bytes)) }
         ensures contents { contents self.new ≡ contents self.old }
         ensures count { NeverFalls (faults self.old) (faults self.new) }
+        ensures quiet { OnOk result (faults self.new ≡ faults self.old) }
         ensures cause { OnErr result (Rose (faults self.old) (faults self.new)) };
 
     /// Fills `into` with the bytes from place `at` on, counted from 0. A source of unknown bytes answers `Outage`
@@ -29,6 +30,7 @@ pub trait Source {
             (λ bytes. into.new ≡ take (length into.old) (drop at bytes))) }
         ensures contents { contents self.new ≡ contents self.old }
         ensures count { NeverFalls (faults self.old) (faults self.new) }
+        ensures quiet { OnOk result (faults self.new ≡ faults self.old) }
         ensures cause { OnErr result (Rose (faults self.old) (faults self.new)) };
 
     /// How many faults were counted.

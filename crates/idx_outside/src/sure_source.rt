@@ -1,6 +1,5 @@
 ghost use Rattle.std.specs.Prelude.{◌≡◌, ◌+◌, ◌≤◌, length, take, drop, Some, Ok, IsOk};
 
-use crate::bytes::read_from;
 use crate::{Bytes, Outage, Source};
 use std::marker::Model;
 
@@ -45,7 +44,9 @@ impl Source for SureSource {
         ensures read { into.new ≡ take (length into.old) (drop at self.old) }
         ensures same { self.new ≡ self.old }
     {
-        read_from(self.bytes.as_slice(), at, into);
+        let bytes = self.bytes.as_slice();
+        let start = at as usize;
+        into.copy_from_slice(&bytes[start..start + into.len()]);
         Ok(())
     }
 

@@ -1,7 +1,7 @@
 //! A trial of the contracts: code that is generic over sources and sinks and is lent a `Vec` of sources.
-ghost use Rattle.std.specs.Prelude.{◌≡◌, ◌<◌, ◌+◌, ◌≤◌, ◌++◌, [], ◌∷◌, Some, length, map, take, drop, vec_len, Option, IfSome, IfOk, OnOk, OnErr, IsErrOf};
+ghost use Rattle.std.specs.Prelude.{◌≡◌, ◌<◌, ◌+◌, ◌≤◌, ◌++◌, [], ◌∷◌, Some, length, map, take, drop, vec_len, Option, IfSome, IfOk, IsTrue, ◌↔◌, OnOk, OnErr, IsErrOf};
 ghost use Rattle.std.specs.Option.{ForSome};
-ghost use Rattle.idx_outside.specs.Cause.{NeverFalls, Rose, OnlyWhereRose};
+ghost use Rattle.idx_outside.specs.Cause.{NeverFalls, Rose, OnlyWhereRose, AnswersRise};
 ghost use Rattle.idx_outside.specs.Contents.{appended, AppendsPrefix};
 ghost use Rattle.idx_outside.specs.Counts.{NoneFell, SomeRose};
 ghost use Rattle.idx_outside.specs.Objects.{contents_at, faults_at, SameContents, OthersUntouched, UsesOnly};
@@ -52,8 +52,10 @@ fn copy_first<V: Source, K: Sink>(
     ensures others { OthersUntouched raws.old.items raws.new.items 0 }
     ensures raw_count { NeverFalls (faults_at V.faults raws.old.items 0) (faults_at V.faults raws.new.items 0) }
     ensures raw { OnlyWhereRose result CopyFault.RawFault (faults_at V.faults raws.old.items 0) (faults_at V.faults raws.new.items 0) }
+    ensures raw_answered { AnswersRise result CopyFault.RawFault (faults_at V.faults raws.old.items 0) (faults_at V.faults raws.new.items 0) }
     ensures sink_count { NeverFalls (K.faults out.old) (K.faults out.new) }
     ensures sink { OnlyWhereRose result CopyFault.SinkFault (K.faults out.old) (K.faults out.new) }
+    ensures sink_answered { AnswersRise result CopyFault.SinkFault (K.faults out.old) (K.faults out.new) }
 {
     let Ok(size) = raws[0].len() else {
         return Err(CopyFault::RawFault);
@@ -81,8 +83,10 @@ fn copy_bytes<V: Source, K: Sink>(
         (λ bytes. AppendsPrefix (K.contents out.old) (K.contents out.new) (take count bytes))) }
     ensures raws { UsesOnly V.contents V.faults 0 raws.old.items raws.new.items }
     ensures raw { OnlyWhereRose result CopyFault.RawFault (faults_at V.faults raws.old.items 0) (faults_at V.faults raws.new.items 0) }
+    ensures raw_answered { AnswersRise result CopyFault.RawFault (faults_at V.faults raws.old.items 0) (faults_at V.faults raws.new.items 0) }
     ensures sink_count { NeverFalls (K.faults out.old) (K.faults out.new) }
     ensures sink { OnlyWhereRose result CopyFault.SinkFault (K.faults out.old) (K.faults out.new) }
+    ensures sink_answered { AnswersRise result CopyFault.SinkFault (K.faults out.old) (K.faults out.new) }
 {
     let mut byte = [0u8];
     for at in 0..count {
@@ -148,30 +152,46 @@ fn bytes_of(alloc: Global, bytes: &[u8]) -> Result<Bytes, NoMemory>
     Bytes::from_slice(alloc, bytes)
 }
 
+fn are_equal(some: &Bytes, others: &Bytes) -> bool
+    ensures { IsTrue result ↔ (some.now ≡ others.now) }
+{
+    some == others
+}
+
 fn is_sendable<T: Send + Sync>(_: &T) {}
 
 #[test]
-fn bytes_grow_and_shrink(rt: HostRuntime) -> Result<(), Fail> {
+fn bytes_are_appended_copied_and_compared(rt: HostRuntime) -> Result<(), Fail> {
     let alloc = rt.alloc();
     let mut bytes = Bytes::with_capacity(alloc, 2)?;
     assert!(rt; bytes.is_empty());
     bytes.push(1)?;
     bytes.append(&[2, 3, 4])?;
-    bytes.reserve(9)?;
-    assert_eq!(rt; bytes.as_slice(), [1, 2, 3, 4].as_slice());
-    assert_eq!(rt; bytes.get(3), Some(4));
-    assert_eq!(rt; bytes.get(4), None);
-    let copy = bytes.copy(alloc)?;
-    bytes.truncate(3);
-    assert_eq!(rt; bytes.len(), 3);
-    assert!(rt; !bytes.equals(&copy) && bytes != copy && copy.clone()? == copy);
+    assert_eq!(rt;
+        (bytes.len(), bytes.as_slice()),
+        (4, [1, 2, 3, 4].as_slice())
+    );
+    let copy = bytes.clone()?;
+    assert!(rt; are_equal(&bytes, &copy));
     bytes.as_mut_slice()[0] = 7;
-    assert_eq!(rt; bytes.into_vec().as_slice(), [7, 2, 3].as_slice());
-    let mut zeros = Bytes::zeros(alloc, 2)?;
-    assert_eq!(rt; zeros.as_slice(), [0, 0].as_slice());
-    zeros.clear();
-    assert!(rt; zeros.equals(&Bytes::new(alloc)));
+    assert!(rt; !are_equal(&bytes, &copy) && bytes != Bytes::new(alloc));
+    assert_eq!(rt; bytes.into_vec().as_slice(), [7, 2, 3, 4].as_slice());
+    assert_eq!(rt; Bytes::zeros(alloc, 2)?.as_slice(), [0, 0].as_slice());
     is_sendable(&copy);
+    Ok(())
+}
+
+#[test]
+fn answers_have_their_texts(rt: HostRuntime) -> Result<(), Fail> {
+    let alloc = rt.alloc();
+    assert_eq!(rt;
+        format!(in alloc; "{Outage}")?.as_str(),
+        "a call on the outside failed"
+    );
+    assert_eq!(rt;
+        format!(in alloc; "{NoMemory}")?.as_str(),
+        "not enough memory"
+    );
     Ok(())
 }
 
@@ -278,6 +298,6 @@ fn the_sources_of_a_list_are_asked_in_turn(rt: HostRuntime) -> Result<(), Fail> 
     let mut last = Bytes::zeros(alloc, 1)?;
     let mut raw = MemSource::new(bytes_of(alloc, &[7, 8])?, Vec::new(alloc));
     assert_eq!(rt; filled(&mut raw, 1, &mut last), Ok(()));
-    assert_eq!(rt; last.get(0), Some(8));
+    assert_eq!(rt; last.as_slice(), [8].as_slice());
     Ok(())
 }

@@ -1,1 +1,4 @@
+pub mod Faults
+pub mod FileState
+pub mod Placed
 pub mod SinkState

@@ -1,20 +1,22 @@
-ghost use Rattle.std.specs.Prelude.{◌≡◌, None, OnOk, OnErr};
+ghost use Rattle.std.specs.Prelude.{◌≡◌, ◌↔◌, ◌<◌, None, IsSome, IfSome, option_map, codes, OnOk, OnErr};
 ghost use Rattle.std.specs.Io.KnownBytes.{Appends};
+ghost use Rattle.idx_real.specs.Faults.{no_faults};
 ghost use Rattle.idx_outside.specs.Cause.{counted, NeverFalls, Rose};
 
+use crate::fault_log::FaultLog;
+use crate::{Fault, Reason};
 use idx_outside::{Outage, Sink};
-use std::io;
 use std::io::Write;
 use std::marker::Model;
 
 /// Standard output, or another writer of std, as a sink, of which nothing is known. Each piece is written and flushed. A
-/// contract sees the writer and the count of faults.
+/// contract sees the writer and the faults.
 ///
 /// A write that fails, as to a pipe that nobody reads, and a flush that fails are each one fault.
 #[derive(Drop)]
 pub struct StdSink<W: Write + Drop> {
     out: W,
-    faults: u64,
+    log: FaultLog,
 }
 
 impl<W: Write + Drop> Model for StdSink<W> {
@@ -22,48 +24,56 @@ impl<W: Write + Drop> Model for StdSink<W> {
 
     ghost Value = { SinkState W };
 
-    ghost view = { λ s. record { out = s.out; faults = s.faults } };
+    ghost view = { λ s. record { out = s.out; faults = s.log } };
 }
 
 impl<W: Write + Drop> StdSink<W> {
     /// As `StdSink::new(rt.stdout())`. Writes nothing yet and takes no memory.
     pub fn new(out: W) -> StdSink<W>
-        ensures { result ≡ record { out = out; faults = 0 } }
+        ensures { result ≡ record { out = out; faults = no_faults } }
     {
-        StdSink { out, faults: 0 }
+        StdSink {
+            out,
+            log: FaultLog::new(),
+        }
+    }
+
+    /// The last fault, with the reason; `None` exactly where no fault was counted. Its path is `standard output`.
+    pub fn last_fault(&self) -> Option<Fault<'_>>
+        ensures path { IfSome result (λ fault. fault.path.now ≡ codes "standard output") }
+        ensures reason { option_map (λ fault. fault.reason) result ≡ self.now.faults.last }
+        ensures some { IsSome result ↔ (0 < self.now.faults.count) }
+    {
+        let path = "standard output";
+        self.log.last().map(|reason| Fault { path, reason })
     }
 }
 
 impl<W: Write + Drop> Sink for StdSink<W> {
     ghost contents = { λ _. None };
 
-    ghost faults = { λ s. s.faults };
+    ghost faults = { λ s. s.faults.count };
 
     fn write(&mut self, piece: &[u8]) -> Result<(), Outage>
         ensures taken { OnOk result (Appends (W.contents self.old.out) (W.contents self.new.out) piece.now) }
-        ensures ok { OnOk result (self.new.faults ≡ self.old.faults) }
-        ensures err { OnErr result (self.new.faults ≡ counted self.old.faults) }
-        ensures count { NeverFalls self.old.faults self.new.faults }
-        ensures cause { OnErr result (Rose self.old.faults self.new.faults) }
+        ensures quiet { OnOk result (self.new.faults ≡ self.old.faults) }
+        ensures err { OnErr result (self.new.faults.count ≡ counted self.old.faults.count) }
+        ensures count { NeverFalls self.old.faults.count self.new.faults.count }
+        ensures cause { OnErr result (Rose self.old.faults.count self.new.faults.count) }
     {
-        match write_and_flush(&mut self.out, piece) {
-            Ok(()) => Ok(()),
-            Err(_) => {
-                self.faults = self.faults.saturating_add(1);
-                Err(Outage)
-            }
-        }
+        let taken = write_and_flush(&mut self.out, piece);
+        self.log.answer(taken)
     }
 
     fn faults(&self) -> u64 {
-        self.faults
+        self.log.faults()
     }
 }
 
 // std's `write_all` gives the writer all that is left at each of its calls.
-fn write_and_flush<W: Write>(out: &mut W, piece: &[u8]) -> io::Result<()>
+fn write_and_flush<W: Write>(out: &mut W, piece: &[u8]) -> Result<(), Reason>
     ensures { OnOk result (Appends (W.contents out.old) (W.contents out.new) piece.now) }
 {
     out.write_all(piece)?;
-    out.flush()
+    Ok(out.flush()?)
 }

@@ -1,35 +1,79 @@
+//! Files and writers of the system, and fakes of what it may do.
+ghost use Rattle.std.specs.Prelude.{◌≡◌, OnOk, IfOk, length};
+ghost use Rattle.std.specs.Io.Cursor.{cursor_inner};
+ghost use Rattle.idx_real.specs.Placed.{StandsAt};
+
+use super::placed::{length_of, read_range};
 use super::*;
 use idx_outside::{Outage, Sink, Source};
-use std::io::Write;
+use std::alloc::Global;
+use std::io::{Cursor, Write};
+use std::os::fd::AsRawFd;
 use std::test::Fail;
 use std::{fs, io};
 
-/// A writer that takes a byte a call and whose flush fails.
+/// What a writer was asked for.
+#[derive(Clone, Copy, Debug, PartialEq, Eq)]
+enum Call {
+    Took(u8),
+    Flushed,
+}
+
+/// A writer that takes a byte a call, writes its calls down, and whose flush may fail.
 #[derive(Drop)]
-struct Slow {
-    taken: usize,
+struct Slow<'a> {
+    calls: &'a mut Vec<Call>,
     flushes: bool,
 }
 
-impl Write for Slow {
+impl Write for Slow<'_> {
     fn write(&mut self, buf: &[u8]) -> io::Result<usize> {
-        if buf.is_empty() {
-            return Ok(0);
+        match buf.first() {
+            Some(byte) => {
+                self.calls.push(Call::Took(*byte))?;
+                Ok(1)
+            }
+            None => Ok(0),
         }
-        self.taken = self.taken.saturating_add(1);
-        Ok(1)
     }
 
     fn flush(&mut self) -> io::Result<()> {
+        self.calls.push(Call::Flushed)?;
         if self.flushes {
             Ok(())
         } else {
-            Err(io::Error::from(io::ErrorKind::Other))
+            Err(io::Error::new(io::ErrorKind::Other, "no room is left"))
         }
     }
 }
 
 fn is_sendable<T: Send + Sync>(_: &T) {}
+
+fn length_in_memory(cursor: &mut Cursor<&[u8]>) -> Result<u64, Reason>
+    ensures { IfOk result (λ n. n ≡ length (cursor_inner cursor.old).now) }
+{
+    length_of(cursor)
+}
+
+fn read_in_memory(cursor: &mut Cursor<&[u8]>, at: u64, into: &mut [u8]) -> Result<(), Reason>
+    ensures { OnOk result (StandsAt (cursor_inner cursor.old).now at into.new) }
+{
+    read_range(cursor, at, into)
+}
+
+/// The file at this path.
+fn source(rt: &HostRuntime, path: &str) -> Result<FileSource<HostRuntime>, Fail> {
+    let path = String::from_str(rt.alloc(), path)?;
+    Ok(FileSource::new(rt.clone()?, path))
+}
+
+/// The text of a fault, or none.
+fn text(alloc: Global, fault: Option<Fault<'_>>) -> Result<String, Fail> {
+    match fault {
+        Some(fault) => Ok(format!(in alloc; "{fault}")?),
+        None => Ok(String::new(alloc)),
+    }
+}
 
 fn three_bytes(file: &mut FileSource<HostRuntime>, at: u64) -> Option<[u8; 3]> {
     let mut into = [0u8; 3];
@@ -37,11 +81,42 @@ fn three_bytes(file: &mut FileSource<HostRuntime>, at: u64) -> Option<[u8; 3]> {
 }
 
 #[test]
-fn a_file_is_read_by_places(rt: HostRuntime) -> Result<(), Fail> {
-    let path = "source.raw";
+fn bytes_in_memory_are_read_by_places(rt: HostRuntime) {
+    let mut cursor = Cursor::new([1u8, 2, 3, 4].as_slice());
+    assert_eq!(rt; length_in_memory(&mut cursor).ok(), Some(4));
+    let mut into = [0u8; 2];
+    assert!(rt; read_in_memory(&mut cursor, 1, &mut into).is_ok());
+    assert_eq!(rt; into, [2, 3]);
+    assert!(rt; read_in_memory(&mut cursor, 4, &mut []).is_ok());
+    assert!(rt; read_in_memory(&mut cursor, 5, &mut []).is_err());
+    assert!(rt; read_in_memory(&mut cursor, 3, &mut into).is_err());
+}
+
+#[test]
+fn a_long_file_is_read_in_two_pieces(rt: HostRuntime) -> Result<(), Fail> {
+    let (path, alloc) = ("long.raw", rt.alloc());
+    let mut bytes = Vec::new(alloc);
+    for at in 0..1_600_000u64 {
+        bytes.push((at % 251) as u8)?;
+    }
+    fs::write(&rt, path, bytes.as_slice())?;
+    let mut file = source(&rt, path)?;
+    assert_eq!(rt; file.len(), Ok(1_600_000));
+    // The file stays open, also where its path is gone.
+    fs::remove_file(&rt, path)?;
+    let mut front = vec![in alloc; 0u8; 1_100_000]?;
+    let mut rest = vec![in alloc; 0u8; 499_223]?;
+    assert_eq!(rt; file.read_at(1_100_777, &mut rest), Ok(()));
+    assert_eq!(rt; file.read_at(777, &mut front), Ok(()));
+    assert!(rt; front.iter().chain(rest.iter()).eq(bytes.iter().skip(777)));
+    Ok(())
+}
+
+#[test]
+fn a_range_that_passes_the_end_is_a_fault(rt: HostRuntime) -> Result<(), Fail> {
+    let (path, alloc) = ("short.raw", rt.alloc());
     fs::write(&rt, path, [1u8, 2, 3, 4, 5].as_slice())?;
-    let mut file = FileSource::new(rt, String::from_str(rt.alloc(), path)?);
-    assert_eq!(rt; file.len(), Ok(5));
+    let mut file = source(&rt, path)?;
     for (at, want, faults) in [
         (2, Some([3, 4, 5]), 0),
         (0, Some([1, 2, 3]), 0),
@@ -51,19 +126,42 @@ fn a_file_is_read_by_places(rt: HostRuntime) -> Result<(), Fail> {
         assert_eq!(rt; three_bytes(&mut file, at), want);
         assert_eq!(rt; file.faults(), faults);
     }
+    assert_eq!(rt; file.read_at(5, &mut []), Ok(()));
+    assert_eq!(rt; file.read_at(6, &mut []), Err(Outage));
     fs::write(&rt, path, [9u8].as_slice())?;
     assert_eq!(rt; three_bytes(&mut file, 0), None, "the file has shrunk");
+    assert_eq!(rt;
+        text(alloc, file.last_fault())?.as_str(),
+        "short.raw: the range that was asked for passes the end of the file"
+    );
+    assert_eq!(rt; (file.faults(), file.len()), (4, Ok(1)));
     fs::remove_file(&rt, path)?;
     is_sendable(&file);
     Ok(())
 }
 
 #[test]
-fn a_path_that_cannot_be_opened_is_a_fault(rt: HostRuntime) -> Result<(), Fail> {
-    let mut gone = FileSource::new(rt, String::from_str(rt.alloc(), "gone/source.raw")?);
-    assert_eq!(rt; gone.len(), Err(Outage));
-    assert_eq!(rt; three_bytes(&mut gone, 0), None);
-    assert_eq!(rt; gone.faults(), 2);
+fn what_is_no_regular_file_is_a_fault_with_its_reason(rt: HostRuntime) -> Result<(), Fail> {
+    let alloc = rt.alloc();
+    // To open this pipe, which nobody writes to, would wait for ever.
+    let (reader, writer) = io::pipe(&rt)?;
+    drop(writer);
+    let pipe = format!(in alloc; "/proc/self/fd/{}", reader.as_raw_fd())?;
+    for (path, reason) in [
+        ("gone/source.raw", "No such file or directory (os error 2)"),
+        ("/dev/null/source.raw", "Not a directory (os error 20)"),
+        (".", "not a regular file"),
+        ("/dev/null", "not a regular file"),
+        (pipe.as_str(), "not a regular file"),
+    ] {
+        let mut file = source(&rt, path)?;
+        assert!(rt; file.last_fault().is_none());
+        assert_eq!(rt; file.len(), Err(Outage), "{path}");
+        assert_eq!(rt; three_bytes(&mut file, 0), None, "{path}");
+        assert_eq!(rt; file.faults(), 2);
+        let want = format!(in alloc; "{path}: {reason}")?;
+        assert_eq!(rt; text(alloc, file.last_fault())?, want);
+    }
     Ok(())
 }
 
@@ -74,10 +172,15 @@ fn what_is_written_stands_in_the_file(rt: HostRuntime) -> Result<(), Fail> {
     for piece in [[1, 2].as_slice(), [].as_slice(), [3].as_slice()] {
         assert_eq!(rt; sink.write(piece), Ok(()));
     }
+    assert!(rt; sink.last_fault().is_none());
     assert_eq!(rt; fs::read(&rt, path)?.as_slice(), [1, 2, 3].as_slice());
     let mut closed = StdSink::new(fs::open(&rt, path)?);
     assert_eq!(rt; closed.write(&[4]), Err(Outage));
     assert_eq!(rt; (sink.faults(), closed.faults()), (0, 1));
+    assert_eq!(rt;
+        text(rt.alloc(), closed.last_fault())?.as_str(),
+        "standard output: Bad file descriptor (os error 9)"
+    );
     fs::remove_file(&rt, path)?;
     Ok(())
 }
@@ -90,17 +193,34 @@ fn a_pipe_that_nobody_reads_is_a_fault(rt: HostRuntime) -> Result<(), Fail> {
     drop(reader);
     assert_eq!(rt; pipe.write(&[6]), Err(Outage));
     assert_eq!(rt; pipe.faults(), 1);
+    assert_eq!(rt;
+        text(rt.alloc(), pipe.last_fault())?.as_str(),
+        "standard output: Broken pipe (os error 32)"
+    );
     Ok(())
 }
 
 #[test]
-fn a_piece_is_written_whole_and_a_failing_flush_is_a_fault(rt: HostRuntime) {
-    for (flushes, want, faults) in [(true, Ok(()), 0), (false, Err(Outage), 1)] {
-        let mut sink = StdSink::new(Slow { taken: 0, flushes });
-        assert_eq!(rt; sink.write(&[1, 2, 3]), want);
-        assert_eq!(rt; sink.faults(), faults);
+fn a_piece_is_written_whole_and_flushed(rt: HostRuntime) -> Result<(), Fail> {
+    for (flushes, want, said) in [
+        (true, Ok(()), ""),
+        (false, Err(Outage), "standard output: no room is left"),
+    ] {
+        let mut calls = Vec::new(rt.alloc());
+        let mut sink = StdSink::new(Slow {
+            calls: &mut calls,
+            flushes,
+        });
+        assert_eq!(rt; sink.write(&[7, 8]), want);
+        assert_eq!(rt; text(rt.alloc(), sink.last_fault())?.as_str(), said);
         is_sendable(&sink);
+        drop(sink);
+        assert_eq!(rt;
+            calls.as_slice(),
+            [Call::Took(7), Call::Took(8), Call::Flushed].as_slice()
+        );
     }
+    Ok(())
 }
 
 #[test]

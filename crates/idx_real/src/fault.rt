@@ -1,0 +1,40 @@
+use std::io;
+use std::io::ErrorKind;
+use thiserror::Error;
+
+/// Why a call on the outside failed.
+#[derive(Clone, Copy, Debug, Error)]
+pub enum Reason {
+    /// The system's own answer.
+    #[error("{0}")]
+    System(io::Error),
+    /// A folder, a pipe, a terminal or a device stands where a file is read.
+    #[error("not a regular file")]
+    NotRegularFile,
+    /// The range that was asked for passes the end of the file.
+    #[error("the range that was asked for passes the end of the file")]
+    EndsEarly,
+}
+
+impl From<io::Error> for Reason {
+    ghost use Rattle.idx_real.specs.Faults.{IsReasonOf};
+
+    ghost from_gives = { IsReasonOf };
+
+    fn from(error: io::Error) -> Reason {
+        match error.kind() {
+            ErrorKind::UnexpectedEof => Reason::EndsEarly,
+            _ => Reason::System(error),
+        }
+    }
+}
+
+/// A fault of the outside: where it was, and why. Shown as `PATH: REASON`.
+#[derive(Clone, Copy, Debug, Error)]
+#[error("{path}: {reason}")]
+pub struct Fault<'a> {
+    /// The path, or the name of a stream.
+    pub path: &'a str,
+    /// What the system or the file said.
+    pub reason: Reason,
+}
