@@ -3,3 +3,4 @@ pub mod EndsLemmas
 pub mod LiesInLemmas
 pub mod RegionSteps
 pub mod VolumeLemmas
+pub mod PaddedLemmas

@@ -1,9 +1,9 @@
 -- Which points lie in a region, axis by axis, and what two regions have in common.
-use Rattle.std.proofs.Common.{◌≡◌, ℕ, zero, suc, ◌+◌, ◌-◌, ◌*◌, ◌<◌, ◌≤◌, min, max, List, [], ◌∷◌, length, drop, map, get_or, refl, sym, ap, ◌∙◌, arith}
-use Rattle.std.proofs.lemmas.List.{drop_more}
+use Rattle.std.proofs.Common.{◌≡◌, ℕ, zero, suc, ◌+◌, ◌-◌, ◌*◌, ◌<◌, ◌≤◌, ◌↔◌, min, max, List, [], ◌∷◌, length, drop, map, get_or, refl, sym, ap, ◌∙◌, arith}
+use Rattle.std.proofs.lemmas.List.{drop_more, length-map}
 use Rattle.std.proofs.lemmas.Nat.{mul-le}
 use Rattle.std.proofs.lemmas.List.Elements.{All-head, All-tail, All-cons, All-nil}
-use Rattle.idx_geom.specs.Region.{extent, LiesIn, place_of, common_bounds}
+use Rattle.idx_geom.specs.Region.{extent, LiesIn, HoldsAll, lower_ends, upper_ends, place_of, common_bounds}
 use Rattle.idx_geom.proofs.EndsLemmas.{IsOrdered}
 use Rattle.idx_geom.proofs.PointsLemmas.{size}
 
@@ -75,6 +75,32 @@ pub LiesIn-lower_ends : (bs : List (ℕ × ℕ)) → IsOrdered bs → LiesIn bs 
 LiesIn-lower_ends [] h = tt
 LiesIn-lower_ends (b ∷ bs) h =
     (omega arith, All-head (λ (b : ℕ × ℕ). b.0 ≤ b.1) b bs h, LiesIn-lower_ends bs (All-tail (λ (b : ℕ × ℕ). b.0 ≤ b.1) b bs h))
+
+pub LiesIn-upper_ends : (bs : List (ℕ × ℕ)) → IsOrdered bs → LiesIn bs (upper_ends bs)
+LiesIn-upper_ends [] h = tt
+LiesIn-upper_ends (b ∷ bs) h =
+    (All-head (λ (b : ℕ × ℕ). b.0 ≤ b.1) b bs h, omega arith, LiesIn-upper_ends bs (All-tail (λ (b : ℕ × ℕ). b.0 ≤ b.1) b bs h))
+
+-- a region whose lower ends lie in another has its axes
+pub axes_from_ends : (as' bs : List (ℕ × ℕ)) → LiesIn as' (lower_ends bs) → length as' ≡ length bs
+axes_from_ends as' bs h = sym (length_from_LiesIn as' (lower_ends bs) h) ∙ length-map bs (λ b. b.0)
+
+-- where both ends of a region lie in another, so does each of its points
+pub HoldsAll-from_ends : (as' bs : List (ℕ × ℕ)) → LiesIn as' (lower_ends bs) → LiesIn as' (upper_ends bs) → HoldsAll as' bs
+HoldsAll-from_ends [] [] lower upper [] h = tt
+HoldsAll-from_ends [] [] lower upper (x ∷ xs) h = h
+HoldsAll-from_ends [] (b ∷ bs) lower upper p h = absurd lower
+HoldsAll-from_ends (a ∷ as') [] lower upper p h = absurd lower
+HoldsAll-from_ends (a ∷ as') (b ∷ bs) lower upper [] h = absurd h
+HoldsAll-from_ends (a ∷ as') (b ∷ bs) lower upper (x ∷ xs) h =
+    (omega (arith, lower.0, h.0), omega (arith, upper.1, h.1), HoldsAll-from_ends as' bs lower.2 upper.2 xs h.2)
+
+-- and the other way round
+pub holds_iff : (as' bs : List (ℕ × ℕ)) → IsOrdered bs → (LiesIn as' (lower_ends bs) × LiesIn as' (upper_ends bs)) ↔ HoldsAll as' bs
+holds_iff as' bs ordered = (
+  λ ends. HoldsAll-from_ends as' bs ends.0 ends.1,
+  λ all. (all (lower_ends bs) (LiesIn-lower_ends bs ordered), all (upper_ends bs) (LiesIn-upper_ends bs ordered)),
+)
 
 -- a common part has no more points than the whole
 pub size-common_bounds : (as' bs : List (ℕ × ℕ)) → length as' ≡ length bs → size (common_bounds as' bs) ≤ size as'

@@ -1,3 +1,4 @@
+pub mod Padded
 pub mod Point
 pub mod PointFields
 pub mod Region

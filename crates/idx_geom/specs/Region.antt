@@ -18,6 +18,17 @@ LiesIn [] [] = Unit {0}
 LiesIn (b ∷ bs) (x ∷ xs) = (b.0 ≤ x) × (x ≤ b.1) × LiesIn bs xs
 LiesIn _ _ = ⊥
 
+-- the lower ends of a region, and its upper ends
+abbrev pub lower_ends : List (ℕ × ℕ) → List ℕ
+lower_ends r = map (λ b. b.0) r
+
+abbrev pub upper_ends : List (ℕ × ℕ) → List ℕ
+upper_ends r = map (λ b. b.1) r
+
+-- each point of the region s lies in the region r
+abbrev pub HoldsAll : List (ℕ × ℕ) → List (ℕ × ℕ) → Type 0
+HoldsAll r s = (p : List ℕ) → LiesIn s p → LiesIn r p
+
 -- the row-major place of a point, axis 0 fastest
 abbrev pub place_of : List (ℕ × ℕ) → List ℕ → ℕ
 place_of (b ∷ bs) (x ∷ xs) = (x - b.0) + extent b * place_of bs xs

@@ -1,7 +1,14 @@
 -- A volume: for each field, the samples of a region's points in row-major order. A sample is the list of its bytes.
-use Rattle.std.specs.Prelude.{ℕ, zero, suc, ◌*◌, List, [], ◌∷◌, take, drop}
+use Rattle.std.specs.Prelude.{◌≡◌, ℕ, zero, suc, ◌*◌, List, [], ◌∷◌, length, take, drop, All}
 use Rattle.std.specs.List.{flat_map, concat, slice_index_or}
 use Rattle.idx_geom.specs.Region.{place_of}
+
+-- a volume of n points, with one size of a sample per field: one list a field, of n samples of the field's size
+abbrev pub IsVolume : List ℕ → ℕ → List (List (List ℕ)) → Type 0
+IsVolume [] n [] = Unit {0}
+IsVolume (size ∷ sizes) n (samples ∷ volume) =
+    (length samples ≡ n) × All (λ sample. length sample ≡ size) samples × IsVolume sizes n volume
+IsVolume _ _ _ = ⊥
 
 -- a field's sample at a point of the region that the volume fills
 abbrev pub sample_at : List (ℕ × ℕ) → List (List ℕ) → List ℕ → List ℕ

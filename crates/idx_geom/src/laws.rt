@@ -1,7 +1,9 @@
 //! What holds of the definitions, for every region.
-ghost use Rattle.std.specs.Prelude.{◌≡◌, ℕ, ◌*◌, ◌<◌, List, Some, length, sum, slice_get};
+ghost use Rattle.std.specs.Prelude.{◌≡◌, ℕ, ◌*◌, ◌<◌, ◌↔◌, IsTrue, List, Some, length, sum, slice_get};
 ghost use Rattle.idx_geom.specs.Region.{LiesIn, place_of, points};
-ghost use Rattle.idx_geom.specs.Volume.{raw_of, volume_of};
+ghost use Rattle.idx_geom.specs.Volume.{IsVolume, raw_of, volume_of};
+
+use crate::Point;
 
 /// A region's points have one place each, and each place one point.
 pub fn places_are_points()
@@ -14,8 +16,19 @@ pub fn places_are_points()
     ensures below { (r : List (ℕ × ℕ)) (p : List ℕ) → LiesIn r p → place_of r p < length (points r) }
 {}
 
-/// The volume that is cut from a raw input of the right length has that raw input.
+/// Points are equal exactly where their coordinates are.
+pub fn equal_points_are_one()
+    ensures { (p q : List ℕ) → IsTrue (⟦<Point as PartialEq>⟧.eq p q) ↔ (p ≡ q) }
+{}
+
+/// A raw input of the right length is that of one volume, which is cut from it, and each volume has one raw input.
 pub fn raw_gives_volume()
-    ensures { (sizes : List ℕ) (n : ℕ) (bytes : List ℕ) →
+    ensures cut { (sizes : List ℕ) (n : ℕ) (bytes : List ℕ) →
+        length bytes ≡ sum sizes * n → IsVolume sizes n (volume_of sizes n bytes) }
+    ensures raw { (sizes : List ℕ) (n : ℕ) (bytes : List ℕ) →
         length bytes ≡ sum sizes * n → raw_of (volume_of sizes n bytes) ≡ bytes }
+    ensures length { (sizes : List ℕ) (n : ℕ) (volume : List (List (List ℕ))) →
+        IsVolume sizes n volume → length (raw_of volume) ≡ sum sizes * n }
+    ensures volume { (sizes : List ℕ) (n : ℕ) (volume : List (List (List ℕ))) →
+        IsVolume sizes n volume → volume_of sizes n (raw_of volume) ≡ volume }
 {}

@@ -9,6 +9,6 @@ mod region;
 mod tests;
 
 pub use examples::worked_regions;
-pub use laws::{places_are_points, raw_gives_volume};
-pub use point::Point;
+pub use laws::{equal_points_are_one, places_are_points, raw_gives_volume};
+pub use point::{MAX_AXES, Point};
 pub use region::Region;

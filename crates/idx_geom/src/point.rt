@@ -1,11 +1,11 @@
-ghost use Rattle.std.specs.Prelude.{◌≡◌, ◌<◌, ◌≤◌, All, length, slice_index};
+ghost use Rattle.std.specs.Prelude.{◌≡◌, ◌^◌, ◌<◌, ◌≤◌, All, length, slice_index};
 ghost use Rattle.std.specs.Option.{SomeIff};
 ghost use Rattle.idx_geom.specs.Point.{IsAxes, IsCoordinates, IsPoint};
 
 use std::marker::Model;
 
 /// A point has at most so many axes.
-pub(crate) const MAX_AXES: usize = 5;
+pub const MAX_AXES: usize = 5;
 
 /// Each coordinate of a point is below it.
 const COORDINATE_END: u64 = 1 << 40;
@@ -65,14 +65,14 @@ impl Point {
     pub fn get(&self, axis: u32) -> u64
         requires { axis < length self.now }
         ensures value { result ≡ slice_index self.now axis }
-        ensures small { result ≤ COORDINATE_END }
+        ensures small { result ≤ 2 ^ 40 }
     {
         self.coordinates[axis as usize]
     }
 
     /// The point with these coordinates, none above the largest that is allowed.
     fn up_to(at: &[u64], largest: u64) -> Option<Point>
-        requires { largest ≤ COORDINATE_END }
+        requires { largest ≤ 2 ^ 40 }
         ensures { SomeIff result (IsAxes (length at.now) × All (λ x. x ≤ largest) at.now) at.now }
     {
         if at.len() < 2 || at.len() > MAX_AXES || at.iter().any(|x| *x > largest) {

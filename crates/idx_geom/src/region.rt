@@ -1,7 +1,7 @@
-ghost use Rattle.std.specs.Prelude.{◌≡◌, ℕ, ◌-◌, ◌*◌, ◌^◌, ◌<◌, ◌≤◌, ◌↔◌, All, drop, length, map, IfSome, IsNone, IsTrue, Some, slice_get};
+ghost use Rattle.std.specs.Prelude.{◌≡◌, ℕ, ◌-◌, ◌*◌, ◌^◌, ◌<◌, ◌≤◌, ◌↔◌, All, drop, length, IfSome, IsNone, IsTrue, Some, slice_get};
 ghost use Rattle.std.specs.Option.{SomeIff};
 ghost use Rattle.std.specs.List.{slice_index_or, zip};
-ghost use Rattle.idx_geom.specs.Region.{AreEnds, HasExactly, HaveCommonPoint, IsRegion, LiesIn, common_bounds, place_of, points};
+ghost use Rattle.idx_geom.specs.Region.{AreEnds, HasExactly, HaveCommonPoint, HoldsAll, IsRegion, LiesIn, common_bounds, lower_ends, place_of, points, upper_ends};
 
 use crate::Point;
 use crate::point::MAX_AXES;
@@ -53,14 +53,14 @@ impl Region {
 
     /// The lower ends.
     pub fn lo(&self) -> Point
-        ensures { result ≡ map (λ b. b.0) self.now }
+        ensures { result ≡ lower_ends self.now }
     {
         self.lo
     }
 
     /// The upper ends, which lie in the region too.
     pub fn hi(&self) -> Point
-        ensures { result ≡ map (λ b. b.1) self.now }
+        ensures { result ≡ upper_ends self.now }
     {
         self.hi
     }
@@ -77,7 +77,7 @@ impl Region {
     pub fn count(&self) -> u64
         ensures count { result ≡ length (points self.now) }
         ensures some { 1 ≤ result }
-        ensures few { result ≤ MOST_POINTS }
+        ensures few { result ≤ 2 ^ 40 }
     {
         point_count(&self.lo, &self.hi).unwrap()
     }
@@ -95,6 +95,16 @@ impl Region {
             }
         }
         true
+    }
+
+    /// Whether another region has as many axes and lies inside this one: both its ends do, and so does each of its
+    /// points.
+    pub fn holds(&self, other: &Region) -> bool
+        ensures ends { IsTrue result ↔
+            (LiesIn self.now (lower_ends other.now) × LiesIn self.now (upper_ends other.now)) }
+        ensures points { IsTrue result ↔ HoldsAll self.now other.now }
+    {
+        self.holds_ends(other)
     }
 
     /// What two regions have in common: `None` exactly where no point lies in both.
@@ -138,12 +148,25 @@ impl Region {
         Point::stride(&coordinates[..self.axes() as usize]).unwrap()
     }
 
+    /// Whether both ends of another region lie in this one.
+    #[tactic(auto, using(crate::proofs::LiesInLemmas::axes_from_ends))]
+    fn holds_ends(&self, other: &Region) -> bool
+        ensures ends { IsTrue result ↔
+            (LiesIn self.now (lower_ends other.now) × LiesIn self.now (upper_ends other.now)) }
+        ensures valid { IsRegion other.now }
+    {
+        if self.axes() != other.axes() {
+            return false;
+        }
+        self.contains(&other.lo()) && self.contains(&other.hi())
+    }
+
     /// The inclusive bounds along an axis.
     fn bounds(&self, axis: u32) -> (u64, u64)
         requires { axis < length self.now }
         ensures value { result ≡ slice_index_or self.now axis (0, 0) }
         ensures ordered { result.0 ≤ result.1 }
-        ensures small { result.1 ≤ MOST_POINTS }
+        ensures small { result.1 ≤ 2 ^ 40 }
     {
         (self.lo.get(axis), self.hi.get(axis))
     }
@@ -153,7 +176,7 @@ impl Region {
         requires { length self.now ≡ length other.now }
         ensures same_axes { length result.0 ≡ length result.1 }
         ensures bounds { zip result.0 result.1 ≡ common_bounds self.now other.now }
-        ensures few { length (points (zip result.0 result.1)) ≤ MOST_POINTS }
+        ensures few { length (points (zip result.0 result.1)) ≤ 2 ^ 40 }
     {
         let mut lows = [0; MAX_AXES];
         let mut highs = [0; MAX_AXES];
@@ -187,7 +210,7 @@ fn is_ordered(lo: &Point, hi: &Point) -> bool
 fn point_count(lo: &Point, hi: &Point) -> Option<u64>
     requires same_axes { length lo.now ≡ length hi.now }
     requires ordered { All (λ b. b.0 ≤ b.1) (zip lo.now hi.now) }
-    ensures { SomeIff result (length (points (zip lo.now hi.now)) ≤ MOST_POINTS) (length (points (zip lo.now hi.now))) }
+    ensures { SomeIff result (length (points (zip lo.now hi.now)) ≤ 2 ^ 40) (length (points (zip lo.now hi.now))) }
 {
     let mut count = 1;
     for axis in 0..lo.axes() {

@@ -35,6 +35,8 @@ fn regions_have_ends_and_common_parts(rt: HostRuntime) {
     let common = whole.meet(&part).expect(&rt, "a common part");
     assert_eq!(rt; common.lo(), point(&rt, &[1, 2]));
     assert_eq!(rt; common.hi(), point(&rt, &[2, 3]));
+    assert!(rt; common.lo() != common.hi());
+    assert!(rt; whole.holds(&common) && !common.holds(&whole));
     assert!(rt; whole.meet(&region(&rt, &[4, 0], &[5, 3])).is_none());
 }
 

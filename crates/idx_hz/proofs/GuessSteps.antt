@@ -19,10 +19,12 @@ pub IsStored-axes : (axes copied : List ℕ) → IsMask axes → copied ≡ axes
 IsStored-axes axes copied valid is =
     let zeros : drop {A = ℕ} (length axes) (replicate {A = ℕ} 40 0) ≡ replicate (40 - length axes) 0 = drop-replicate {X = ℕ} (length axes) 40 0 in
     rw (is, zeros) (record {
-      room = length-append axes (replicate {A = ℕ} (40 - length axes) 0) ∙ ap (λ n. length axes + n) (length-replicate {A = ℕ} (40 - length axes) 0) ∙ omega (arith, valid.few);
+      array = record {
+        size = length-append axes (replicate {A = ℕ} (40 - length axes) 0) ∙ ap (λ n. length axes + n) (length-replicate {A = ℕ} (40 - length axes) 0) ∙ omega (arith, valid.few);
+        within = valid.few;
+        rest = drop_at axes (replicate {A = ℕ} (40 - length axes) 0) (length axes) refl;
+      };
       mask = subst IsMask (sym (take_at axes (replicate {A = ℕ} (40 - length axes) 0) (length axes) refl)) valid;
-      within = valid.few;
-      rest = drop_at axes (replicate {A = ℕ} (40 - length axes) 0) (length axes) refl;
     })
 
 -- ---- the bits of the axes

@@ -116,11 +116,11 @@ bit-of_even_multiple x c multiple =
     sym (field_of x 1 c) ∙ ap (λ n. x % 2 ^ n / 2 ^ c) next ∙ ap (λ m. m / 2 ^ c) multiple ∙ zero-div (2 ^ c)
 
 -- the stride of one level coarser is twice as long on the digit's axis
-stride_of_digit : (mask : List ℕ) (h axis : ℕ) → h < length mask → get_or mask h 0 ≡ axis → bit_count axis (drop h mask) ≡ suc (bit_count axis (drop (suc h) mask))
+pub stride_of_digit : (mask : List ℕ) (h axis : ℕ) → h < length mask → get_or mask h 0 ≡ axis → bit_count axis (drop h mask) ≡ suc (bit_count axis (drop (suc h) mask))
 stride_of_digit mask h axis within same = ap (bit_count axis) (drop-digit mask h within) ∙ bit_count-same (get_or mask h 0) axis (drop (suc h) mask) same
 
 -- and as long on each other axis
-stride_of_other : (mask : List ℕ) (h axis : ℕ) → h < length mask → get_or mask h 0 ≢ axis → bit_count axis (drop h mask) ≡ bit_count axis (drop (suc h) mask)
+pub stride_of_other : (mask : List ℕ) (h axis : ℕ) → h < length mask → get_or mask h 0 ≢ axis → bit_count axis (drop h mask) ≡ bit_count axis (drop (suc h) mask)
 stride_of_other mask h axis within other = ap (bit_count axis) (drop-digit mask h within) ∙ bit_count-other (get_or mask h 0) axis (drop (suc h) mask) other
 
 -- a point on the strides of a level, whose coordinate on the digit's axis is an even multiple, lies on the coarser ones

@@ -7,5 +7,6 @@ pub mod LevelLemmas
 pub mod MaskLemmas
 pub mod PointLemmas
 pub mod PrefixLemmas
+pub mod RegionLemmas
 pub mod ShiftLemmas
 pub mod ZLemmas

@@ -52,10 +52,8 @@ stored_all text stored some few digits h =
     let front : take (length text) stored ≡ map (λ byte. byte - 48) text = stored_front text stored few h in
     let size : length (map (λ byte. byte - 48) text) ≡ length text = length-map text (λ byte. byte - 48) in
     record {
-      room = h.room;
+      array = record { size = h.room; within = few; rest = h.rest };
       mask = rw front (record { some = rw size some; few = rw size few; digits = digits_small text digits });
-      within = few;
-      rest = h.rest;
     }
 
 pub digits_back : (text : List ℕ) → All IsMaskDigit text → map (λ d. d + 48) (map (λ byte. byte - 48) text) ≡ text

@@ -6,7 +6,7 @@ ghost use Rattle.idx_hz.specs.Guess.{CanGuess, binary_digits, guessed_mask, roun
 
 use crate::Mask;
 use crate::mask::MAX_DIGITS;
-use idx_geom::Region;
+use idx_geom::{MAX_AXES, Region};
 
 /// The guessed mask of a box: each axis gets as many bits as the box's upper end on it has binary digits, where 0 has
 /// none. Digits are placed from the finest leftward in rounds; in each round the axes go from last to first, without
@@ -27,14 +27,14 @@ pub fn guess(region: &Region) -> Option<Mask>
 }
 
 /// How many bits each axis gets.
-fn bits_of_axes(region: &Region) -> [u32; 5]
+fn bits_of_axes(region: &Region) -> [u32; MAX_AXES]
     ensures room { length result ≡ 5 }
     ensures value { take (length region.now) result ≡ upper_bits region.now }
     ensures axes { length region.now ≤ 5 }
     ensures few { sum (upper_bits region.now) < 2 ^ 32 }
 {
     let upper = region.hi();
-    let mut bits = [0; 5];
+    let mut bits = [0; MAX_AXES];
     for axis in 0..region.axes() {
         bits[axis as usize] = digit_count(upper.get(axis));
     }
@@ -73,7 +73,7 @@ fn mask_of_bits(bits: &[u32], total: u32) -> Mask
 }
 
 /// Places the axes of a round behind so many digits, and answers how many digits there are then.
-fn place_round(digits: &mut [u8; 40], placed: usize, bits: &[u32], round: u32) -> usize
+fn place_round(digits: &mut [u8; MAX_DIGITS], placed: usize, bits: &[u32], round: u32) -> usize
     requires axes { length bits.now ≤ 5 }
     requires room { placed + length (round_axes bits.now round) ≤ MAX_DIGITS }
     ensures count { result ≡ placed + length (round_axes bits.now round) }

@@ -1,9 +1,18 @@
 //! Laws of the definitions, each the contract of a function that does nothing.
-ghost use Rattle.std.specs.Prelude.{◌≡◌, ℕ, ◌+◌, ◌-◌, ◌/◌, ◌%◌, ◌^◌, ◌<◌, ◌≤◌, ◌↔◌, EachIndex, List, length, slice_index, take};
+ghost use Rattle.std.specs.Prelude.{◌≡◌, ℕ, ◌+◌, ◌-◌, ◌/◌, ◌%◌, ◌^◌, ◌<◌, ◌≤◌, ◌↔◌, EachIndex, IsTrue, List, length, slice_index, take};
 ghost use Rattle.idx_hz.specs.Mask.{NamesAxes, HasAddress};
 ghost use Rattle.idx_hz.specs.Address.{level, hz_address};
 ghost use Rattle.idx_hz.specs.Coordinate.{coordinate_at};
 ghost use Rattle.idx_hz.specs.Stride.{stride, LiesOnStrides};
+ghost use Rattle.idx_hz.specs.declared.mask_fault.MaskFault.{MaskFault};
+
+use crate::{Mask, MaskFault};
+
+/// Masks are equal exactly where their digits are, and faults of a text where they are one.
+pub fn equal_masks_are_one()
+    ensures masks { (a b : List ℕ) → IsTrue (⟦<Mask as PartialEq>⟧.eq a b) ↔ (a ≡ b) }
+    ensures faults { (a b : MaskFault) → IsTrue (⟦<MaskFault as PartialEq>⟧.eq a b) ↔ (a ≡ b) }
+{}
 
 /// For each mask of M digits, and each number of axes that it fits, the hierarchical addresses are one to one from the
 /// points below the mask's size onto the numbers below 2^M. Level h from 1 fills exactly the addresses 2^(h-1) to
@@ -40,5 +49,6 @@ pub fn blocks_are_boxes()
     ensures others { (mask p : List ℕ) (bits k block : ℕ) → HasAddress mask p → k ≤ length mask →
         2 ^ k ≤ block → block < 2 ^ (k + 1) →
         (hz_address mask p / 2 ^ bits ≡ block) ↔ ((level mask p ≡ bits + k + 1) ×
-        EachIndex p (λ axis. slice_index p axis / stride mask k axis ≡ coordinate_at (take k mask) axis (block - 2 ^ k))) }
+        EachIndex p (λ axis. slice_index p axis / stride mask k axis ≡
+        coordinate_at (take k mask) axis (block - 2 ^ k))) }
 {}

@@ -11,6 +11,6 @@ mod tests;
 
 pub use examples::{worked_addresses, worked_answers, worked_guesses, worked_strides};
 pub use guessed::guess;
-pub use laws::{addresses_are_one_to_one, blocks_are_boxes, levels_are_grids};
-pub use mask::Mask;
+pub use laws::{addresses_are_one_to_one, blocks_are_boxes, equal_masks_are_one, levels_are_grids};
+pub use mask::{MAX_DIGITS, Mask};
 pub use mask_fault::MaskFault;

@@ -1,23 +1,24 @@
-ghost use Rattle.std.specs.Prelude.{◌≡◌, ◌≢◌, ◌↔◌, ℕ, ◌+◌, ◌-◌, ◌*◌, ◌%◌, ◌^◌, ◌<◌, ◌≤◌, List, [], ◌∷◌, length, map, slice_index, All, EachIndex, MatchOption, IsErrOf, codes};
+ghost use Rattle.std.specs.Prelude.{◌≡◌, ◌≢◌, ◌↔◌, ℕ, ◌+◌, ◌-◌, ◌*◌, ◌%◌, ◌^◌, ◌<◌, ◌≤◌, List, [], ◌∷◌, length, map, slice_index, All, EachIndex, MatchOption, IsErrOf, IsTrue, codes};
 ghost use Rattle.std.specs.Int.{bit_at};
 ghost use Rattle.idx_geom.specs.Point.{IsAxes};
-ghost use Rattle.idx_hz.specs.Mask.{IsMask, NamesAxes, HasAddress, bit_count};
+ghost use Rattle.idx_geom.specs.Region.{IsRegion, LiesIn, upper_ends};
+ghost use Rattle.idx_hz.specs.Mask.{IsMask, NamesAxes, IsBelow, HasAddress, bit_count};
 ghost use Rattle.idx_hz.specs.MaskText.{BeginsWithV, IsMaskDigit, IsFirstBad, IsFirstBadDigit, HasTooManyDigits, mask_text};
 ghost use Rattle.idx_hz.specs.Address.{z_address, level_at, hz_at, hz_address};
 ghost use Rattle.idx_hz.specs.Coordinate.{coordinate_at};
 
 use crate::mask_fault::MaskFault;
-use idx_geom::Point;
+use idx_geom::{MAX_AXES, Point, Region};
 use std::marker::Model;
 
 /// A mask has at most so many digits.
-pub(crate) const MAX_DIGITS: usize = 40;
+pub const MAX_DIGITS: usize = 40;
 
 /// Which axis gives each binary digit of a Z address, from coarsest to finest (the bitmask of OpenVisus): one to forty
 /// digits, each an axis 0 to 4, seen as their list.
 #[derive(Clone, Copy, Debug, PartialEq, Eq)]
 pub struct Mask {
-    digits: [u8; 40],
+    digits: [u8; MAX_DIGITS],
     len: u32,
 }
 
@@ -99,6 +100,35 @@ impl Mask {
             .count() as u32
     }
 
+    /// Whether each digit names one of so many axes.
+    pub fn names_axes(&self, axes: u32) -> bool
+        ensures { IsTrue result ↔ NamesAxes self.now axes }
+    {
+        self.digits().iter().all(|digit| u32::from(*digit) < axes)
+    }
+
+    /// Whether a point lies below the mask's size: each coordinate is below 2 to its axis's bits.
+    pub fn covers(&self, p: &Point) -> bool
+        ensures { IsTrue result ↔ IsBelow self.now p.now }
+    {
+        (0..p.axes()).all(|axis| p.get(axis) < 1 << self.bits(axis))
+    }
+
+    /// Whether a point has a Z address: it has each axis that the mask names, and lies below the mask's size.
+    pub fn has_address(&self, p: &Point) -> bool
+        ensures { IsTrue result ↔ HasAddress self.now p.now }
+    {
+        self.names_axes(p.axes()) && self.covers(p)
+    }
+
+    /// Whether each point of a region has a Z address: its upper end does.
+    pub fn holds(&self, region: &Region) -> bool
+        ensures end { IsTrue result ↔ HasAddress self.now (upper_ends region.now) }
+        ensures points { IsTrue result ↔ ((p : List ℕ) → LiesIn region.now p → HasAddress self.now p) }
+    {
+        self.holds_end(region)
+    }
+
     /// The Z address of a point, below 2 to the number of digits: each digit gives the bit of its coordinate that it
     /// names, the coarsest digit the highest bit. For each axis its finest digit names bit 0, the one before it bit 1, and
     /// so on (Pascucci and Frank 2001).
@@ -109,7 +139,7 @@ impl Mask {
     {
         let digits = self.digits();
         let mut z = 0;
-        let mut used = [0; 5];
+        let mut used = [0; MAX_AXES];
         for place in (0..digits.len()).rev() {
             let axis = digits[place] as usize;
             let bit = bit_of(p, axis as u32, used[axis]);
@@ -176,6 +206,14 @@ impl Mask {
         self.point_of_z(self.z_at(address), axes)
     }
 
+    /// Whether the upper end of a region has a Z address.
+    fn holds_end(&self, region: &Region) -> bool
+        ensures end { IsTrue result ↔ HasAddress self.now (upper_ends region.now) }
+        ensures valid { IsRegion region.now }
+    {
+        self.names_axes(region.axes()) && self.covers(&region.hi())
+    }
+
     /// The Z address at a hierarchical address: a 1 behind the address, and zeros behind that, fill the digits, and the
     /// bit in front of them goes.
     fn z_at(&self, address: u64) -> u64
@@ -189,13 +227,13 @@ impl Mask {
     }
 
     /// The coordinates at a Z address, and 0 on each axis that the mask does not name.
-    fn coordinates_at(&self, z: u64) -> [u64; 5]
+    fn coordinates_at(&self, z: u64) -> [u64; MAX_AXES]
         ensures room { length result ≡ 5 }
         ensures small { All (λ x. x < 2 ^ 40) result }
         ensures value { EachIndex result (λ axis. slice_index result axis ≡ coordinate_at self.now axis z) }
     {
         let digits = self.digits();
-        let mut coordinates = [0; 5];
+        let mut coordinates = [0; MAX_AXES];
         for (place, digit) in digits.iter().enumerate() {
             let axis = *digit as usize;
             let bit = binary_digit(z, (digits.len() - 1 - place) as u32);
@@ -273,7 +311,7 @@ fn binary_digit(z: u64, number: u32) -> u64
 fn with_bit(bit: u64, z: u64, digits: u32) -> u64
     requires bit { bit < 2 }
     requires digits { z < 2 ^ digits }
-    requires few { digits < 40 }
+    requires few { digits < MAX_DIGITS }
     ensures { result ≡ bit * 2 ^ digits + z }
 {
     bit << digits | z

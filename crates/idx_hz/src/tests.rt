@@ -18,6 +18,7 @@ fn tells_why_a_text_is_no_mask(rt: HostRuntime) {
     assert_eq!(rt; fault_of(b"V09"), Some(MaskFault::BadDigit { at: 2 }));
     assert_eq!(rt; fault_of(&long), Some(MaskFault::TooLong));
     assert_eq!(rt; fault_of(&long[..41]), None);
+    assert!(rt; MaskFault::BadDigit { at: 1 } != MaskFault::BadDigit { at: 2 });
 }
 
 /// The Z address, the level and the hierarchical address of a point, for a mask of two axes with two bits each.
@@ -60,6 +61,20 @@ fn addresses_a_grid_of_four_by_four(rt: HostRuntime) -> Result<(), Fail> {
     Ok(())
 }
 
+#[test]
+fn tells_what_lies_below_a_mask(rt: HostRuntime) -> Result<(), Fail> {
+    let mask = Mask::parse(b"V0101").map_err(|_| "no mask")?;
+    let inner = Point::new(&[1, 3]).ok_or("no point")?;
+    let outer = Point::new(&[1, 4]).ok_or("no point")?;
+    assert!(rt; mask.names_axes(2) && !mask.names_axes(1));
+    assert!(rt; mask.covers(&inner) && !mask.covers(&outer));
+    assert!(rt; mask.has_address(&inner));
+    let part = Region::new(inner, inner).ok_or("no region")?;
+    let past = Region::new(inner, outer).ok_or("no region")?;
+    assert!(rt; mask.holds(&part) && !mask.holds(&past));
+    Ok(())
+}
+
 /// The guessed mask of a box from the origin.
 fn guess_up_to(first: u64, second: u64) -> Option<Mask> {
     let origin = Point::new(&[0, 0])?;
@@ -72,4 +87,5 @@ fn guesses_masks(rt: HostRuntime) {
     assert_eq!(rt; guess_up_to(2, 2), Mask::parse(b"V0101").ok());
     assert_eq!(rt; guess_up_to(4, 0), Mask::parse(b"V000").ok());
     assert_eq!(rt; guess_up_to(0, 0), None);
+    assert!(rt; guess_up_to(7, 1) != guess_up_to(2, 2));
 }
