@@ -1,0 +1,4 @@
+pub mod BlockShapeLemmas
+pub mod BoxLemmas
+pub mod GridLemmas
+pub mod LevelGridLemmas
