@@ -1,0 +1,11 @@
+//! Reading the samples of a walk from a raw volume, through a source of bytes.
+#![tactic(auto)]
+
+mod plan;
+mod read;
+mod read_fault;
+#[cfg(test)]
+mod tests;
+
+pub use read::read_samples;
+pub use read_fault::ReadFault;

@@ -1,0 +1,15 @@
+pub mod StoredLemmas
+pub mod AxesLemmas
+pub mod WrittenLemmas
+pub mod SamplesLemmas
+pub mod RangeLemmas
+pub mod PlacesLemmas
+pub mod CountLemmas
+pub mod BoundLemmas
+pub mod WideLemmas
+pub mod DenseLemmas
+pub mod PartLemmas
+pub mod WindowLemmas
+pub mod CoarseLemmas
+pub mod RowLemmas
+pub mod LayerLemmas

@@ -1,0 +1,17 @@
+//! Walks over the samples of grids in row-major volumes: their places, and their samples.
+#![tactic(auto)]
+
+mod axes;
+mod axis;
+mod examples;
+mod gather;
+mod row;
+mod run;
+mod sample;
+mod strides;
+#[cfg(test)]
+mod tests;
+
+pub use axis::Axis;
+pub use examples::{worked_offsets, worked_samples};
+pub use strides::Strides;

@@ -1,0 +1,55 @@
+ghost use Rattle.std.specs.Prelude.{◌≡◌, ℕ, ◌+◌, ◌≤◌, ◌<◌, length, take, drop};
+ghost use Rattle.idx_stride.specs.Written.{written};
+
+/// How the bytes of one sample are copied: known at compile time, or not.
+pub(crate) trait Sample: Copy {
+    /// How many bytes a sample has.
+    ghost bytes: { Self → ℕ };
+
+    /// How many bytes a sample has.
+    fn bytes(self) -> usize
+        ensures { result ≡ bytes self };
+
+    /// Copies the sample at place `from` of the window to place `at` of `out`.
+    fn copy(self, window: &[u8], from: usize, out: &mut [u8], at: usize)
+        requires some { 0 < bytes self }
+        requires read { from + bytes self ≤ length window.now }
+        requires write { at + bytes self ≤ length out.old }
+        ensures { out.new ≡ written at (take (bytes self) (drop from window.now)) out.old };
+}
+
+/// Samples of `N` bytes.
+#[derive(Clone, Copy)]
+pub(crate) struct Fixed<const N: usize>;
+
+impl<const N: usize> Sample for Fixed<N> {
+    ghost bytes = { λ _. N };
+
+    fn bytes(self) -> usize {
+        N
+    }
+
+    fn copy(self, window: &[u8], from: usize, out: &mut [u8], at: usize) {
+        let (chunks, _) = window[from..from + N].as_chunks::<N>();
+        let sample = chunks[0];
+        out[at..at + N].copy_from_slice(&sample);
+    }
+}
+
+/// Samples of so many bytes.
+#[derive(Clone, Copy)]
+pub(crate) struct AnySize {
+    pub(crate) bytes: usize,
+}
+
+impl Sample for AnySize {
+    ghost bytes = { λ s. s.bytes };
+
+    fn bytes(self) -> usize {
+        self.bytes
+    }
+
+    fn copy(self, window: &[u8], from: usize, out: &mut [u8], at: usize) {
+        out[at..at + self.bytes].copy_from_slice(&window[from..from + self.bytes]);
+    }
+}

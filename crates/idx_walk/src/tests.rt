@@ -1,0 +1,156 @@
+ghost use Rattle.std.specs.Prelude.{◌≡◌, ◌≤◌, IfOk, length};
+ghost use Rattle.idx_stride.specs.Strides.{end_of};
+
+use crate::{answer_by_points, walk};
+use idx_geom::{Point, Region};
+use idx_hz::Mask;
+use idx_outside::{Bytes, NoMemory};
+use idx_stride::{Axis, Strides};
+use std::alloc::Global;
+use std::process::Abort;
+use std::test::Fail;
+
+/// A volume, its mask, and a region that is asked for.
+#[derive(Clone, Copy)]
+struct Case {
+    mask: &'static [u8],
+    extent: [&'static [u64]; 2],
+    region: [&'static [u64]; 2],
+    size: u64,
+}
+
+/// Volumes of two to five axes with odd extents, whose masks name the axes in any order and some axes not at all, and
+/// regions that begin off the grids.
+const CASES: [Case; 6] = [
+    Case {
+        mask: b"V0101",
+        extent: [&[0, 0], &[3, 3]],
+        region: [&[1, 2], &[1, 3]],
+        size: 1,
+    },
+    Case {
+        mask: b"V1100010",
+        extent: [&[1, 2], &[13, 6]],
+        region: [&[3, 3], &[13, 5]],
+        size: 3,
+    },
+    Case {
+        mask: b"V2002200",
+        extent: [&[0, 0, 0], &[14, 0, 6]],
+        region: [&[1, 0, 1], &[12, 0, 6]],
+        size: 2,
+    },
+    Case {
+        mask: b"V012210021",
+        extent: [&[2, 1, 0], &[6, 7, 4]],
+        region: [&[2, 1, 0], &[6, 7, 4]],
+        size: 4,
+    },
+    Case {
+        mask: b"V301312",
+        extent: [&[0, 1, 0, 0], &[1, 3, 1, 2]],
+        region: [&[0, 1, 0, 1], &[1, 3, 1, 2]],
+        size: 1,
+    },
+    Case {
+        mask: b"V40312041",
+        extent: [&[1, 0, 0, 1, 0], &[3, 2, 1, 1, 3]],
+        region: [&[1, 1, 0, 1, 0], &[3, 2, 1, 1, 2]],
+        size: 5,
+    },
+];
+
+fn region_of(rt: &impl Abort, ends: [&[u64]; 2]) -> Region {
+    let lo = Point::new(ends[0]).expect(rt, "a lower end");
+    let hi = Point::new(ends[1]).expect(rt, "an upper end");
+    Region::new(lo, hi).expect(rt, "a region")
+}
+
+/// The samples that a walk visits.
+fn visited(alloc: Global, walk: &Strides, raw: &[u8]) -> Result<Bytes, NoMemory>
+    requires end { end_of walk.now ≤ length raw.now }
+    requires few { walk.now.size ≤ 64 }
+{
+    let mut samples = Bytes::zeros(alloc, (walk.count() * walk.size()) as usize)?;
+    walk.gather(raw, 0, samples.as_mut_slice());
+    Ok(samples)
+}
+
+/// Bytes that differ from their neighbours.
+fn volume(alloc: Global, size: u64) -> Result<Bytes, NoMemory>
+    ensures { IfOk result (λ bytes. length bytes ≡ size) }
+{
+    let mut bytes = Bytes::new(alloc);
+    for place in 0..size {
+        bytes.push((place.wrapping_mul(37) % 251) as u8)?;
+    }
+    Ok(bytes)
+}
+
+#[test]
+fn a_walk_visits_what_the_search_finds(rt: HostRuntime) -> Result<(), Fail> {
+    for case in &CASES {
+        let mask = Mask::parse(case.mask).expect(&rt, "a mask");
+        let extent = region_of(&rt, case.extent);
+        let region = region_of(&rt, case.region);
+        assert!(rt; mask.holds(&extent) && extent.holds(&region));
+        assert!(rt; 1 <= case.size && case.size <= 64);
+        let raw = volume(rt.alloc(), case.size * extent.count())?;
+        for hi in 0..mask.len() + 1 {
+            for lo in 0..hi + 1 {
+                let found = answer_by_points(
+                    rt.alloc(),
+                    &mask,
+                    &extent,
+                    &region,
+                    (lo, hi),
+                    case.size,
+                    raw.as_slice(),
+                )?;
+                let samples = match walk(&mask, &extent, &region, lo, hi, case.size) {
+                    None => Bytes::new(rt.alloc()),
+                    Some(walk) => visited(rt.alloc(), &walk, raw.as_slice())?,
+                };
+                assert_eq!(rt; samples.as_slice(), found.as_slice());
+            }
+        }
+    }
+    Ok(())
+}
+
+/// The bytes of 4 by 4 points, of which point number n has the byte n.
+const BYTES: [u8; 16] = [0, 1, 2, 3, 4, 5, 6, 7, 8, 9, 10, 11, 12, 13, 14, 15];
+
+/// The ends of a region, two levels, and the samples of its points between them.
+type Row = ([&'static [u64]; 2], (u32, u32), &'static [u8]);
+
+/// Of the mask V0101: the levels 0 to 2 and 3 to 4 of all points, the only point of level 3 of a box of 2 by 3 points,
+/// and a box without a point of level 0.
+const ROWS: [Row; 4] = [
+    ([&[0, 0], &[3, 3]], (0, 2), &[0, 2, 8, 10]),
+    (
+        [&[0, 0], &[3, 3]],
+        (3, 4),
+        &[1, 3, 4, 5, 6, 7, 9, 11, 12, 13, 14, 15],
+    ),
+    ([&[1, 2], &[1, 3]], (3, 3), &[9]),
+    ([&[1, 1], &[1, 1]], (0, 0), &[]),
+];
+
+#[test]
+fn a_walk_visits_worked_samples(rt: HostRuntime) -> Result<(), Fail> {
+    let mask = Mask::parse(b"V0101").expect(&rt, "a mask");
+    let extent = region_of(&rt, [&[0, 0], &[3, 3]]);
+    for (ends, (lo, hi), want) in &ROWS {
+        let region = region_of(&rt, *ends);
+        assert!(rt; mask.holds(&extent) && extent.holds(&region));
+        assert!(rt; *lo <= *hi && *hi <= mask.len());
+        assert_eq!(rt; extent.count(), 16);
+        let samples = match walk(&mask, &extent, &region, *lo, *hi, 1) {
+            None => Bytes::new(rt.alloc()),
+            Some(walk) => visited(rt.alloc(), &walk, &BYTES)?,
+        };
+        assert_eq!(rt; samples.as_slice(), *want);
+    }
+    Ok(())
+}
