@@ -1,9 +1,2 @@
-pub mod NumberLemmas
+pub mod GrammarLemmas
 pub mod RunLemmas
-pub mod MaskWordLemmas
-pub mod RegionWordLemmas
-pub mod CutLemmas
-pub mod CutOfLemmas
-pub mod SoundLemmas
-pub mod InsideLemmas
-pub mod SampleLemmas

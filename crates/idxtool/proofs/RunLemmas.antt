@@ -1,87 +1,58 @@
--- The numbers of the runs between blanks, one run after another.
-use Rattle.std.proofs.Common.{◌≡◌, ℕ, ◌+◌, ◌<◌, ◌≤◌, List, [], ◌∷◌, ◌++◌, length, get_or, drop, map, filter, Option, Some, None, option_and_then, refl, sym, ap, ◌∙◌, arith, append_assoc, length-append, append-nil}
-use Rattle.std.proofs.lemmas.List.{drop_more, drop_all}
-use Rattle.std.proofs.lemmas.Bool.Decides.{nat_tests}
-use Rattle.idxtool.specs.Number.{number_of}
-use Rattle.idxtool.specs.BoxWord.{all_of, has_bytes, up_to_ten}
+-- What the end of a run says, cause by cause.
+use Rattle.std.proofs.Common.{◌≡◌, ◌≢◌, ◌⊎◌, ℕ, List, length, Option, Some, None, inl, inr, refl, sym, ◌∙◌, subst, IfSome, IsSomeAnd}
+use Rattle.idx_outside.specs.Cause.{Rose}
+use Rattle.idxtool.specs.declared.cut_words.CutWords.{CutWords}
+use Rattle.idxtool.specs.declared.words.Command.{Command}
+use Rattle.idxtool.specs.declared.words.Command.TheVariants.{Cut}
+use Rattle.idxtool.specs.declared.causes.Cause.{Cause}
+use Rattle.idxtool.specs.declared.causes.Cause.TheVariants as causes
+use Rattle.idxtool.specs.Cause.{status_of}
+use Rattle.idxtool.specs.CutGrammar.{volume_bytes}
+use Rattle.idxtool.specs.CutRun.{RunEnds, HasSize}
+use Rattle.idxtool.specs.Words.{Give}
+use Rattle.idxtool.specs.Run.{AskFor, HasOtherSize, HasRightSize}
 
--- the numbers of these parts
-abbrev pub numbers_in : List (List ℕ) → Option (List ℕ)
-numbers_in parts = all_of (map number_of (filter has_bytes parts))
+not_right : (raw : Option (List ℕ)) (want : ℕ) → IfSome raw (λ bytes. length bytes ≡ want) → IsSomeAnd raw (λ bytes. length bytes ≢ want) → ⊥
+not_right None want right wrong = wrong
+not_right (Some bytes) want right wrong = wrong right
 
--- a number before others
-abbrev before : Option ℕ → Option (List ℕ) → Option (List ℕ)
-before n rest = option_and_then (λ first. option_and_then (λ ns. Some (first ∷ ns)) rest) n
+not_found : (raw : Option (List ℕ)) (want found : ℕ) → found ≢ want → IfSome raw (λ bytes. found ≡ length bytes) → IsSomeAnd raw (λ bytes. length bytes ≡ want) → ⊥
+not_found None want found other same right = right
+not_found (Some bytes) want found other same right = other (same ∙ right)
 
--- the numbers so far, and those that are left
-abbrev pub behind : List ℕ → Option (List ℕ) → Option (List ℕ)
-behind front rest = option_and_then (λ ns. Some (front ++ ns)) rest
+same_cut : (c d : CutWords) → Cut d ≡ Cut c → d ≡ c
+same_cut c d e = cc
 
--- the numbers so far, and those of the parts from this place on
-abbrev pub with_rest : List ℕ → List (List ℕ) → ℕ → Option (List ℕ)
-with_rest front parts at = behind front (numbers_in (drop at parts))
+module _ {K : Type 0} (contents : K → Option (List ℕ)) (faults : K → ℕ) (words : List (List ℕ)) (raw : Option (List ℕ)) (before after : ℕ) (old new : K) where
+  abbrev Ends : Cause → Type 0
+  Ends cause = RunEnds contents faults words raw before after old new cause
 
-numbers_in-skip : (run : List ℕ) (parts : List (List ℕ)) → length run ≡ 0 → numbers_in (run ∷ parts) ≡ numbers_in parts
-numbers_in-skip [] parts e = refl
-numbers_in-skip (b ∷ bs) parts e = absurd (omega arith)
+  -- the values of the words are those of the command
+  module _ (c : CutWords) (only : (other : Command) → Give words other → other ≡ Cut c) where
+    moved : (P : CutWords → Type 0) → AskFor words P → P c
+    moved P h = subst P (same_cut c h.0 (only (Cut h.0) h.1.0)) h.1.1
 
-numbers_in-run : (run : List ℕ) (parts : List (List ℕ)) → 0 < length run → numbers_in (run ∷ parts) ≡ before (number_of run) (numbers_in parts)
-numbers_in-run [] parts e = absurd (omega arith)
-numbers_in-run (b ∷ bs) parts e = refl
+    wrong_at : HasOtherSize words raw → HasSize c raw → ⊥
+    wrong_at h right = not_right raw (volume_bytes c) right (moved (λ d. IsSomeAnd raw (λ bytes. length bytes ≢ volume_bytes d)) h)
 
-behind-push : (front : List ℕ) (n : ℕ) (rest : Option (List ℕ)) → behind front (before (Some n) rest) ≡ behind (front ++ n ∷ []) rest
-behind-push front n None = refl
-behind-push front n (Some ns) = ap Some (sym (append_assoc front (n ∷ []) ns))
+    right_at : HasRightSize words raw → (want found : ℕ) → want ≡ volume_bytes c → found ≢ want → IfSome raw (λ bytes. found ≡ length bytes) → ⊥
+    right_at h want found asked other same =
+        not_found raw (volume_bytes c) found (λ e. other (e ∙ sym asked)) same (moved (λ d. IsSomeAnd raw (λ bytes. length bytes ≡ volume_bytes d)) h)
 
-up_to_ten-long : (ns : List ℕ) → 10 < length ns → up_to_ten ns ≡ None
-up_to_ten-long ns long = grind (arith, nat_tests)
+  pub other_size_ends : (cause : Cause) → Ends cause → HasOtherSize words raw → (status_of cause ≡ 3) ⊎ (status_of cause ≡ 4)
+  other_size_ends causes.Done (Cut c, (gives, only, ends)) h = absurd (wrong_at c only h ends.0)
+  other_size_ends (causes.Usage at) ends h = absurd (ends.0 (Cut h.0, h.1.0))
+  other_size_ends (causes.RawWrongSize want found) ends h = inl refl
+  other_size_ends causes.RawFault ends h = inr refl
+  other_size_ends causes.SinkFault (Cut c, (gives, only, ends)) h = absurd (wrong_at c only h ends.0)
+  other_size_ends causes.NoMemory (Cut c, (gives, only, ends)) h = absurd (wrong_at c only h ends.0)
 
-pub up_to_ten-short : (ns : List ℕ) → length ns ≤ 10 → up_to_ten ns ≡ Some ns
-up_to_ten-short ns short = grind (arith, nat_tests)
-
-up_to_ten-full : (front : List ℕ) (n : Option ℕ) (rest : Option (List ℕ)) → length front ≡ 10 → option_and_then up_to_ten (behind front (before n rest)) ≡ None
-up_to_ten-full front None rest ten = refl
-up_to_ten-full front (Some n) None ten = refl
-up_to_ten-full front (Some n) (Some ns) ten = up_to_ten-long (front ++ n ∷ ns) (simp length-append (omega arith))
-
-module _ (front : List ℕ) (parts : List (List ℕ)) (at : ℕ) (run : List ℕ) (inside : at < length parts) (here : run ≡ get_or parts at run) where
-  next : drop at parts ≡ run ∷ drop (at + 1) parts
-  next = drop_more parts at run inside ∙ ap (λ r. r ∷ drop (at + 1) parts) (sym here)
-
-  -- an empty run is passed over
-  pub with_rest-skip : length run ≡ 0 → with_rest front parts (at + 1) ≡ with_rest front parts at
-  with_rest-skip none = ap (behind front) (sym (ap numbers_in next ∙ numbers_in-skip run (drop (at + 1) parts) none))
-
-  parted : 0 < length run → numbers_in (drop at parts) ≡ before (number_of run) (numbers_in (drop (at + 1) parts))
-  parted some = ap numbers_in next ∙ numbers_in-run run (drop (at + 1) parts) some
-
-  -- a number goes to the front
-  pub with_rest-push : (n : ℕ) → 0 < length run → number_of run ≡ Some n → with_rest (front ++ n ∷ []) parts (at + 1) ≡ with_rest front parts at
-  with_rest-push n some reads =
-      let rest : Option (List ℕ) = numbers_in (drop (at + 1) parts) in
-      sym (ap (behind front) (parted some ∙ ap (λ m. before m rest) reads) ∙ behind-push front n rest)
-
-  -- where a run is no number, nothing is read
-  pub with_rest-none : 0 < length run → number_of run ≡ None → with_rest front parts at ≡ None
-  with_rest-none some reads =
-      let rest : Option (List ℕ) = numbers_in (drop (at + 1) parts) in
-      ap (behind front) (parted some ∙ ap (λ m. before m rest) reads)
-
-  -- there are more than ten
-  pub with_rest-full : 0 < length run → length front ≡ 10 → option_and_then up_to_ten (with_rest front parts at) ≡ None
-  with_rest-full some ten =
-      let rest : Option (List ℕ) = numbers_in (drop (at + 1) parts) in
-      ap (λ m. option_and_then up_to_ten (behind front m)) (parted some) ∙ up_to_ten-full front (number_of run) rest ten
-
--- at the end the numbers so far are all
-pub with_rest-end : (front : List ℕ) (parts : List (List ℕ)) (at : ℕ) → length parts ≤ at → with_rest front parts at ≡ Some front
-with_rest-end front parts at all =
-    ap (λ left. behind front (numbers_in left)) (drop_all at parts all) ∙ ap Some (append-nil front)
-
--- at the start all are left
-pub with_rest-start : (parts : List (List ℕ)) → with_rest [] parts 0 ≡ numbers_in parts
-with_rest-start parts = behind-nil (numbers_in parts)
-  where
-    behind-nil : (rest : Option (List ℕ)) → behind [] rest ≡ rest
-    behind-nil None = refl
-    behind-nil (Some ns) = refl
+  pub right_size_ends : (cause : Cause) → Ends cause → HasRightSize words raw → ¬ Rose before after → ¬ Rose (faults old) (faults new) →
+      (status_of cause ≡ 0) ⊎ (status_of cause ≡ 11)
+  right_size_ends causes.Done ends h no_fault taken = inl refl
+  right_size_ends (causes.Usage at) ends h no_fault taken = absurd (ends.0 (Cut h.0, h.1.0))
+  right_size_ends (causes.RawWrongSize want found) (Cut c, (gives, only, ends)) h no_fault taken =
+      absurd (right_at c only h want found ends.0 ends.1 ends.2)
+  right_size_ends causes.RawFault (Cut c, (gives, only, ends)) h no_fault taken = absurd (no_fault ends.0)
+  right_size_ends causes.SinkFault (Cut c, (gives, only, ends)) h no_fault taken = absurd (taken ends.1)
+  right_size_ends causes.NoMemory ends h no_fault taken = inr refl

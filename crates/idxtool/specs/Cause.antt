@@ -1,5 +1,5 @@
 -- The exit statuses of the causes.
-use Rattle.std.specs.Prelude.{ℕ, List, [], ◌++◌, codes}
+use Rattle.std.specs.Prelude.{ℕ, List, [], ◌∷◌, ◌++◌, codes}
 use Rattle.std.specs.Fmt.{decimal}
 use Rattle.idxtool.specs.declared.causes.Cause.{Cause}
 use Rattle.idxtool.specs.declared.causes.Cause.TheVariants as causes
@@ -20,3 +20,7 @@ line_of (causes.RawWrongSize want found) = codes "raw size want " ++ decimal wan
 line_of causes.RawFault = codes "raw fault"
 line_of causes.SinkFault = codes "sink fault"
 line_of causes.NoMemory = codes "no memory"
+
+-- the line as it is written to standard error; 10 is the line feed
+abbrev pub message_of : Cause → List ℕ
+message_of cause = codes "idxtool: " ++ line_of cause ++ 10 ∷ []

@@ -1,9 +1,9 @@
 -- What `cut` writes of a raw volume.
-use Rattle.std.specs.Prelude.{ℕ, List, [], ◌∷◌, length, if◌then◌else◌}
+use Rattle.std.specs.Prelude.{ℕ, List, [], ◌∷◌, length}
 use Rattle.std.specs.List.{slice_index_or}
 use Rattle.idx_geom.specs.Region.{points}
-use Rattle.idx_geom.specs.Volume.{volume_of, sample_at}
-use Rattle.idx_hz.specs.Answer.{answer, has_level}
+use Rattle.idx_geom.specs.Volume.{volume_of}
+use Rattle.idx_hz.specs.Answer.{answer}
 use Rattle.idxtool.specs.declared.cut_words.CutWords.{CutWords}
 
 -- the samples of the raw volume, which has one field
@@ -13,7 +13,3 @@ samples_in c raw = slice_index_or (volume_of (c.size ∷ []) (length (points c.e
 -- the answer of the raw volume under the box, the mask, the region and the levels of the words
 unfoldable pub cut_output : CutWords → List ℕ → List ℕ
 cut_output c raw = answer c.mask c.extent (samples_in c raw) c.region c.lo c.hi
-
--- what one point of the region adds to the answer
-abbrev pub point_output : CutWords → List ℕ → List ℕ → List ℕ
-point_output c raw p = if has_level c.mask c.lo c.hi p then sample_at c.extent (samples_in c raw) p else []

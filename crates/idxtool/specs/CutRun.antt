@@ -1,4 +1,4 @@
--- How a run of `cut` on one raw volume and one sink ends.
+-- How a run on one raw volume and one sink ends.
 use Rattle.std.specs.Prelude.{◌≡◌, ◌≢◌, ℕ, List, length, Option, IfSome}
 use Rattle.idx_outside.specs.Cause.{Rose}
 use Rattle.idx_outside.specs.Contents.{appended, AppendsPrefix}
@@ -6,6 +6,9 @@ use Rattle.idxtool.specs.declared.cut_words.CutWords.{CutWords}
 use Rattle.idxtool.specs.declared.causes.Cause.{Cause}
 use Rattle.idxtool.specs.declared.causes.Cause.TheVariants as causes
 use Rattle.idxtool.specs.CutGrammar.{volume_bytes}
+use Rattle.idxtool.specs.declared.words.Command.{Command}
+use Rattle.idxtool.specs.declared.words.Command.TheVariants.{Cut}
+use Rattle.idxtool.specs.Words.{Give, GiveCommand}
 use Rattle.idxtool.specs.CutOutput.{cut_output}
 
 -- A raw volume whose bytes are known has as many as the words ask for.
@@ -26,3 +29,15 @@ module _ {K : Type 0} (contents : K → Option (List ℕ)) (faults : K → ℕ) 
       HasSize c raw × Rose (faults old) (faults new)
       × IfSome raw (λ bytes. AppendsPrefix (contents old) (contents new) (cut_output c bytes))
   EndsWith c raw before after old new causes.NoMemory = HasSize c raw × (new ≡ old)
+
+  -- the same of a command
+  abbrev pub CommandEnds : Command → Option (List ℕ) → ℕ → ℕ → K → K → Cause → Type 0
+  CommandEnds (Cut c) raw before after old new cause = EndsWith c raw before after old new cause
+
+  -- The same of a run on a list of words: they are not in the grammar, and the sink is not touched; or they give this command
+  -- and no other.
+  abbrev pub RunEnds : List (List ℕ) → Option (List ℕ) → ℕ → ℕ → K → K → Cause → Type 0
+  RunEnds words raw before after old new (causes.Usage at) = (¬ GiveCommand words) × (new ≡ old)
+  RunEnds words raw before after old new cause =
+      (command : Command) × (Give words command × ((other : Command) → Give words other → other ≡ command)
+      × CommandEnds command raw before after old new cause)

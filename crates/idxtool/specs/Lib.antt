@@ -1,7 +1,5 @@
-pub mod Number
 pub mod PathWord
-pub mod BoxWord
-pub mod MaskWord
+pub mod CutWord
 pub mod CutGrammar
 pub mod CutOutput
 pub mod Cause

@@ -1,4 +1,4 @@
-ghost use Rattle.std.specs.Prelude.{◌≡◌};
+ghost use Rattle.std.specs.Prelude.{◌≡◌, ◌↔◌, IsTrue};
 ghost use Rattle.std.specs.Process.{exit_status};
 ghost use Rattle.idxtool.specs.Cause.{status_of};
 
@@ -20,6 +20,15 @@ pub enum Cause {
     SinkFault,
     /// There was not enough memory.
     NoMemory,
+}
+
+impl Cause {
+    /// Whether all was written.
+    pub fn is_done(self) -> bool
+        ensures { IsTrue result ↔ (self ≡ Cause.Done) }
+    {
+        matches!(self, Cause::Done)
+    }
 }
 
 /// How a run ended: the exit status, and why.

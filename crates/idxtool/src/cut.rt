@@ -1,20 +1,20 @@
-ghost use Rattle.std.specs.Prelude.{◌≡◌, ◌++◌, length, IfOk, OnOk};
-ghost use Rattle.idx_geom.specs.Region.{LiesIn};
-ghost use Rattle.idx_geom.specs.Volume.{sample_at};
-ghost use Rattle.idx_hz.specs.Answer.{has_level};
-ghost use Rattle.idx_outside.specs.Cause.{NeverFalls};
-ghost use Rattle.idxtool.specs.CutRun.{EndsWith};
-ghost use Rattle.idxtool.specs.CutGrammar.{volume_bytes, IsSound};
-ghost use Rattle.idxtool.specs.CutOutput.{samples_in, cut_output, point_output};
+ghost use Rattle.std.specs.Prelude.{◌≡◌, ◌<◌, ◌≤◌, Err, IfOk, IfSome, OnOk};
+ghost use Rattle.idx_outside.specs.Cause.{NeverFalls, Rose};
+ghost use Rattle.idx_raw.specs.Reads.{AreSamples, LiesIn};
+ghost use Rattle.idxtool.specs.CutRun.{EndsWith, HasSize};
+ghost use Rattle.idxtool.specs.CutGrammar.{IsSound};
+ghost use Rattle.idxtool.specs.CutOutput.{cut_output};
 
 use crate::causes::Cause;
 use crate::cut_words::CutWords;
-use idx_geom::Point;
-use idx_outside::{Bytes, NoMemory, Sink, Source};
+use idx_outside::{Sink, Source};
+use idx_raw::{ReadFault, read_samples};
+use idx_stride::Strides;
+use idx_walk::walk;
 use std::alloc::Global;
 
-/// Reads the raw volume whole, and then writes the samples that the words ask for. It reads nothing of a raw volume of
-/// another size.
+/// Reads the samples that the words ask for, and then writes them in one piece. It reads nothing of a raw volume of
+/// another size, and writes nothing before all is read.
 pub fn cut_volume<V: Source, K: Sink>(
     alloc: Global,
     cut: &CutWords,
@@ -26,7 +26,9 @@ pub fn cut_volume<V: Source, K: Sink>(
         (V.faults raw.old) (V.faults raw.new) out.old out.new result }
     ensures raw_same { V.contents raw.new ≡ V.contents raw.old }
     ensures raw_count { NeverFalls (V.faults raw.old) (V.faults raw.new) }
+    ensures raw_answered { V.faults raw.old < V.faults raw.new → result ≡ Cause.RawFault }
     ensures sink_count { NeverFalls (K.faults out.old) (K.faults out.new) }
+    ensures sink_answered { K.faults out.old < K.faults out.new → result ≡ Cause.SinkFault }
 {
     let want = cut.volume_bytes();
     let Ok(found) = raw.len() else {
@@ -35,63 +37,51 @@ pub fn cut_volume<V: Source, K: Sink>(
     if found != want {
         return Cause::RawWrongSize { want, found };
     }
-    let Ok(mut bytes) = Vec::from_elem(alloc, 0u8, want as usize) else {
-        return Cause::NoMemory;
+    let samples = match read_answer(alloc, cut, raw) {
+        Ok(samples) => samples,
+        Err(ReadFault::Outage) => return Cause::RawFault,
+        Err(ReadFault::NoMemory) => return Cause::NoMemory,
     };
-    if raw.read_at(0, &mut bytes).is_err() {
-        return Cause::RawFault;
-    }
-    let Ok(samples) = cut_samples(alloc, cut, &bytes) else {
-        return Cause::NoMemory;
-    };
-    match out.write(samples.as_slice()) {
+    match out.write(&samples) {
         Ok(()) => Cause::Done,
         Err(_) => Cause::SinkFault,
     }
 }
 
-/// The samples, in row-major order, of the region's points whose level is one of those that are asked for.
-pub fn cut_samples(alloc: Global, cut: &CutWords, raw: &[u8]) -> Result<Bytes, NoMemory>
+/// Reads, in row-major order, the samples of the region's points whose level is one of those that are asked for. Their
+/// memory is taken once.
+#[tactic(auto, unfolding(crate::specs::CutOutput::cut_output))]
+fn read_answer<V: Source>(alloc: Global, cut: &CutWords, raw: &mut V) -> Result<Vec<u8>, ReadFault>
     requires sound { IsSound cut.now }
-    requires whole { length raw.now ≡ volume_bytes cut.now }
-    ensures { IfOk result (λ samples. samples ≡ cut_output cut.now raw.now) }
+    requires size { HasSize cut.now (V.contents raw.old) }
+    ensures read { IfOk result (λ samples.
+        IfSome (V.contents raw.old) (λ bytes. samples.items ≡ cut_output cut.now bytes)) }
+    ensures contents { V.contents raw.new ≡ V.contents raw.old }
+    ensures quiet { OnOk result (V.faults raw.new ≡ V.faults raw.old) }
+    ensures no_memory { result ≡ Err ReadFault.NoMemory → V.faults raw.new ≡ V.faults raw.old }
+    ensures outage { result ≡ Err ReadFault.Outage → Rose (V.faults raw.old) (V.faults raw.new) }
 {
-    let mut samples = Bytes::new(alloc);
-    for place in 0..cut.region.count() {
-        append_sample(&mut samples, cut, raw, &cut.region.point_at(place))?;
+    let (lo, hi) = cut.levels();
+    match walk(&cut.mask, &cut.extent, &cut.region, lo, hi, cut.size) {
+        None => Ok(Vec::new(alloc)),
+        Some(strides) => read_walk(alloc, &strides, raw),
     }
+}
+
+/// Reads the samples of a walk.
+fn read_walk<V: Source>(alloc: Global, strides: &Strides, raw: &mut V) -> Result<Vec<u8>, ReadFault>
+    requires within { LiesIn (V.contents raw.old) strides.now }
+    requires few { strides.now.size ≤ 64 }
+    ensures read { IfOk result (λ samples. AreSamples (V.contents raw.old) strides.now samples.items) }
+    ensures contents { V.contents raw.new ≡ V.contents raw.old }
+    ensures quiet { OnOk result (V.faults raw.new ≡ V.faults raw.old) }
+    ensures no_memory { result ≡ Err ReadFault.NoMemory → V.faults raw.new ≡ V.faults raw.old }
+    ensures outage { result ≡ Err ReadFault.Outage → Rose (V.faults raw.old) (V.faults raw.new) }
+{
+    let bytes = (strides.count() * strides.size()) as usize;
+    let Ok(mut samples) = Vec::from_elem(alloc, 0u8, bytes) else {
+        return Err(ReadFault::NoMemory);
+    };
+    read_samples(alloc, strides, raw, &mut samples)?;
     Ok(samples)
-}
-
-/// Appends the point's sample, if its level is asked for.
-fn append_sample(samples: &mut Bytes, cut: &CutWords, raw: &[u8], p: &Point) -> Result<(), NoMemory>
-    requires sound { IsSound cut.now }
-    requires whole { length raw.now ≡ volume_bytes cut.now }
-    requires inside { LiesIn cut.now.region p.now }
-    ensures { OnOk result (samples.new ≡ samples.old ++ point_output cut.now raw.now p.now) }
-{
-    if has_level(cut, p) {
-        samples.append(sample(cut, raw, p))
-    } else {
-        Ok(())
-    }
-}
-
-fn has_level(cut: &CutWords, p: &Point) -> bool
-    requires sound { IsSound cut.now }
-    requires inside { LiesIn cut.now.region p.now }
-    ensures { result ≡ has_level cut.now.mask cut.now.lo cut.now.hi p.now }
-{
-    let level = u64::from(cut.mask.level_of(cut.mask.z_of(p)));
-    cut.lo <= level && level <= cut.hi
-}
-
-fn sample<'a>(cut: &CutWords, raw: &'a [u8], p: &Point) -> &'a [u8]
-    requires sound { IsSound cut.now }
-    requires whole { length raw.now ≡ volume_bytes cut.now }
-    requires inside { LiesIn cut.now.region p.now }
-    ensures { result.now ≡ sample_at cut.now.extent (samples_in cut.now raw.now) p.now }
-{
-    let start = (cut.extent.rank_of(p) * cut.size) as usize;
-    &raw[start..start + cut.size as usize]
 }

@@ -1,18 +1,17 @@
-ghost use Rattle.std.specs.Prelude.{◌≡◌, ◌≤◌, ◌<◌, length, map, is_none, IfSome, IfOk, IfErr, string_bytes, codes, []};
-ghost use Rattle.std.specs.Str.{bytes_eq};
-ghost use Rattle.std.specs.Result.{result_ok};
-ghost use Rattle.std.specs.List.{slice_index_or};
-ghost use Rattle.idxtool.specs.CutGrammar.{has_size, names_axes, is_below_from, is_masked, is_inside, has_levels, fits_together, volume_bytes, values_of, cut_of, IsSound};
+ghost use Rattle.std.specs.Prelude.{◌≡◌, ◌+◌, ◌≤◌, ◌↔◌, ℕ, List, length, map, IsNone, IfSome, IfErr, IfOk, Ok, Some, string_bytes};
+ghost use Rattle.idx_text.specs.Number.{number_of};
+ghost use Rattle.idx_text.specs.BoxText.{SpellsRegion};
+ghost use Rattle.idx_hz.specs.Mask.{IsMask};
+ghost use Rattle.idx_hz.specs.MaskText.{mask_text};
+ghost use Rattle.idxtool.specs.CutWord.{place_of};
+ghost use Rattle.idxtool.specs.declared.cut_words.CutWords.{CutWords};
+ghost use Rattle.idxtool.specs.CutGrammar.{volume_bytes, AreCutWords, IsSound};
 
-use crate::box_word::read_box;
-use crate::mask_word::read_mask;
-use crate::number::read_number;
+use crate::cut_word::CutWord;
 use crate::path::is_path;
-use idx_geom::{Point, Region};
+use idx_geom::Region;
 use idx_hz::Mask;
-
-/// `cut` and the seven words behind it.
-const WORDS: usize = 8;
+use idx_text::{read_box, read_number};
 
 const MAX_SAMPLE_BYTES: u64 = 64;
 
@@ -20,7 +19,7 @@ const MAX_SAMPLE_BYTES: u64 = 64;
 const MAX_VOLUME_BYTES: u64 = 1 << 30;
 
 /// The values that the words of `cut` stand for.
-#[derive(Drop)]
+#[derive(Clone, Copy, Debug)]
 pub struct CutWords {
     /// How many bytes a sample has, 1 to 64.
     pub size: u64,
@@ -45,155 +44,89 @@ impl CutWords {
         self.extent.count() * self.size
     }
 
-    /// The place of the first word that does not fit those before it: samples have 1 to 64 bytes and the raw volume at
-    /// most 2^30, the mask names axes of the box, which is inside the mask, the region is inside the box, and the levels
-    /// go from `lo` to `hi`, at most the mask's length.
-    #[tactic(auto, unfolding(crate::specs::CutGrammar::fits_together))]
-    fn misfit(&self) -> Option<u64>
-        ensures fits { is_none result ≡ fits_together self.now }
-        ensures place { IfSome result (λ at. at ≤ 8) }
+    /// The coarsest and the finest level that are asked for, which are at most the mask's length.
+    pub fn levels(&self) -> (u32, u32)
+        requires { IsSound self.now }
+        ensures { result ≡ (self.now.lo, self.now.hi) }
     {
-        if !self.has_size() {
-            return Some(if self.size < 1 || self.size > MAX_SAMPLE_BYTES {
-                2
-            } else {
-                3
-            });
+        let deepest = u64::from(self.mask.len());
+        (self.lo.min(deepest) as u32, self.hi.min(deepest) as u32)
+    }
+
+    /// The first word whose value does not fit those before it. `None` exactly where the values are sound.
+    fn misfit(&self) -> Option<CutWord>
+        ensures fits { IsNone result ↔ IsSound self.now }
+        ensures place { IfSome result (λ word. place_of word ≤ 8) }
+    {
+        if self.size < 1 || self.size > MAX_SAMPLE_BYTES {
+            return Some(CutWord::Size);
         }
-        if !is_masked(&self.mask, &self.extent) {
-            return Some(4);
+        if self.extent.count() * self.size > MAX_VOLUME_BYTES {
+            return Some(CutWord::Extent);
         }
-        if !is_inside(&self.extent, &self.region) {
-            return Some(5);
+        if !self.mask.holds(&self.extent) {
+            return Some(CutWord::Mask);
         }
-        if !self.has_levels() {
-            return Some(if self.lo > u64::from(self.mask.len()) {
-                6
-            } else {
-                7
-            });
+        if !self.extent.holds(&self.region) {
+            return Some(CutWord::Region);
+        }
+        if self.lo > u64::from(self.mask.len()) {
+            return Some(CutWord::Lo);
+        }
+        if self.hi < self.lo || self.hi > u64::from(self.mask.len()) {
+            return Some(CutWord::Hi);
         }
         None
     }
-
-    #[tactic(auto, unfolding(crate::specs::CutGrammar::has_size))]
-    fn has_size(&self) -> bool
-        ensures { result ≡ has_size self.now }
-    {
-        if self.size < 1 || self.size > MAX_SAMPLE_BYTES {
-            return false;
-        }
-        self.extent.count() * self.size <= MAX_VOLUME_BYTES
-    }
-
-    #[tactic(auto, unfolding(crate::specs::CutGrammar::has_levels))]
-    fn has_levels(&self) -> bool
-        ensures { result ≡ has_levels self.now }
-    {
-        self.lo <= self.hi && self.hi <= u64::from(self.mask.len())
-    }
 }
 
-#[tactic(auto, unfolding(crate::specs::CutGrammar::is_masked))]
-fn is_masked(mask: &Mask, extent: &Region) -> bool
-    ensures { result ≡ is_masked mask.now extent.now }
-{
-    names_axes(mask, extent.axes()) && is_below(mask, &extent.hi())
-}
-
-fn names_axes(mask: &Mask, axes: u32) -> bool
-    ensures { result ≡ names_axes mask.now axes }
-{
-    for place in 0..mask.len() {
-        if mask.axis(place + 1) >= axes {
-            return false;
-        }
-    }
-    true
-}
-
-fn is_below(mask: &Mask, p: &Point) -> bool
-    ensures { result ≡ is_below_from 0 mask.now p.now }
-{
-    for axis in 0..p.axes() {
-        if p.get(axis) >= 1 << mask.bits(axis) {
-            return false;
-        }
-    }
-    true
-}
-
-#[tactic(auto, unfolding(crate::specs::CutGrammar::is_inside))]
-fn is_inside(extent: &Region, region: &Region) -> bool
-    ensures { result ≡ is_inside extent.now region.now }
-{
-    if region.axes() != extent.axes() {
-        return false;
-    }
-    extent.contains(&region.lo()) && extent.contains(&region.hi())
-}
-
-/// The values that the words stand for. Where they are no words of `cut`, the place of a word that is wrong, counted
-/// from 0, or their number.
-pub fn read_cut(words: &[String]) -> Result<CutWords, u64>
-    ensures value { result_ok result ≡ cut_of (map string_bytes words.now) }
+/// The values that the words behind the command stand for. Where they are no words of `cut`, the first word that is
+/// wrong; where there are not seven words, the one that is missing, or the end that is expected.
+pub fn read_cut(words: &[String]) -> Result<CutWords, CutWord>
+    ensures read { (c : CutWords) → (result ≡ Ok c) ↔ AreCutWords (map string_bytes words.now) c }
     ensures sound { IfOk result IsSound }
-    ensures place { IfErr result (λ at. at ≤ length words.now) }
+    ensures place { IfErr result (λ word. place_of word ≤ length words.now + 1) }
 {
-    if words.len() != WORDS {
-        return Err(words.len().min(WORDS) as u64);
+    let [raw, size, extent, mask, region, lo, hi] = words else {
+        return Err(CutWord::behind(words.len()));
+    };
+    if !is_path(raw.as_bytes()) {
+        return Err(CutWord::Raw);
     }
-    if !is_cut(word_at(words, 0)) {
-        return Err(0);
-    }
-    if !is_path(word_at(words, 1)) {
-        return Err(1);
-    }
-    let cut = read_values(
-        word_at(words, 2),
-        word_at(words, 3),
-        word_at(words, 4),
-        word_at(words, 5),
-        word_at(words, 6),
-        word_at(words, 7),
-    )?;
+    let cut = CutWords {
+        size: number_in(size.as_bytes(), CutWord::Size)?,
+        extent: region_in(extent.as_bytes(), CutWord::Extent)?,
+        mask: mask_in(mask.as_bytes(), CutWord::Mask)?,
+        region: region_in(region.as_bytes(), CutWord::Region)?,
+        lo: number_in(lo.as_bytes(), CutWord::Lo)?,
+        hi: number_in(hi.as_bytes(), CutWord::Hi)?,
+    };
     match cut.misfit() {
         None => Ok(cut),
-        Some(at) => Err(at),
+        Some(word) => Err(word),
     }
 }
 
-fn is_cut(word: &[u8]) -> bool
-    ensures { result ≡ bytes_eq word.now (codes "cut") }
+/// The number that a word spells, or which word spells none.
+fn number_in(bytes: &[u8], word: CutWord) -> Result<u64, CutWord>
+    ensures read { (n : ℕ) → (result ≡ Ok n) ↔ (number_of bytes.now ≡ Some n) }
+    ensures wrong { IfErr result (λ e. e ≡ word) }
 {
-    word == b"cut".as_slice()
+    read_number(bytes).ok_or(word)
 }
 
-fn word_at(words: &[String], at: usize) -> &[u8]
-    requires { at < length words.now }
-    ensures { result.now ≡ slice_index_or (map string_bytes words.now) at [] }
+/// The region that a word spells, or which word spells none.
+fn region_in(bytes: &[u8], word: CutWord) -> Result<Region, CutWord>
+    ensures read { (r : List (ℕ × ℕ)) → (result ≡ Ok r) ↔ SpellsRegion bytes.now r }
+    ensures wrong { IfErr result (λ e. e ≡ word) }
 {
-    words[at].as_bytes()
+    read_box(bytes).ok_or(word)
 }
 
-#[tactic(auto, unfolding(crate::specs::CutGrammar::values_of))]
-fn read_values(
-    size: &[u8],
-    extent: &[u8],
-    mask: &[u8],
-    region: &[u8],
-    lo: &[u8],
-    hi: &[u8],
-) -> Result<CutWords, u64>
-    ensures value { result_ok result ≡ values_of size.now extent.now mask.now region.now lo.now hi.now }
-    ensures place { IfErr result (λ at. at ≤ 8) }
+/// The mask that a word spells, or which word spells none.
+fn mask_in(bytes: &[u8], word: CutWord) -> Result<Mask, CutWord>
+    ensures read { (mask : List ℕ) → (result ≡ Ok mask) ↔ (IsMask mask × (bytes.now ≡ mask_text mask)) }
+    ensures wrong { IfErr result (λ e. e ≡ word) }
 {
-    Ok(CutWords {
-        size: read_number(size).ok_or(2u64)?,
-        extent: read_box(extent).ok_or(3u64)?,
-        mask: read_mask(mask).ok_or(4u64)?,
-        region: read_box(region).ok_or(5u64)?,
-        lo: read_number(lo).ok_or(6u64)?,
-        hi: read_number(hi).ok_or(7u64)?,
-    })
+    Mask::parse(bytes).map_err(|_| word)
 }

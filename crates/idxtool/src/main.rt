@@ -1,37 +1,39 @@
 //! Reads a raw volume, and writes the samples of a region between two levels.
 #![tactic(auto)]
 
-mod box_word;
+ghost use Rattle.std.specs.Prelude.{◌≡◌, IfOk, vec_len};
+
 mod causes;
 mod cut;
+mod cut_word;
 mod cut_words;
 mod examples;
-mod mask_word;
-mod number;
-mod numbers;
 mod path;
+mod report;
 mod run;
 #[cfg(test)]
 mod tests;
+mod usage;
 mod words;
 
 use causes::{Cause, Done};
 use idx_real::{FileSource, StdSink};
+use report::report;
 use std::alloc::AllocError;
 use std::io::ErrorKind;
 use std::process::ExitCode;
 use std::{env, io};
+use usage::{text_asked_for, write_text};
 
 fn main(rt: HostRuntime) -> ExitCode {
-    let done = match given_words(&rt) {
-        Ok(words) => run_over_files(&rt, &words).unwrap_or(Done::of(Cause::NoMemory)),
-        Err(e) if e.kind() == ErrorKind::OutOfMemory => Done::of(Cause::NoMemory),
-        Err(_) => Done::of(Cause::Usage { at: 0 }),
-    };
-    if done.status != 0 {
-        let _ = eprintln!(rt; "idxtool: {}", done.cause);
+    match given_words(&rt) {
+        Ok(words) => match text_asked_for(&words) {
+            Some(text) => give_text(&rt, text),
+            None => give_run(&rt, &words),
+        },
+        Err(e) if e.kind() == ErrorKind::OutOfMemory => give_up(&rt, Cause::NoMemory),
+        Err(_) => give_up(&rt, Cause::Usage { at: 0 }),
     }
-    done.exit_code()
 }
 
 /// The words behind the program's name. Words that are not UTF-8 are an error.
@@ -39,11 +41,35 @@ fn given_words(rt: &HostRuntime) -> io::Result<Vec<String>> {
     Ok(env::args(rt)?.skip(1).collect(rt.alloc())?)
 }
 
-/// The run over a file and standard output.
-fn run_over_files(rt: &HostRuntime, words: &[String]) -> Result<Done, AllocError> {
-    let path = words::raw_path(rt.alloc(), words)?;
+/// Writes a text to standard output.
+fn give_text(rt: &HostRuntime, text: &str) -> ExitCode {
+    let mut out = StdSink::new(rt.stdout());
+    let done = write_text(&mut out, text);
+    report(&mut rt.stderr(), done, &[], None, out.last_fault())
+}
+
+/// Does what the words ask for, over files and standard output.
+fn give_run(rt: &HostRuntime, words: &[String]) -> ExitCode {
+    let Ok(mut raws) = raw_files(rt, words) else {
+        return give_up(rt, Cause::NoMemory);
+    };
+    let mut out = StdSink::new(rt.stdout());
+    let done = run::run(rt.alloc(), words, &mut raws, &mut out);
+    let raw_fault = raws[0].last_fault();
+    report(&mut rt.stderr(), done, words, raw_fault, out.last_fault())
+}
+
+/// The raw volumes that the words name: one, or one without a path.
+fn raw_files(rt: &HostRuntime, words: &[String]) -> Result<Vec<FileSource<HostRuntime>>, AllocError>
+    ensures { IfOk result (λ raws. vec_len raws ≡ 1) }
+{
+    let path = String::from_str(rt.alloc(), words::raw_path(words))?;
     let mut raws = Vec::with_capacity(rt.alloc(), 1)?;
     raws.push(FileSource::new(rt.clone()?, path))?;
-    let mut out = StdSink::new(rt.stdout());
-    Ok(run::run(rt.alloc(), words, &mut raws, &mut out))
+    Ok(raws)
+}
+
+/// Ends before anything was done.
+fn give_up(rt: &HostRuntime, cause: Cause) -> ExitCode {
+    report(&mut rt.stderr(), Done::of(cause), &[], None, None)
 }

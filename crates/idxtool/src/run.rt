@@ -1,8 +1,9 @@
-ghost use Rattle.std.specs.Prelude.{◌≡◌, ◌≢◌, ◌↔◌, ◌⊎◌, ℕ, ◌<◌, ◌≤◌, None, length, map, vec_len, string_bytes};
+ghost use Rattle.std.specs.Prelude.{◌≡◌, ◌≢◌, ◌↔◌, ◌⊎◌, ℕ, ◌<◌, ◌≤◌, length, map, vec_len, string_bytes};
 ghost use Rattle.idx_outside.specs.Cause.{NeverFalls, Rose};
 ghost use Rattle.idx_outside.specs.Objects.{contents_at, faults_at, UsesOnly};
 ghost use Rattle.idxtool.specs.Cause.{status_of};
-ghost use Rattle.idxtool.specs.Words.{command_of};
+ghost use Rattle.idxtool.specs.CutRun.{CommandEnds, RunEnds};
+ghost use Rattle.idxtool.specs.Words.{GiveCommand, IsSoundCommand};
 ghost use Rattle.idxtool.specs.Run.{HaveSameContents, WroteAnswer, WrotePrefix, AsksForOther, HasOtherSize, HasRightSize};
 
 use crate::causes::{Cause, Done};
@@ -33,7 +34,7 @@ pub fn run<V: Source, K: Sink>(
     ensures silent { result.status ≢ 0 → result.status ≢ 9 → out.new ≡ out.old }
 
     // Usage comes exactly where the words are not in the grammar, and then nothing was asked of a raw volume.
-    ensures usage { (result.status ≡ 1) ↔ (command_of (map string_bytes words.now) ≡ None) }
+    ensures usage { (result.status ≡ 1) ↔ (¬ GiveCommand (map string_bytes words.now)) }
     ensures place { (at : ℕ) → result.cause ≡ Cause.Usage at → at ≤ length words.now }
     ensures unasked { result.status ≡ 1 → raws.new.items ≡ raws.old.items }
 
@@ -48,6 +49,11 @@ pub fn run<V: Source, K: Sink>(
         Rose (faults_at V.faults raws.old.items 0) (faults_at V.faults raws.new.items 0) }
     ensures sink_fault { result.status ≡ 9 → Rose (K.faults out.old) (K.faults out.new) }
 
+    // A fault that was counted is answered.
+    ensures raw_answered { faults_at V.faults raws.old.items 0 < faults_at V.faults raws.new.items 0 →
+        result.status ≡ 4 }
+    ensures sink_answered { K.faults out.old < K.faults out.new → result.status ≡ 9 }
+
     // Where nothing is wrong and no fault was counted, all is written, unless there is not enough memory.
     ensures complete { HasRightSize (map string_bytes words.now) (contents_at V.contents raws.old.items 0) →
         ¬ Rose (faults_at V.faults raws.old.items 0) (faults_at V.faults raws.new.items 0) →
@@ -57,9 +63,52 @@ pub fn run<V: Source, K: Sink>(
     ensures raws { UsesOnly V.contents V.faults 0 raws.old.items raws.new.items }
     ensures sink_count { NeverFalls (K.faults out.old) (K.faults out.new) }
 {
-    let cause = match read_words(words) {
-        Ok(Command::Cut(cut)) => cut_volume(alloc, &cut, &mut raws[0], out),
-        Err(at) => Cause::Usage { at },
-    };
-    Done::of(cause)
+    Done::of(end_of_run(alloc, words, raws, out))
+}
+
+/// Does what the words ask for, and says why it ended.
+fn end_of_run<V: Source, K: Sink>(
+    alloc: Global,
+    words: &[String],
+    raws: &mut Vec<V>,
+    out: &mut K,
+) -> Cause
+    requires some { 0 < vec_len raws.old }
+    ensures ends { RunEnds K.contents K.faults (map string_bytes words.now) (contents_at V.contents raws.old.items 0)
+        (faults_at V.faults raws.old.items 0) (faults_at V.faults raws.new.items 0) out.old out.new result }
+    ensures place { (at : ℕ) → result ≡ Cause.Usage at → at ≤ length words.now }
+    ensures unasked { (at : ℕ) → result ≡ Cause.Usage at → raws.new.items ≡ raws.old.items }
+    ensures raw_answered { faults_at V.faults raws.old.items 0 < faults_at V.faults raws.new.items 0 →
+        result ≡ Cause.RawFault }
+    ensures sink_answered { K.faults out.old < K.faults out.new → result ≡ Cause.SinkFault }
+    ensures raws { UsesOnly V.contents V.faults 0 raws.old.items raws.new.items }
+    ensures sink_count { NeverFalls (K.faults out.old) (K.faults out.new) }
+{
+    match read_words(words) {
+        Ok(command) => run_command(alloc, &command, raws, out),
+        Err(misread) => Cause::Usage { at: misread.at },
+    }
+}
+
+/// Does what a command asks for, and says why it ended.
+fn run_command<V: Source, K: Sink>(
+    alloc: Global,
+    command: &Command,
+    raws: &mut Vec<V>,
+    out: &mut K,
+) -> Cause
+    requires some { 0 < vec_len raws.old }
+    requires sound { IsSoundCommand command.now }
+    ensures ends { CommandEnds K.contents K.faults command.now (contents_at V.contents raws.old.items 0)
+        (faults_at V.faults raws.old.items 0) (faults_at V.faults raws.new.items 0) out.old out.new result }
+    ensures read { (at : ℕ) → result ≢ Cause.Usage at }
+    ensures raw_answered { faults_at V.faults raws.old.items 0 < faults_at V.faults raws.new.items 0 →
+        result ≡ Cause.RawFault }
+    ensures sink_answered { K.faults out.old < K.faults out.new → result ≡ Cause.SinkFault }
+    ensures raws { UsesOnly V.contents V.faults 0 raws.old.items raws.new.items }
+    ensures sink_count { NeverFalls (K.faults out.old) (K.faults out.new) }
+{
+    match command {
+        Command::Cut(cut) => cut_volume(alloc, cut, &mut raws[0], out),
+    }
 }

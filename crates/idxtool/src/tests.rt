@@ -1,6 +1,15 @@
+ghost use Rattle.idxtool.specs.CutGrammar.{IsSound};
+ghost use Rattle.idxtool.specs.Words.{IsSoundCommand};
+
 use crate::causes::{Cause, Done};
+use crate::cut_words::CutWords;
+use crate::report::report;
 use crate::run::run;
-use idx_outside::{Bytes, MemSink, MemSource};
+use crate::usage::{text_asked_for, write_text};
+use crate::words::{Command, read_words};
+use idx_outside::{Bytes, MemSink, MemSource, NoMemory};
+use idx_real::{Fault, Reason};
+use idx_walk::answer_by_points;
 use std::alloc::{AllocError, Global};
 use std::test::Fail;
 
@@ -114,6 +123,75 @@ fn each_object_is_called_as_often_as_needed(rt: HostRuntime) -> Result<(), Fail>
     let (done, written) = run_in_memory(rt.alloc(), &words, &RAW[..16], &[3], &[2])?;
     assert_eq!(rt; done.cause, Cause::Done);
     assert_eq!(rt; written.as_slice(), [0, 2, 8, 10].as_slice());
+    Ok(())
+}
+
+/// A region without a point between the levels has an empty answer, and that is written too.
+#[test]
+fn an_empty_answer_is_written(rt: HostRuntime) -> Result<(), Fail> {
+    let words = changed(rt.alloc(), &[(5, "1 1 1 1"), (7, "0")])?;
+    let (done, _) = run_in_memory(rt.alloc(), &words, &RAW[..16], &[], &[1])?;
+    assert_eq!(rt; done.cause, Cause::SinkFault);
+    Ok(())
+}
+
+/// What the plain search finds in a raw volume of the right length.
+fn searched(alloc: Global, words: &[String], raw: &[u8]) -> Result<Bytes, NoMemory> {
+    match read_words(words) {
+        Ok(command) => searched_for(alloc, &command, raw),
+        Err(_) => Ok(Bytes::new(alloc)),
+    }
+}
+
+fn searched_for(alloc: Global, command: &Command, raw: &[u8]) -> Result<Bytes, NoMemory>
+    requires { IsSoundCommand command.now }
+{
+    match command {
+        Command::Cut(cut) => searched_in(alloc, cut, raw),
+    }
+}
+
+fn searched_in(alloc: Global, cut: &CutWords, raw: &[u8]) -> Result<Bytes, NoMemory>
+    requires { IsSound cut.now }
+{
+    if raw.len() as u64 != cut.volume_bytes() {
+        return Ok(Bytes::new(alloc));
+    }
+    let (mask, extent, region) = (&cut.mask, &cut.extent, &cut.region);
+    answer_by_points(alloc, mask, extent, region, cut.levels(), cut.size, raw)
+}
+
+/// Samples that are read by many windows are those that the plain search finds, in a volume of odd extents whose rows
+/// begin off the grids.
+#[test]
+fn windows_join_without_a_seam(rt: HostRuntime) -> Result<(), Fail> {
+    let (extent, region) = ("0 130 2 68 1 99", "3 129 2 67 4 99");
+    let mask = "V0021012012012012012012";
+    let length = 131 * 67 * 99 * 2;
+    let raw: Vec<u8> = (0..length as usize)
+        .map(|n| (n * 7 % 251) as u8)
+        .collect(rt.alloc())?;
+    for (lo, hi) in [
+        ("0", "22"),
+        ("0", "20"),
+        ("22", "22"),
+        ("17", "20"),
+        ("20", "20"),
+    ] {
+        let changes = [
+            (2, "2"),
+            (3, extent),
+            (4, mask),
+            (5, region),
+            (6, lo),
+            (7, hi),
+        ];
+        let words = changed(rt.alloc(), &changes)?;
+        let (done, written) = run_in_memory(rt.alloc(), &words, &raw, &[], &[])?;
+        assert_eq!(rt; done.cause, Cause::Done, "{lo} {hi}");
+        let want = searched(rt.alloc(), &words, &raw)?;
+        assert!(rt; written.as_slice() == want.as_slice(), "{lo} {hi}");
+    }
     Ok(())
 }
 
@@ -250,6 +328,15 @@ fn the_first_refusal_ends_the_run(rt: HostRuntime) -> Result<(), Fail> {
                 found: 17,
             },
         ),
+        (
+            15,
+            [2].as_slice(),
+            [].as_slice(),
+            Cause::RawWrongSize {
+                want: 16,
+                found: 15,
+            },
+        ),
         (15, [1].as_slice(), [1].as_slice(), Cause::RawFault),
         (16, [2].as_slice(), [1].as_slice(), Cause::RawFault),
         (16, [].as_slice(), [1].as_slice(), Cause::SinkFault),
@@ -280,5 +367,49 @@ fn causes_have_statuses_and_lines(rt: HostRuntime) -> Result<(), Fail> {
         let printed = format!(in rt.alloc(); "{cause}")?;
         assert_eq!(rt; printed.as_str(), line);
     }
+    Ok(())
+}
+
+/// What is printed of a run that ended so.
+fn printed(alloc: Global, cause: Cause, words: &[String], raw_fault: Option<Fault<'_>>) -> Vec<u8> {
+    let mut err = Vec::new(alloc);
+    let _ = report(&mut err, Done::of(cause), words, raw_fault, None);
+    err
+}
+
+#[test]
+fn a_message_says_what_helps(rt: HostRuntime) -> Result<(), Fail> {
+    let split = "cut r.raw 1 0 3 0 3 V0101 0 3 0 3 0 2";
+    let mut words = Vec::new(rt.alloc());
+    for word in split.split(' ') {
+        words.push(String::from_str(rt.alloc(), word)?)?;
+    }
+    let shown = printed(rt.alloc(), Cause::Usage { at: 8 }, &words, None);
+    let want = b"idxtool: usage at 8\n  word 8 is `0`\n  \
+        expected the end of the words: cut RAW SIZE BOX MASK REGION LO HI\n  \
+        a box is one word: quote it, as \"0 63 0 63\"\n  idxtool --help says more\n";
+    assert_eq!(rt; shown.as_slice(), want.as_slice());
+    let fault = Fault {
+        path: "r.raw",
+        reason: Reason::NotRegularFile,
+    };
+    let shown = printed(rt.alloc(), Cause::RawFault, &words, Some(fault));
+    let want = b"idxtool: raw fault\n  r.raw: not a regular file\n";
+    assert_eq!(rt; shown.as_slice(), want.as_slice());
+    let shown = printed(rt.alloc(), Cause::Done, &words, Some(fault));
+    assert!(rt; shown.is_empty());
+    Ok(())
+}
+
+#[test]
+fn help_is_asked_for_alone(rt: HostRuntime) -> Result<(), Fail> {
+    let words = owned(rt.alloc(), &["--version"])?;
+    let text = text_asked_for(&words).expect(&rt, "a text");
+    let mut out = MemSink::new(Vec::new(rt.alloc()));
+    assert_eq!(rt; write_text(&mut out, text).status, 0);
+    assert_eq!(rt; out.written().as_slice(), b"idxtool 0.1.0\n".as_slice());
+    assert!(rt; text_asked_for(&owned(rt.alloc(), &["--help"])?).is_some());
+    assert!(rt; text_asked_for(&owned(rt.alloc(), &["--help", "cut"])?).is_none());
+    assert!(rt; text_asked_for(&owned(rt.alloc(), &BASE)?).is_none());
     Ok(())
 }

@@ -1,60 +1,98 @@
-use Rattle.std.proofs.Common.{◌≡◌, ◌∙◌, ℕ, List, map, length, string_bytes, true, false, ap, sym, arith, Some, None, codes}
-use Rattle.std.specs.Str.{bytes_eq}
+use Rattle.std.proofs.Common.{◌≡◌, ℕ, map, Result, Ok, Some, string_bytes, List, sym, ap, ◌∙◌, arith, refl, subst}
 use Rattle.std.proofs.lemmas.List.{length-map}
-use Rattle.std.specs.Result.{result_ok}
-use Rattle.std.proofs.lemmas.Result.{err_from_is_err_and}
-use Rattle.idxtool.specs.CutGrammar.{values_of}
+use Rattle.std.proofs.lemmas.Bool.{false≢true}
+use Rattle.idx_text.specs.Number.{number_of}
+use Rattle.idx_text.specs.BoxText.{SpellsRegion}
+use Rattle.idx_hz.specs.Mask.{IsMask}
+use Rattle.idx_hz.specs.MaskText.{mask_text}
+use Rattle.idxtool.specs.declared.cut_words.CutWords.{CutWords}
 use Rattle.idxtool.specs.PathWord.{is_path}
-use Rattle.idxtool.proofs.CutOfLemmas.{word, values_in, cut_of-other_count, cut_of-other_command, cut_of-no_path, cut_of-no_values, cut_of-misfit, cut_of-fitting}
-use Rattle.idxtool.proofs.SoundLemmas.{IsSound-from_test}
+use Rattle.idxtool.specs.CutGrammar.{AreCutWords, IsSound}
+use Rattle.idxtool.proofs.GrammarLemmas.{word, AreSpelled, spelled, cut_words_from, word-map, refused, unread, read_once, read_spelled}
 use Rattle.idxtool.proofs.cut_words.read_cut.Goals as goal
+use Rattle.idxtool.proofs.cut_words.read_cut.Goals.{After-misfit}
 
-pub returns-then-words-ne-WORDS-clause-value : goal.returns-then-words-ne-WORDS-clause-value
-returns-then-words-ne-WORDS-clause-value c =
-    let words : List (List ℕ) = map string_bytes c.args.words.now in
-    let len : length words ≡ length c.args.words.now = length-map c.args.words.now string_bytes in
-    sym (cut_of-other_count words (omega arith))
+pub returns-in_err-number_in-clause-read : goal.returns-in_err-number_in-clause-read
+returns-in_err-number_in-clause-read c =
+    refused _ (map string_bytes c.args.words.now) c.from_residual.ensures.0 (λ d h.
+    unread c.in_err-number_in.field-0.0 (λ (w : List ℕ) (n : ℕ). number_of w ≡ Some n) c.as_bytes-2.result.now (word (map string_bytes c.args.words.now) 1)
+    c.in_err-number_in.ensures.read (word-map string_bytes c.args.words.now 1 c.size-item.result (omega arith) c.size-item.is ∙ sym c.as_bytes-2.ensures.value) d.size h.values.size)
 
-pub returns-then-not-is_cut-clause-value : goal.returns-then-not-is_cut-clause-value
-returns-then-not-is_cut-clause-value c =
-    let words : List (List ℕ) = map string_bytes c.args.words.now in
-    let other : bytes_eq (word words 0) (codes "cut") ≡ false =
-    ap (λ w. bytes_eq w (codes "cut")) (sym c.word_at.ensures) ∙ sym c.is_cut.ensures ∙ c.if-not-is_cut.true in
-    sym (cut_of-other_command words (length-map c.args.words.now string_bytes ∙ c.if-words-ne-WORDS.false) other)
+pub returns-in_err-region_in-clause-read : goal.returns-in_err-region_in-clause-read
+returns-in_err-region_in-clause-read c =
+    refused _ (map string_bytes c.args.words.now) c.from_residual-in_err-region_in.ensures.0 (λ d h.
+    unread c.in_err-region_in.field-0.0 (λ (w : List ℕ) (r : List (ℕ × ℕ)). SpellsRegion w r) c.as_bytes-3.result.now (word (map string_bytes c.args.words.now) 2)
+    c.in_err-region_in.ensures.read (word-map string_bytes c.args.words.now 2 c.extent-item.result (omega arith) c.extent-item.is ∙ sym c.as_bytes-3.ensures.value) d.extent h.values.extent)
 
-pub returns-then-not-is_path-clause-value : goal.returns-then-not-is_path-clause-value
-returns-then-not-is_path-clause-value c =
-    let words : List (List ℕ) = map string_bytes c.args.words.now in
-    let other : is_path (word words 1) ≡ false = ap is_path (sym c.word_at-2.ensures) ∙ sym c.is_path.ensures ∙ c.if-not-is_path.true in
-    sym (cut_of-no_path words (length-map c.args.words.now string_bytes ∙ c.if-words-ne-WORDS.false) other)
+pub returns-in_err-mask_in-clause-read : goal.returns-in_err-mask_in-clause-read
+returns-in_err-mask_in-clause-read c =
+    refused _ (map string_bytes c.args.words.now) c.from_residual-in_err-mask_in.ensures.0 (λ d h.
+    unread c.in_err-mask_in.field-0.0 (λ (w : List ℕ) (m : List ℕ). IsMask m × (w ≡ mask_text m)) c.as_bytes-4.result.now (word (map string_bytes c.args.words.now) 3)
+    c.in_err-mask_in.ensures.read (word-map string_bytes c.args.words.now 3 c.mask-item.result (omega arith) c.mask-item.is ∙ sym c.as_bytes-4.ensures.value) d.mask (h.values.digits, h.values.mask))
 
-pub returns-in_err-cut-clause-value : goal.returns-in_err-cut-clause-value
-returns-in_err-cut-clause-value c =
-    let words : List (List ℕ) = map string_bytes c.args.words.now in
-    let command : bytes_eq (word words 0) (codes "cut") ≡ true =
-    ap (λ w. bytes_eq w (codes "cut")) (sym c.word_at.ensures) ∙ sym c.is_cut.ensures ∙ c.if-not-is_cut.false in
-    let path : is_path (word words 1) ≡ true = ap is_path (sym c.word_at-2.ensures) ∙ sym c.is_path.ensures ∙ c.if-not-is_path.false in
-    let read : values_in words ≡ None = (λ i. values_of (sym c.word_at-3.ensures i) (sym c.word_at-4.ensures i) (sym c.word_at-5.ensures i) (sym c.word_at-6.ensures i) (sym c.word_at-7.ensures i) (sym c.word_at-8.ensures i)) ∙ sym c.in_err-cut.ensures.value in
-    let left = err_from_is_err_and c.from_residual.result c.from_residual.ensures.1 in
-    ap result_ok left.1 ∙ sym (cut_of-no_values words (length-map c.args.words.now string_bytes ∙ c.if-words-ne-WORDS.false) command path read)
+pub returns-in_err-region_in-2-clause-read : goal.returns-in_err-region_in-2-clause-read
+returns-in_err-region_in-2-clause-read c =
+    refused _ (map string_bytes c.args.words.now) c.from_residual-in_err-region_in-2.ensures.0 (λ d h.
+    unread c.in_err-region_in-2.field-0.0 (λ (w : List ℕ) (r : List (ℕ × ℕ)). SpellsRegion w r) c.as_bytes-5.result.now (word (map string_bytes c.args.words.now) 4)
+    c.in_err-region_in-2.ensures.read (word-map string_bytes c.args.words.now 4 c.region-item.result (omega arith) c.region-item.is ∙ sym c.as_bytes-5.ensures.value) d.region h.values.region)
 
-pub returns-in-None-clause-value : goal.returns-in-None-clause-value
-returns-in-None-clause-value c =
-    let words : List (List ℕ) = map string_bytes c.args.words.now in
-    let command : bytes_eq (word words 0) (codes "cut") ≡ true =
-    ap (λ w. bytes_eq w (codes "cut")) (sym c.word_at.ensures) ∙ sym c.is_cut.ensures ∙ c.if-not-is_cut.false in
-    let path : is_path (word words 1) ≡ true = ap is_path (sym c.word_at-2.ensures) ∙ sym c.is_path.ensures ∙ c.if-not-is_path.false in
-    let read : values_in words ≡ Some c.in_ok-cut.cut = (λ i. values_of (sym c.word_at-3.ensures i) (sym c.word_at-4.ensures i) (sym c.word_at-5.ensures i) (sym c.word_at-6.ensures i) (sym c.word_at-7.ensures i) (sym c.word_at-8.ensures i)) ∙ sym c.in_ok-cut.ensures.value in
-    sym (cut_of-fitting words (length-map c.args.words.now string_bytes ∙ c.if-words-ne-WORDS.false) command path c.in_ok-cut.cut read (sym c.in-None.ensures.fits))
+pub returns-in_err-number_in-2-clause-read : goal.returns-in_err-number_in-2-clause-read
+returns-in_err-number_in-2-clause-read c =
+    refused _ (map string_bytes c.args.words.now) c.from_residual-in_err-number_in-2.ensures.0 (λ d h.
+    unread c.in_err-number_in-2.field-0.0 (λ (w : List ℕ) (n : ℕ). number_of w ≡ Some n) c.as_bytes-6.result.now (word (map string_bytes c.args.words.now) 5)
+    c.in_err-number_in-2.ensures.read (word-map string_bytes c.args.words.now 5 c.lo-item.result (omega arith) c.lo-item.is ∙ sym c.as_bytes-6.ensures.value) d.lo h.values.lo)
 
-pub returns-in-Some-clause-value : goal.returns-in-Some-clause-value
-returns-in-Some-clause-value c =
-    let words : List (List ℕ) = map string_bytes c.args.words.now in
-    let command : bytes_eq (word words 0) (codes "cut") ≡ true =
-    ap (λ w. bytes_eq w (codes "cut")) (sym c.word_at.ensures) ∙ sym c.is_cut.ensures ∙ c.if-not-is_cut.false in
-    let path : is_path (word words 1) ≡ true = ap is_path (sym c.word_at-2.ensures) ∙ sym c.is_path.ensures ∙ c.if-not-is_path.false in
-    let read : values_in words ≡ Some c.in_ok-cut.cut = (λ i. values_of (sym c.word_at-3.ensures i) (sym c.word_at-4.ensures i) (sym c.word_at-5.ensures i) (sym c.word_at-6.ensures i) (sym c.word_at-7.ensures i) (sym c.word_at-8.ensures i)) ∙ sym c.in_ok-cut.ensures.value in
-    sym (cut_of-misfit words (length-map c.args.words.now string_bytes ∙ c.if-words-ne-WORDS.false) command path c.in_ok-cut.cut read (sym c.in-Some.ensures.fits))
+pub returns-in_err-number_in-3-clause-read : goal.returns-in_err-number_in-3-clause-read
+returns-in_err-number_in-3-clause-read c =
+    refused _ (map string_bytes c.args.words.now) c.from_residual-in_err-number_in-3.ensures.0 (λ d h.
+    unread c.in_err-number_in-3.field-0.0 (λ (w : List ℕ) (n : ℕ). number_of w ≡ Some n) c.as_bytes-7.result.now (word (map string_bytes c.args.words.now) 6)
+    c.in_err-number_in-3.ensures.read (word-map string_bytes c.args.words.now 6 c.hi-item.result (omega arith) c.hi-item.is ∙ sym c.as_bytes-7.ensures.value) d.hi h.values.hi)
 
-pub returns-in-None-clause-sound : goal.returns-in-None-clause-sound
-returns-in-None-clause-sound c = IsSound-from_test c.in_ok-cut.cut (sym c.in-None.ensures.fits)
+same_words : {E : Type 0} (c d : CutWords) → ◌≡◌ {A = Result CutWords E} (Ok c) (Ok d) → c ≡ d
+same_words c d e = cc
+
+-- words with these values have those that were read
+read_values : (c : After-misfit) (d : CutWords) → AreSpelled (map string_bytes c.args.words.now) d → record { size = c.in_ok-number_in.field-0; extent = c.in_ok-region_in.field-0; mask = c.in_ok-mask_in.field-0; region = c.in_ok-region_in-2.field-0; lo = c.in_ok-number_in-2.field-0; hi = c.in_ok-number_in-3.field-0 } ≡ d
+read_values c d h =
+    let ws : List (List ℕ) = map string_bytes c.args.words.now in
+    let size = read_once (λ (w : List ℕ) (n : ℕ). number_of w ≡ Some n) c.as_bytes-2.result.now (word ws 1) c.in_ok-number_in.field-0 c.number_in.result c.in_ok-number_in.was c.number_in.ensures.read (word-map string_bytes c.args.words.now 1 c.size-item.result (omega arith) c.size-item.is ∙ sym c.as_bytes-2.ensures.value) d.size h.values.size in
+    let extent = read_once (λ (w : List ℕ) (r : List (ℕ × ℕ)). SpellsRegion w r) c.as_bytes-3.result.now (word ws 2) c.in_ok-region_in.field-0 c.region_in.result c.in_ok-region_in.was c.region_in.ensures.read (word-map string_bytes c.args.words.now 2 c.extent-item.result (omega arith) c.extent-item.is ∙ sym c.as_bytes-3.ensures.value) d.extent h.values.extent in
+    let mask = read_once (λ (w : List ℕ) (m : List ℕ). IsMask m × (w ≡ mask_text m)) c.as_bytes-4.result.now (word ws 3) c.in_ok-mask_in.field-0 c.mask_in.result c.in_ok-mask_in.was c.mask_in.ensures.read (word-map string_bytes c.args.words.now 3 c.mask-item.result (omega arith) c.mask-item.is ∙ sym c.as_bytes-4.ensures.value) d.mask (h.values.digits, h.values.mask) in
+    let region = read_once (λ (w : List ℕ) (r : List (ℕ × ℕ)). SpellsRegion w r) c.as_bytes-5.result.now (word ws 4) c.in_ok-region_in-2.field-0 c.region_in-2.result c.in_ok-region_in-2.was c.region_in-2.ensures.read (word-map string_bytes c.args.words.now 4 c.region-item.result (omega arith) c.region-item.is ∙ sym c.as_bytes-5.ensures.value) d.region h.values.region in
+    let lo = read_once (λ (w : List ℕ) (n : ℕ). number_of w ≡ Some n) c.as_bytes-6.result.now (word ws 5) c.in_ok-number_in-2.field-0 c.number_in-2.result c.in_ok-number_in-2.was c.number_in-2.ensures.read (word-map string_bytes c.args.words.now 5 c.lo-item.result (omega arith) c.lo-item.is ∙ sym c.as_bytes-6.ensures.value) d.lo h.values.lo in
+    let hi = read_once (λ (w : List ℕ) (n : ℕ). number_of w ≡ Some n) c.as_bytes-7.result.now (word ws 6) c.in_ok-number_in-3.field-0 c.number_in-3.result c.in_ok-number_in-3.was c.number_in-3.ensures.read (word-map string_bytes c.args.words.now 6 c.hi-item.result (omega arith) c.hi-item.is ∙ sym c.as_bytes-7.ensures.value) d.hi h.values.hi in
+    λ i. record { size = size i; extent = extent i; mask = mask i; region = region i; lo = lo i; hi = hi i }
+
+-- the words spell the values that were read
+values_spelled : (c : After-misfit) → IsSound (record { size = c.in_ok-number_in.field-0; extent = c.in_ok-region_in.field-0; mask = c.in_ok-mask_in.field-0; region = c.in_ok-region_in-2.field-0; lo = c.in_ok-number_in-2.field-0; hi = c.in_ok-number_in-3.field-0 }) → AreSpelled (map string_bytes c.args.words.now) (record { size = c.in_ok-number_in.field-0; extent = c.in_ok-region_in.field-0; mask = c.in_ok-mask_in.field-0; region = c.in_ok-region_in-2.field-0; lo = c.in_ok-number_in-2.field-0; hi = c.in_ok-number_in-3.field-0 })
+values_spelled c sound =
+    let ws : List (List ℕ) = map string_bytes c.args.words.now in
+    let size = read_spelled (λ (w : List ℕ) (n : ℕ). number_of w ≡ Some n) c.as_bytes-2.result.now (word ws 1) c.in_ok-number_in.field-0 c.number_in.result c.in_ok-number_in.was c.number_in.ensures.read (word-map string_bytes c.args.words.now 1 c.size-item.result (omega arith) c.size-item.is ∙ sym c.as_bytes-2.ensures.value) in
+    let extent = read_spelled (λ (w : List ℕ) (r : List (ℕ × ℕ)). SpellsRegion w r) c.as_bytes-3.result.now (word ws 2) c.in_ok-region_in.field-0 c.region_in.result c.in_ok-region_in.was c.region_in.ensures.read (word-map string_bytes c.args.words.now 2 c.extent-item.result (omega arith) c.extent-item.is ∙ sym c.as_bytes-3.ensures.value) in
+    let mask = read_spelled (λ (w : List ℕ) (m : List ℕ). IsMask m × (w ≡ mask_text m)) c.as_bytes-4.result.now (word ws 3) c.in_ok-mask_in.field-0 c.mask_in.result c.in_ok-mask_in.was c.mask_in.ensures.read (word-map string_bytes c.args.words.now 3 c.mask-item.result (omega arith) c.mask-item.is ∙ sym c.as_bytes-4.ensures.value) in
+    let region = read_spelled (λ (w : List ℕ) (r : List (ℕ × ℕ)). SpellsRegion w r) c.as_bytes-5.result.now (word ws 4) c.in_ok-region_in-2.field-0 c.region_in-2.result c.in_ok-region_in-2.was c.region_in-2.ensures.read (word-map string_bytes c.args.words.now 4 c.region-item.result (omega arith) c.region-item.is ∙ sym c.as_bytes-5.ensures.value) in
+    let lo = read_spelled (λ (w : List ℕ) (n : ℕ). number_of w ≡ Some n) c.as_bytes-6.result.now (word ws 5) c.in_ok-number_in-2.field-0 c.number_in-2.result c.in_ok-number_in-2.was c.number_in-2.ensures.read (word-map string_bytes c.args.words.now 5 c.lo-item.result (omega arith) c.lo-item.is ∙ sym c.as_bytes-6.ensures.value) in
+    let hi = read_spelled (λ (w : List ℕ) (n : ℕ). number_of w ≡ Some n) c.as_bytes-7.result.now (word ws 6) c.in_ok-number_in-3.field-0 c.number_in-3.result c.in_ok-number_in-3.was c.number_in-3.ensures.read (word-map string_bytes c.args.words.now 6 c.hi-item.result (omega arith) c.hi-item.is ∙ sym c.as_bytes-7.ensures.value) in
+    record {
+      count = length-map c.args.words.now string_bytes ∙ omega arith;
+      raw = ap is_path (word-map string_bytes c.args.words.now 0 c.raw-item.result (omega arith) c.raw-item.is ∙ sym c.as_bytes.ensures.value) ∙ sym c.is_path.ensures ∙ c.if-not-is_path.false;
+      values = record { size = size; extent = extent; mask = mask.1; digits = mask.0; region = region; lo = lo; hi = hi };
+      sound = sound;
+    }
+
+pub returns-in-None-clause-read : goal.returns-in-None-clause-read
+returns-in-None-clause-read c =
+    let at = goal.at.returns-in-None-clause-read c in
+    let ws : List (List ℕ) = map string_bytes c.args.words.now in
+    let sound = c.in-None.ensures.fits.0 refl in
+    let whole = cut_words_from ws (record { size = c.in_ok-number_in.field-0; extent = c.in_ok-region_in.field-0; mask = c.in_ok-mask_in.field-0; region = c.in_ok-region_in-2.field-0; lo = c.in_ok-number_in-2.field-0; hi = c.in_ok-number_in-3.field-0 }) (values_spelled at.After-misfit sound) in
+    λ d. (
+      (λ same. subst (AreCutWords ws) (same_words (record { size = c.in_ok-number_in.field-0; extent = c.in_ok-region_in.field-0; mask = c.in_ok-mask_in.field-0; region = c.in_ok-region_in-2.field-0; lo = c.in_ok-number_in-2.field-0; hi = c.in_ok-number_in-3.field-0 }) d same) whole),
+      (λ h. ap Ok (read_values at.After-misfit d (spelled ws d h))),
+    )
+
+pub returns-in-Some-clause-read : goal.returns-in-Some-clause-read
+returns-in-Some-clause-read c =
+    let at = goal.at.returns-in-Some-clause-read c in
+    refused _ (map string_bytes c.args.words.now) refl (λ d h.
+    absurd (false≢true (sym (c.in-Some.ensures.fits.1 (subst IsSound (sym (read_values at.After-misfit d h)) h.sound)))))
