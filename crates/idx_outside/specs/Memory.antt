@@ -1,6 +1,9 @@
 -- The forms in memory: bytes, and the calls that are to fail.
-use Rattle.std.specs.Prelude.{ℕ, List, Contains, Bool, if◌then◌else◌}
+use Rattle.std.specs.Prelude.{ℕ, List, Contains, Bool, true, false, Result, Ok, Err, if◌then◌else◌}
 use Rattle.idx_outside.specs.Cause.{counted}
+use Rattle.idx_outside.specs.declared.mem_file.MemFile.{MemFile}
+use Rattle.idx_outside.specs.declared.bay_fault.BayFault.{BayFault}
+use Rattle.idx_outside.specs.declared.bay_fault.BayFault.TheVariants.{Outage, NoMemory}
 
 -- the numbers of the calls that are to fail, how many calls there were, and how many faults
 pub record FaultState : Type 0 where
@@ -24,4 +27,22 @@ after_call succeeded s =
 -- the bytes of an object in memory, and which of its calls fail
 pub record MemState : Type 0 where
   pub bytes : List ℕ
+  pub script : FaultState
+
+-- whether a call of a bay counted no fault, by its answer
+abbrev pub counts_none : {T : Type 0} → Result T BayFault → Bool
+counts_none (Ok _) = true
+counts_none (Err Outage) = false
+counts_none (Err NoMemory) = true
+
+-- the header's text, empty where none stands, and the committed files
+pub record BayContents : Type 0 where
+  pub header : List ℕ
+  pub files : List MemFile
+
+-- A bay in memory, and which of its calls fail. `drafts` are the numbers of the failing calls of each draft to come.
+pub record BayState : Type 0 where
+  pub header : List ℕ
+  pub files : List MemFile
+  pub drafts : List (List ℕ)
   pub script : FaultState

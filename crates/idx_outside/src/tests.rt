@@ -1,4 +1,4 @@
-//! A trial of the contracts: code that is generic over sources and sinks and is lent a `Vec` of sources.
+//! A trial of the contracts: code that is generic over sources, sinks and bays, and is lent a `Vec` of sources.
 ghost use Rattle.std.specs.Prelude.{◌≡◌, ◌<◌, ◌+◌, ◌≤◌, ◌++◌, [], ◌∷◌, Some, length, map, take, drop, vec_len, Option, IfSome, IfOk, IsTrue, ◌↔◌, OnOk, OnErr, IsErrOf};
 ghost use Rattle.std.specs.Option.{ForSome};
 ghost use Rattle.idx_outside.specs.Cause.{NeverFalls, Rose, OnlyWhereRose, AnswersRise};
@@ -146,6 +146,18 @@ fn filled<V: Source>(raw: &mut V, at: u64, bytes: &mut Bytes) -> Result<(), Outa
     raw.read_at(at, bytes.as_mut_slice())
 }
 
+fn header_of<B: Bay>(alloc: Global, bay: &mut B) -> Result<Bytes, BayFault>
+    ensures text { IfOk result (λ text. IfSome (B.header bay.old) (λ known. text ≡ known)) }
+    ensures header { B.header bay.new ≡ B.header bay.old }
+    ensures count { NeverFalls (B.faults bay.old) (B.faults bay.new) }
+    ensures outage { OnlyWhereRose result BayFault.Outage (B.faults bay.old) (B.faults bay.new) }
+    ensures answered { AnswersRise result BayFault.Outage (B.faults bay.old) (B.faults bay.new) }
+{
+    let mut text = Bytes::new(alloc);
+    bay.header(&mut text)?;
+    Ok(text)
+}
+
 fn bytes_of(alloc: Global, bytes: &[u8]) -> Result<Bytes, NoMemory>
     ensures { IfOk result (λ copy. copy ≡ bytes.now) }
 {
@@ -192,6 +204,12 @@ fn answers_have_their_texts(rt: HostRuntime) -> Result<(), Fail> {
         format!(in alloc; "{NoMemory}")?.as_str(),
         "not enough memory"
     );
+    for (fault, text) in [
+        (BayFault::from(Outage), "a call on the outside failed"),
+        (BayFault::from(NoMemory), "not enough memory"),
+    ] {
+        assert_eq!(rt; format!(in alloc; "{fault}")?.as_str(), text);
+    }
     Ok(())
 }
 
@@ -227,18 +245,52 @@ fn a_sink_in_memory_keeps_what_was_written(rt: HostRuntime) -> Result<(), Fail> 
     Ok(())
 }
 
+/// A file of the step in folder `t1`.
+fn one_file(alloc: Global) -> Result<Vec<MemFile>, Fail> {
+    let file = MemFile {
+        folder: bytes_of(alloc, b"t1")?,
+        path: bytes_of(alloc, b"t1/0000.bin")?,
+        bytes: bytes_of(alloc, &[1, 2])?,
+    };
+    Ok(vec![in alloc; file]?)
+}
+
+#[test]
+fn a_bay_in_memory_fails_at_its_numbers(rt: HostRuntime) -> Result<(), Fail> {
+    let alloc = rt.alloc();
+    let (fails, drafts) = (vec![in alloc; 2]?, Vec::new(alloc));
+    let mut bay = MemBay::new(bytes_of(alloc, b"text")?, one_file(alloc)?, fails, drafts);
+    let mut into = bytes_of(alloc, b"a ")?;
+    assert_eq!(rt; bay.header(&mut into), Ok(()));
+    assert_eq!(rt; bay.header(&mut into), Err(BayFault::Outage));
+    assert_eq!(rt; into.as_slice(), b"a text".as_slice());
+    assert_eq!(rt; header_of(alloc, &mut bay)?.as_slice(), b"text".as_slice());
+    assert_eq!(rt; bay.faults(), 1);
+    assert_eq!(rt; bay.header_text().as_slice(), b"text".as_slice());
+    assert_eq!(rt;
+        bay.committed().first().map(|file| file.bytes.as_slice()),
+        Some([1, 2].as_slice())
+    );
+    is_sendable(&bay);
+    Ok(())
+}
+
 #[test]
 fn sure_forms_never_fail(rt: HostRuntime) -> Result<(), Fail> {
-    let mut source = SureSource::new(bytes_of(rt.alloc(), &[1, 2, 3])?);
+    let alloc = rt.alloc();
+    let mut source = SureSource::new(bytes_of(alloc, &[1, 2, 3])?);
     let mut into = [0u8; 2];
     assert_eq!(rt; source.len(), Ok(3));
     assert_eq!(rt; source.read_at(1, &mut into), Ok(()));
     assert_eq!(rt; into, [2, 3]);
     let mut sink = SureSink::new();
     assert_eq!(rt; sink.write(&into), Ok(()));
-    assert_eq!(rt; source.faults() + sink.faults(), 0);
+    let mut bay = SureBay::new(bytes_of(alloc, b"text")?, one_file(alloc)?);
+    assert_eq!(rt; header_of(alloc, &mut bay)?.as_slice(), b"text".as_slice());
+    assert_eq!(rt; source.faults() + sink.faults() + bay.faults(), 0);
     is_sendable(&source);
     is_sendable(&sink);
+    is_sendable(&bay);
     Ok(())
 }
 

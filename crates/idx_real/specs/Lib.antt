@@ -1,4 +1,6 @@
 pub mod Faults
 pub mod FileState
+pub mod FolderState
+pub mod Front
 pub mod Placed
 pub mod SinkState

@@ -5,9 +5,9 @@ ghost use Rattle.idx_real.specs.Placed.{known_bytes, WasReadAt, OfItsFile};
 
 use crate::fault_log::FaultLog;
 use crate::placed::{length_of, read_range};
+use crate::regular_file::open_regular;
 use crate::{Fault, Reason};
 use idx_outside::{Outage, Source};
-use std::fs;
 use std::marker::Model;
 use std::rt::Files;
 
@@ -125,12 +125,4 @@ fn opened<'f, R: Files>(
         Some(file) => Ok(file),
         None => Ok(file.insert(open_regular(rt, path)?)),
     }
-}
-
-/// Opens a regular file. The path is looked at first: to open a pipe may wait for a writer.
-fn open_regular<R: Files>(rt: &R, path: &str) -> Result<R::File, Reason> {
-    if !fs::metadata(rt, path)?.is_file() {
-        return Err(Reason::NotRegularFile);
-    }
-    Ok(fs::open(rt, path)?)
 }

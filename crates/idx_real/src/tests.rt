@@ -1,11 +1,12 @@
 //! Files and writers of the system, and fakes of what it may do.
-ghost use Rattle.std.specs.Prelude.{◌≡◌, OnOk, IfOk, length};
+ghost use Rattle.std.specs.Prelude.{◌≡◌, OnOk, IfOk, length, take};
 ghost use Rattle.std.specs.Io.Cursor.{cursor_inner};
 ghost use Rattle.idx_real.specs.Placed.{StandsAt};
 
 use super::placed::{length_of, read_range};
+use super::regular_file::front;
 use super::*;
-use idx_outside::{Outage, Sink, Source};
+use idx_outside::{Bay, BayFault, Bytes, NoMemory, Outage, Sink, Source};
 use std::alloc::Global;
 use std::io::{Cursor, Write};
 use std::os::fd::AsRawFd;
@@ -61,10 +62,26 @@ fn read_in_memory(cursor: &mut Cursor<&[u8]>, at: u64, into: &mut [u8]) -> Resul
     read_range(cursor, at, into)
 }
 
+fn front_in_memory(
+    alloc: Global,
+    bytes: &[u8],
+    most: u64,
+) -> Result<Result<Vec<u8>, Reason>, NoMemory>
+    ensures { IfOk result (λ found. IfOk found (λ text. text.items ≡ take most bytes.now)) }
+{
+    front(alloc, bytes, most)
+}
+
 /// The file at this path.
 fn source(rt: &HostRuntime, path: &str) -> Result<FileSource<HostRuntime>, Fail> {
     let path = String::from_str(rt.alloc(), path)?;
     Ok(FileSource::new(rt.clone()?, path))
+}
+
+/// The folder of the header file at this path.
+fn folder(rt: &HostRuntime, path: &str) -> Result<FolderBay<HostRuntime>, Fail> {
+    let path = String::from_str(rt.alloc(), path)?;
+    Ok(FolderBay::new(rt.clone()?, path))
 }
 
 /// The text of a fault, or none.
@@ -90,6 +107,17 @@ fn bytes_in_memory_are_read_by_places(rt: HostRuntime) {
     assert!(rt; read_in_memory(&mut cursor, 4, &mut []).is_ok());
     assert!(rt; read_in_memory(&mut cursor, 5, &mut []).is_err());
     assert!(rt; read_in_memory(&mut cursor, 3, &mut into).is_err());
+}
+
+#[test]
+fn the_front_of_bytes_in_memory_is_read(rt: HostRuntime) -> Result<(), Fail> {
+    let bytes = [1u8, 2, 3, 4];
+    for (most, want) in [(0, 0), (3, 3), (4, 4), (u64::MAX, 4)] {
+        let found = front_in_memory(rt.alloc(), bytes.as_slice(), most)?;
+        let text = found.map(|text| text.as_slice() == &bytes[..want]);
+        assert_eq!(rt; text.ok(), Some(true));
+    }
+    Ok(())
 }
 
 #[test]
@@ -162,6 +190,71 @@ fn what_is_no_regular_file_is_a_fault_with_its_reason(rt: HostRuntime) -> Result
         let want = format!(in alloc; "{path}: {reason}")?;
         assert_eq!(rt; text(alloc, file.last_fault())?, want);
     }
+    Ok(())
+}
+
+#[test]
+fn a_header_is_read_and_a_missing_one_is_empty(rt: HostRuntime) -> Result<(), Fail> {
+    let (path, alloc) = ("dataset.idx", rt.alloc());
+    let mut bay = folder(&rt, path)?;
+    let mut into = Bytes::from_slice(alloc, b"a ")?;
+    assert_eq!(rt; bay.header(&mut into), Ok(()));
+    assert_eq!(rt; folder(&rt, "gone/dataset.idx")?.header(&mut into), Ok(()));
+    assert_eq!(rt; into.as_slice(), b"a ".as_slice());
+    fs::write(&rt, path, "text")?;
+    assert_eq!(rt; bay.header(&mut into), Ok(()));
+    assert_eq!(rt; into.as_slice(), b"a text".as_slice());
+    fs::remove_file(&rt, path)?;
+    assert_eq!(rt; bay.header(&mut into), Ok(()));
+    assert_eq!(rt; into.as_slice(), b"a text".as_slice());
+    assert!(rt; bay.faults() == 0 && bay.last_fault().is_none());
+    is_sendable(&bay);
+    Ok(())
+}
+
+#[test]
+fn one_byte_more_than_a_header_has_is_read_at_most(rt: HostRuntime) -> Result<(), Fail> {
+    let (path, alloc) = ("long.idx", rt.alloc());
+    for (length, read) in [(65_536u64, 65_536), (65_537, 65_537), (100_000, 65_537)] {
+        let mut bytes = Vec::new(alloc);
+        for at in 0..length {
+            bytes.push((at % 251) as u8)?;
+        }
+        fs::write(&rt, path, bytes.as_slice())?;
+        let mut into = Bytes::new(alloc);
+        assert_eq!(rt; folder(&rt, path)?.header(&mut into), Ok(()));
+        assert_eq!(rt; into.len(), read);
+        assert!(rt; bytes.as_slice().starts_with(into.as_slice()));
+    }
+    fs::remove_file(&rt, path)?;
+    Ok(())
+}
+
+#[test]
+fn a_header_that_is_no_regular_file_is_a_fault_with_its_reason(
+    rt: HostRuntime,
+) -> Result<(), Fail> {
+    let (plain, alloc) = ("plain.idx", rt.alloc());
+    fs::write(&rt, plain, "text")?;
+    // To open this pipe, which nobody writes to, would wait for ever.
+    let (reader, writer) = io::pipe(&rt)?;
+    drop(writer);
+    let pipe = format!(in alloc; "/proc/self/fd/{}", reader.as_raw_fd())?;
+    for (path, reason) in [
+        ("plain.idx/dataset.idx", "Not a directory (os error 20)"),
+        (".", "not a regular file"),
+        ("/dev/null", "not a regular file"),
+        (pipe.as_str(), "not a regular file"),
+    ] {
+        let mut bay = folder(&rt, path)?;
+        let mut into = Bytes::from_slice(alloc, b"a ")?;
+        assert_eq!(rt; bay.header(&mut into), Err(BayFault::Outage), "{path}");
+        assert_eq!(rt; into.as_slice(), b"a ".as_slice());
+        assert_eq!(rt; bay.faults(), 1);
+        let want = format!(in alloc; "{path}: {reason}")?;
+        assert_eq!(rt; text(alloc, bay.last_fault())?, want);
+    }
+    fs::remove_file(&rt, plain)?;
     Ok(())
 }
 
