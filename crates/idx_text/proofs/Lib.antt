@@ -1,3 +1,4 @@
 pub mod NumberLemmas
 pub mod RunLemmas
 pub mod BoxLemmas
+pub mod TrimLemmas

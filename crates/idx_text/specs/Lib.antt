@@ -1,3 +1,4 @@
 pub mod Number
 pub mod Numbers
+pub mod Trim
 pub mod BoxText

@@ -7,8 +7,10 @@ mod number;
 mod numbers;
 #[cfg(test)]
 mod tests;
+mod trim;
 
 pub use box_text::read_box;
 pub use examples::worked_texts;
-pub use number::read_number;
+pub use number::{number_reads_back, read_number, write_number};
 pub use numbers::{is_blank, read_numbers};
+pub use trim::trim_blanks;
