@@ -1,0 +1,4 @@
+pub mod LineLemmas
+pub mod TextLemmas
+pub mod GrowingLemmas
+pub mod EntryLemmas

@@ -1,0 +1,4 @@
+pub mod Lines
+pub mod Sections
+pub mod Growing
+pub mod Entries
