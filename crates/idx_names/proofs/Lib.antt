@@ -1,0 +1,12 @@
+pub mod PieceLemmas
+pub mod ValueLemmas
+pub mod NumeralLemmas
+pub mod GrammarLemmas
+pub mod PartLemmas
+pub mod TemplateLemmas
+pub mod TimeLemmas
+pub mod PathLemmas
+pub mod ReadLemmas
+pub mod BuildLemmas
+pub mod ApartLemmas
+pub mod RightLemmas
