@@ -1,0 +1,12 @@
+pub mod AgreeLemmas
+pub mod RunsLemmas
+pub mod TypeLemmas
+pub mod FieldLemmas
+pub mod DistinctLemmas
+pub mod PartsLemmas
+pub mod ListingLemmas
+pub mod WordLemmas
+pub mod FaultLemmas
+pub mod TypeTextLemmas
+pub mod ReadBackLemmas
+pub mod LineLemmas
