@@ -5,6 +5,7 @@ pub mod GuessSteps
 pub mod HzLemmas
 pub mod LevelLemmas
 pub mod MaskLemmas
+pub mod MaskTextLemmas
 pub mod PointLemmas
 pub mod PrefixLemmas
 pub mod RegionLemmas

@@ -1,8 +1,9 @@
 //! Worked values of the definitions.
-ghost use Rattle.std.specs.Prelude.{◌≡◌, [], ◌∷◌, filter};
+ghost use Rattle.std.specs.Prelude.{◌≡◌, [], ◌∷◌, None, Some, codes, filter};
 ghost use Rattle.idx_hz.specs.Address.{z_address, level, hz_address};
 ghost use Rattle.idx_hz.specs.Answer.{answer, has_level};
 ghost use Rattle.idx_hz.specs.Guess.{guessed_mask, upper_bits};
+ghost use Rattle.idx_hz.specs.MaskText.{mask_of};
 ghost use Rattle.idx_hz.specs.Stride.{stride};
 ghost use Rattle.idx_geom.specs.Volume.{samples_of};
 ghost use Rattle.idx_geom.specs.Region.{points};
@@ -54,4 +55,13 @@ pub fn worked_strides()
     ensures second { stride (0 ∷ 1 ∷ 0 ∷ 1 ∷ []) 3 1 ≡ 2 }
     ensures coarsest { stride (0 ∷ 1 ∷ 0 ∷ 1 ∷ []) 0 1 ≡ 4 }
     ensures level { level (0 ∷ 1 ∷ 0 ∷ 1 ∷ []) (1 ∷ 2 ∷ []) ≡ 3 }
+{}
+
+/// Masks of texts: of four digits, and of texts without digits, without the letter, and with a digit that is no axis.
+#[tactic(auto, unfolding(crate::specs::MaskText::mask_of))]
+pub fn worked_texts()
+    ensures four { mask_of (codes "V0101") ≡ Some (0 ∷ 1 ∷ 0 ∷ 1 ∷ []) }
+    ensures empty { mask_of (codes "V") ≡ None }
+    ensures letter { mask_of (codes "X0") ≡ None }
+    ensures digit { mask_of (codes "V0501") ≡ None }
 {}

@@ -1,6 +1,7 @@
 //! Laws of the definitions, each the contract of a function that does nothing.
-ghost use Rattle.std.specs.Prelude.{◌≡◌, ℕ, ◌+◌, ◌-◌, ◌/◌, ◌%◌, ◌^◌, ◌<◌, ◌≤◌, ◌↔◌, EachIndex, IsTrue, List, length, slice_index, take};
-ghost use Rattle.idx_hz.specs.Mask.{NamesAxes, HasAddress};
+ghost use Rattle.std.specs.Prelude.{◌≡◌, ℕ, ◌+◌, ◌-◌, ◌/◌, ◌%◌, ◌^◌, ◌<◌, ◌≤◌, ◌↔◌, EachIndex, IsTrue, List, Some, length, slice_index, take};
+ghost use Rattle.idx_hz.specs.Mask.{IsMask, NamesAxes, HasAddress};
+ghost use Rattle.idx_hz.specs.MaskText.{mask_of, mask_text};
 ghost use Rattle.idx_hz.specs.Address.{level, hz_address};
 ghost use Rattle.idx_hz.specs.Coordinate.{coordinate_at};
 ghost use Rattle.idx_hz.specs.Stride.{stride, LiesOnStrides};
@@ -12,6 +13,11 @@ use crate::{Mask, MaskFault};
 pub fn equal_masks_are_one()
     ensures masks { (a b : List ℕ) → IsTrue (⟦<Mask as PartialEq>⟧.eq a b) ↔ (a ≡ b) }
     ensures faults { (a b : MaskFault) → IsTrue (⟦<MaskFault as PartialEq>⟧.eq a b) ↔ (a ≡ b) }
+{}
+
+/// A text spells a mask exactly where it is the text of that mask.
+pub fn texts_spell_masks()
+    ensures { (text mask : List ℕ) → (mask_of text ≡ Some mask) ↔ (IsMask mask × (text ≡ mask_text mask)) }
 {}
 
 /// For each mask of M digits, and each number of axes that it fits, the hierarchical addresses are one to one from the
