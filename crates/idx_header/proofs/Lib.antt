@@ -1,0 +1,12 @@
+pub mod BoundLemmas
+pub mod BoxLemmas
+pub mod FaultLemmas
+pub mod FieldTexts
+pub mod UnknownLemmas
+pub mod RunLemmas
+pub mod StepLemmas
+pub mod PlainWords
+pub mod BackLemmas
+pub mod EntryLines
+pub mod RoundTrip
+pub mod WriteLemmas

@@ -1,0 +1,9 @@
+pub mod Keys
+pub mod Box
+pub mod Time
+pub mod Header
+pub mod Faults
+pub mod HeaderOf
+pub mod Written
+pub mod Names
+pub mod Worked

@@ -1,0 +1,16 @@
+//! Worked values of the definitions.
+ghost use Rattle.std.specs.Prelude.{◌≡◌, [], ◌∷◌, ◌++◌, Ok, Err, codes};
+ghost use Rattle.idx_header.specs.declared.header_kind.HeaderKind.TheVariants as kinds;
+ghost use Rattle.idx_header.specs.HeaderOf.{header_of};
+ghost use Rattle.idx_header.specs.Worked.{small_text, small_header, with_line_at};
+
+/// A small header, and lines of it that are wrong.
+#[tactic(auto, unfolding(idx_text::specs::Number::number_of, idx_text::specs::Numbers::numbers_of, idx_lines::specs::Lines::lines, idx_lines::specs::Sections::sections, idx_hz::specs::MaskText::mask_of, idx_fields::specs::Base::base_of, idx_fields::specs::Field::field_of, idx_fields::specs::Field::field_text, idx_fields::specs::FieldType::type_of, idx_fields::specs::FieldType::canonical_type, idx_fields::specs::Fields::listed_fields, idx_names::specs::Pieces::first_piece, idx_names::specs::Pieces::pieces_behind, idx_names::specs::Pieces::part_of, idx_names::specs::Pieces::pieces_text, idx_names::specs::Template::parts_of, idx_names::specs::Template::of_parts, idx_names::specs::Template::template_of, idx_names::specs::Template::template_text, idx_names::specs::Template::room, idx_names::specs::TimeTemplate::time_template_of, idx_names::specs::TimeTemplate::time_template_text, crate::specs::Keys::section_of, crate::specs::Keys::repeated, crate::specs::Keys::unknown_sections, crate::specs::Box::pairs_of, crate::specs::Box::box_of, crate::specs::Time::steps_of, crate::specs::HeaderOf::value_faults, crate::specs::HeaderOf::faults_of, crate::specs::HeaderOf::header_in, crate::specs::HeaderOf::header_of,))]
+pub fn worked_headers()
+    ensures read { header_of small_text ≡ Ok small_header }
+    ensures digit { header_of (with_line_at 7 (codes "V0501")) ≡ Err (record { line = 7; kind = kinds.BadMask }) }
+    ensures outside { header_of (with_line_at 3 (codes "0 4 0 3")) ≡ Err (record { line = 3; kind = kinds.BoxOutsideMask }) }
+    ensures small { header_of (with_line_at 7 (codes "V0101010101")) ≡
+        Err (record { line = 13; kind = kinds.TemplateTooSmall }) }
+    ensures empty { header_of [] ≡ Err (record { line = 1; kind = kinds.MissingKey }) }
+{}

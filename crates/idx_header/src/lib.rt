@@ -1,0 +1,32 @@
+//! The header of a dataset: its grammar both ways, what follows from its values, and the names of its files.
+#![tactic(auto)]
+
+mod blocks;
+mod copy;
+mod examples;
+mod field_list;
+mod header;
+mod header_fault;
+mod header_kind;
+mod key;
+mod keys;
+mod laws;
+mod read;
+mod space;
+mod steps;
+mod template;
+#[cfg(test)]
+mod tests;
+mod time;
+mod unknown;
+mod unknowns;
+mod version;
+mod write;
+
+pub use examples::worked_headers;
+pub use header::Header;
+pub use header_fault::HeaderFault;
+pub use header_kind::HeaderKind;
+pub use laws::{names_differ, texts_read_back};
+pub use steps::Steps;
+pub use unknown::Unknown;
