@@ -1,0 +1,9 @@
+pub mod ListLemmas
+pub mod PresentLemmas
+pub mod OffsetLemmas
+pub mod FileLemmas
+pub mod RightLemmas
+pub mod HeaderLemmas
+pub mod FindLemmas
+pub mod FilesLemmas
+pub mod RunLemmas

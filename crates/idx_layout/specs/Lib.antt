@@ -1,0 +1,14 @@
+pub mod Layout
+pub mod Files
+pub mod FileNumbers
+pub mod Runs
+pub mod OfHeader
+pub mod Worked
+pub use Rattle.idx_hz.specs.Mask
+pub use Rattle.idx_hz.specs.Address
+pub use Rattle.idx_geom.specs.Region
+pub use Rattle.idx_geom.specs.Volume
+pub use Rattle.idx_table.specs.Row
+pub use Rattle.idx_table.specs.Table
+pub use Rattle.idx_header.specs.Header
+pub use Rattle.idx_fields.specs.Field
