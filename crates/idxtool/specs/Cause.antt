@@ -3,12 +3,15 @@ use Rattle.std.specs.Prelude.{ℕ, List, [], ◌∷◌, ◌++◌, codes}
 use Rattle.std.specs.Fmt.{decimal}
 use Rattle.idxtool.specs.declared.causes.Cause.{Cause}
 use Rattle.idxtool.specs.declared.causes.Cause.TheVariants as causes
+use Rattle.idxtool.specs.KindText.{kind_text}
 
 abbrev pub status_of : Cause → ℕ
 status_of causes.Done = 0
 status_of (causes.Usage at) = 1
+status_of (causes.Header line kind) = 2
 status_of (causes.RawWrongSize want found) = 3
 status_of causes.RawFault = 4
+status_of causes.StoreFault = 5
 status_of causes.SinkFault = 9
 status_of causes.NoMemory = 11
 
@@ -16,8 +19,10 @@ status_of causes.NoMemory = 11
 abbrev pub line_of : Cause → List ℕ
 line_of causes.Done = []
 line_of (causes.Usage at) = codes "usage at " ++ decimal at
+line_of (causes.Header line kind) = codes "header line " ++ decimal line ++ codes " " ++ kind_text kind
 line_of (causes.RawWrongSize want found) = codes "raw size want " ++ decimal want ++ codes " found " ++ decimal found
 line_of causes.RawFault = codes "raw fault"
+line_of causes.StoreFault = codes "store fault"
 line_of causes.SinkFault = codes "sink fault"
 line_of causes.NoMemory = codes "no memory"
 

@@ -2,7 +2,10 @@ pub mod PathWord
 pub mod CutWord
 pub mod CutGrammar
 pub mod CutOutput
+pub mod KindText
 pub mod Cause
-pub mod CutRun
 pub mod Words
+pub mod Summary
+pub mod InfoRun
+pub mod CutRun
 pub mod Run

@@ -2,6 +2,8 @@ ghost use Rattle.std.specs.Prelude.{◌≡◌, ◌↔◌, IsTrue};
 ghost use Rattle.std.specs.Process.{exit_status};
 ghost use Rattle.idxtool.specs.Cause.{status_of};
 
+use crate::kind_text::kind_text;
+use idx_header::HeaderKind;
 use std::fmt;
 use std::process::ExitCode;
 
@@ -12,10 +14,14 @@ pub enum Cause {
     Done,
     /// The words are not in the grammar. The word at place `at`, counted from 0, is wrong, or one is missing there.
     Usage { at: u64 },
+    /// The header is refused: on this line, counted from 1, stands this fault. The line is 0 where the text is too long.
+    Header { line: u64, kind: HeaderKind },
     /// The raw volume has `found` bytes and not the `want` that the words ask for.
     RawWrongSize { want: u64, found: u64 },
     /// The raw volume could not be read.
     RawFault,
+    /// The dataset could not be read.
+    StoreFault,
     /// The output could not be written.
     SinkFault,
     /// There was not enough memory.
@@ -49,8 +55,10 @@ impl Done {
         let status = match cause {
             Cause::Done => 0,
             Cause::Usage { .. } => 1,
+            Cause::Header { .. } => 2,
             Cause::RawWrongSize { .. } => 3,
             Cause::RawFault => 4,
+            Cause::StoreFault => 5,
             Cause::SinkFault => 9,
             Cause::NoMemory => 11,
         };
@@ -76,8 +84,10 @@ impl fmt::Display for Cause {
         match self {
             Cause::Done => Ok(()),
             Cause::Usage { at } => write!(f, "usage at {at}"),
+            Cause::Header { line, kind } => write!(f, "header line {line} {}", kind_text(*kind)),
             Cause::RawWrongSize { want, found } => write!(f, "raw size want {want} found {found}"),
             Cause::RawFault => write!(f, "raw fault"),
+            Cause::StoreFault => write!(f, "store fault"),
             Cause::SinkFault => write!(f, "sink fault"),
             Cause::NoMemory => write!(f, "no memory"),
         }

@@ -1,4 +1,4 @@
-//! Reads a raw volume, and writes the samples of a region between two levels.
+//! Writes the samples of a region of a raw volume between two levels, or what the header of a dataset says.
 #![tactic(auto)]
 
 ghost use Rattle.std.specs.Prelude.{◌≡◌, IfOk, vec_len};
@@ -8,16 +8,19 @@ mod cut;
 mod cut_word;
 mod cut_words;
 mod examples;
+mod info;
+mod kind_text;
 mod path;
 mod report;
 mod run;
+mod summary;
 #[cfg(test)]
 mod tests;
 mod usage;
 mod words;
 
 use causes::{Cause, Done};
-use idx_real::{FileSource, StdSink};
+use idx_real::{FileSource, FolderBay, StdSink};
 use report::report;
 use std::alloc::AllocError;
 use std::io::ErrorKind;
@@ -45,7 +48,7 @@ fn given_words(rt: &HostRuntime) -> io::Result<Vec<String>> {
 fn give_text(rt: &HostRuntime, text: &str) -> ExitCode {
     let mut out = StdSink::new(rt.stdout());
     let done = write_text(&mut out, text);
-    report(&mut rt.stderr(), done, &[], None, out.last_fault())
+    report(&mut rt.stderr(), done, &[], out.last_fault())
 }
 
 /// Does what the words ask for, over files and standard output.
@@ -53,23 +56,37 @@ fn give_run(rt: &HostRuntime, words: &[String]) -> ExitCode {
     let Ok(mut raws) = raw_files(rt, words) else {
         return give_up(rt, Cause::NoMemory);
     };
+    let Ok(mut bay) = header_file(rt, words) else {
+        return give_up(rt, Cause::NoMemory);
+    };
     let mut out = StdSink::new(rt.stdout());
-    let done = run::run(rt.alloc(), words, &mut raws, &mut out);
-    let raw_fault = raws[0].last_fault();
-    report(&mut rt.stderr(), done, words, raw_fault, out.last_fault())
+    let done = run::run(rt.alloc(), words, &mut raws, &mut bay, &mut out);
+    let fault = match done.cause {
+        Cause::RawFault => raws[0].last_fault(),
+        Cause::StoreFault => bay.last_fault(),
+        Cause::SinkFault => out.last_fault(),
+        _ => None,
+    };
+    report(&mut rt.stderr(), done, words, fault)
 }
 
 /// The raw volumes that the words name: one, or one without a path.
 fn raw_files(rt: &HostRuntime, words: &[String]) -> Result<Vec<FileSource<HostRuntime>>, AllocError>
     ensures { IfOk result (λ raws. vec_len raws ≡ 1) }
 {
-    let path = String::from_str(rt.alloc(), words::raw_path(words))?;
+    let path = String::from_str(rt.alloc(), words::given_path(words))?;
     let mut raws = Vec::with_capacity(rt.alloc(), 1)?;
     raws.push(FileSource::new(rt.clone()?, path))?;
     Ok(raws)
 }
 
+/// The dataset that the words name, or one without a path.
+fn header_file(rt: &HostRuntime, words: &[String]) -> Result<FolderBay<HostRuntime>, AllocError> {
+    let path = String::from_str(rt.alloc(), words::given_path(words))?;
+    Ok(FolderBay::new(rt.clone()?, path))
+}
+
 /// Ends before anything was done.
 fn give_up(rt: &HostRuntime, cause: Cause) -> ExitCode {
-    report(&mut rt.stderr(), Done::of(cause), &[], None, None)
+    report(&mut rt.stderr(), Done::of(cause), &[], None)
 }

@@ -4,31 +4,27 @@ ghost use Rattle.std.specs.Io.KnownBytes.{Appends, Keeps};
 ghost use Rattle.idxtool.specs.Cause.{message_of};
 
 use crate::causes::{Cause, Done};
-use crate::words::read_words;
+use crate::kind_text::plain_words;
+use crate::words::{given_path, read_words};
+use idx_header::HeaderKind;
 use idx_real::Fault;
 use std::io::Write;
 use std::process::ExitCode;
 use std::{fmt, io};
 
 /// Prints how a run ended, nothing where all was written, and gives the exit status. Behind the line of the cause stand
-/// lines that help: of a fault its place and the system's reason, of wrong words what is expected. A message that
-/// cannot be printed changes nothing of how the run ended.
+/// lines that help: of a fault its place and the system's reason, of wrong words what is expected, of a refused header
+/// its place and what is wrong. A message that cannot be printed changes nothing of how the run ended.
 pub fn report<W: Write>(
     err: &mut W,
     done: Done,
     words: &[String],
-    raw_fault: Option<Fault<'_>>,
-    sink_fault: Option<Fault<'_>>,
+    fault: Option<Fault<'_>>,
 ) -> ExitCode
     ensures status { exit_status result ≡ done.status }
     ensures silent { done.cause ≡ Cause.Done → Keeps (W.contents err.old) (W.contents err.new) }
 {
     if !done.cause.is_done() {
-        let fault = match done.cause {
-            Cause::RawFault => raw_fault,
-            Cause::SinkFault => sink_fault,
-            _ => None,
-        };
         let _ = print_all(err, done.cause, words, fault);
     }
     done.exit_code()
@@ -41,8 +37,10 @@ fn print_all<W: Write>(
     fault: Option<Fault<'_>>,
 ) -> io::Result<()> {
     print_cause(err, cause)?;
-    if let Cause::Usage { .. } = cause {
-        print_usage(err, words)?;
+    match cause {
+        Cause::Usage { .. } => print_usage(err, words)?,
+        Cause::Header { kind, .. } => print_header(err, words, kind)?,
+        _ => {}
     }
     match fault {
         Some(fault) => writeln!(err, "  {fault}"),
@@ -67,6 +65,13 @@ fn print_usage<W: Write>(err: &mut W, words: &[String]) -> io::Result<()> {
         }
         writeln!(err, "  expected {}", misread.expected)?;
     }
-    writeln!(err, "  a box is one word: quote it, as \"0 63 0 63\"")?;
+    if words.first().is_some_and(|name| name.as_str() == "cut") {
+        writeln!(err, "  a box is one word: quote it, as \"0 63 0 63\"")?;
+    }
     writeln!(err, "  idxtool --help says more")
+}
+
+/// Prints where the header stands, and what is wrong with it.
+fn print_header<W: Write>(err: &mut W, words: &[String], kind: HeaderKind) -> io::Result<()> {
+    writeln!(err, "  {}: {}", given_path(words), plain_words(kind))
 }

@@ -3,21 +3,25 @@ ghost use Rattle.idx_outside.specs.Cause.{NeverFalls, Rose};
 ghost use Rattle.idx_outside.specs.Objects.{contents_at, faults_at, UsesOnly};
 ghost use Rattle.idxtool.specs.Cause.{status_of};
 ghost use Rattle.idxtool.specs.CutRun.{CommandEnds, RunEnds};
-ghost use Rattle.idxtool.specs.Words.{GiveCommand, IsSoundCommand};
-ghost use Rattle.idxtool.specs.Run.{HaveSameContents, WroteAnswer, WrotePrefix, AsksForOther, HasOtherSize, HasRightSize};
+ghost use Rattle.idxtool.specs.Words.{GiveCommand, GiveCut, GiveInfo, IsCut, IsInfo, IsSoundCommand};
+ghost use Rattle.idxtool.specs.Run.{HaveSameContents, WroteAnswer, WrotePrefix, AsksForOther, HasOtherSize, HasRightSize, IsRefusedFor, HasBadHeader, HasGoodHeader};
 
 use crate::causes::{Cause, Done};
 use crate::cut::cut_volume;
+use crate::info::info;
 use crate::words::{Command, read_words};
-use idx_outside::{Sink, Source};
+use idx_header::HeaderKind;
+use idx_outside::{Bay, Sink, Source};
 use std::alloc::Global;
 
-/// Does what the words ask for, and says how it ended. The first refusal ends it, in this order: the words, the length
-/// of the raw volume, reading it, writing. It uses the first raw volume alone, and reads it once.
-pub fn run<V: Source, K: Sink>(
+/// Does what the words ask for, and says how it ended. The first refusal ends it. `cut`: the words, the length of the raw
+/// volume, reading it, writing; it uses the first raw volume alone, and reads it once. `info`: the words, reading the
+/// header of the bay, the header's faults, writing; it uses the bay alone.
+pub fn run<V: Source, B: Bay, K: Sink>(
     alloc: Global,
     words: &[String],
     raws: &mut Vec<V>,
+    bay: &mut B,
     out: &mut K,
 ) -> Done
     requires some { 0 < vec_len raws.old }
@@ -28,15 +32,18 @@ pub fn run<V: Source, K: Sink>(
     // At status 0 the sink got exactly the answer, at status 9 some first bytes of it. At every other status it was not
     // touched.
     ensures done { result.status ≡ 0 → WroteAnswer (map string_bytes words.now)
-        (contents_at V.contents raws.old.items 0) (K.contents out.old) (K.contents out.new) }
+        (contents_at V.contents raws.old.items 0) (B.header bay.old) (K.contents out.old) (K.contents out.new) }
     ensures cut_off { result.status ≡ 9 → WrotePrefix (map string_bytes words.now)
-        (contents_at V.contents raws.old.items 0) (K.contents out.old) (K.contents out.new) }
+        (contents_at V.contents raws.old.items 0) (B.header bay.old) (K.contents out.old) (K.contents out.new) }
     ensures silent { result.status ≢ 0 → result.status ≢ 9 → out.new ≡ out.old }
 
-    // Usage comes exactly where the words are not in the grammar, and then nothing was asked of a raw volume.
+    // Usage comes exactly where the words are not in the grammar, and then nothing was asked of a raw volume or the bay.
+    // At each other status they give a command.
     ensures usage { (result.status ≡ 1) ↔ (¬ GiveCommand (map string_bytes words.now)) }
     ensures place { (at : ℕ) → result.cause ≡ Cause.Usage at → at ≤ length words.now }
     ensures unasked { result.status ≡ 1 → raws.new.items ≡ raws.old.items }
+    ensures bay_unasked { result.status ≡ 1 → bay.new ≡ bay.old }
+    ensures given { result.status ≢ 1 → GiveCommand (map string_bytes words.now) }
 
     // A wrong size comes exactly where the raw volume has another length than the words ask for.
     ensures wrong_size { (want found : ℕ) → result.cause ≡ Cause.RawWrongSize want found →
@@ -44,71 +51,106 @@ pub fn run<V: Source, K: Sink>(
     ensures other_size { HasOtherSize (map string_bytes words.now) (contents_at V.contents raws.old.items 0) →
         (result.status ≡ 3) ⊎ (result.status ≡ 4) }
 
+    // A header is refused exactly where its text is, for the text's fault, which is never want of memory; a fault of the
+    // bay, or want of memory, may come before.
+    ensures refused { (line : ℕ) (kind : HeaderKind) → result.cause ≡ Cause.Header line kind →
+        IsRefusedFor (map string_bytes words.now) (B.header bay.old) line kind }
+    ensures bad_header { HasBadHeader (map string_bytes words.now) (B.header bay.old) →
+        (result.status ≡ 2) ⊎ ((result.status ≡ 5) ⊎ (result.status ≡ 11)) }
+
     // A fault comes only where it was counted in this call.
     ensures raw_fault { result.status ≡ 4 →
         Rose (faults_at V.faults raws.old.items 0) (faults_at V.faults raws.new.items 0) }
+    ensures raw_used { result.status ≡ 4 → GiveCut (map string_bytes words.now) }
+    ensures store_fault { result.status ≡ 5 → Rose (B.faults bay.old) (B.faults bay.new) }
+    ensures store_used { result.status ≡ 5 → GiveInfo (map string_bytes words.now) }
     ensures sink_fault { result.status ≡ 9 → Rose (K.faults out.old) (K.faults out.new) }
 
     // A fault that was counted is answered.
     ensures raw_answered { faults_at V.faults raws.old.items 0 < faults_at V.faults raws.new.items 0 →
         result.status ≡ 4 }
+    ensures store_answered { B.faults bay.old < B.faults bay.new → result.status ≡ 5 }
     ensures sink_answered { K.faults out.old < K.faults out.new → result.status ≡ 9 }
 
     // Where nothing is wrong and no fault was counted, all is written, unless there is not enough memory.
     ensures complete { HasRightSize (map string_bytes words.now) (contents_at V.contents raws.old.items 0) →
         ¬ Rose (faults_at V.faults raws.old.items 0) (faults_at V.faults raws.new.items 0) →
         ¬ Rose (K.faults out.old) (K.faults out.new) → (result.status ≡ 0) ⊎ (result.status ≡ 11) }
+    ensures complete_info { HasGoodHeader (map string_bytes words.now) (B.header bay.old) →
+        ¬ Rose (B.faults bay.old) (B.faults bay.new) →
+        ¬ Rose (K.faults out.old) (K.faults out.new) → (result.status ≡ 0) ⊎ (result.status ≡ 11) }
 
-    // What is known of the raw volumes' bytes stays, none but the first was touched, and no count fell.
+    // What is known of the raw volumes' bytes and of the header text stays, no raw volume but the first was touched, and no
+    // count fell. `cut` leaves the bay as it was, and `info` the raw volumes.
     ensures raws { UsesOnly V.contents V.faults 0 raws.old.items raws.new.items }
+    ensures header { B.header bay.new ≡ B.header bay.old }
+    ensures bay_count { NeverFalls (B.faults bay.old) (B.faults bay.new) }
     ensures sink_count { NeverFalls (K.faults out.old) (K.faults out.new) }
+    ensures cut_alone { GiveCut (map string_bytes words.now) → bay.new ≡ bay.old }
+    ensures info_alone { GiveInfo (map string_bytes words.now) → raws.new.items ≡ raws.old.items }
 {
-    Done::of(end_of_run(alloc, words, raws, out))
+    Done::of(end_of_run(alloc, words, raws, bay, out))
 }
 
 /// Does what the words ask for, and says why it ended.
-fn end_of_run<V: Source, K: Sink>(
+fn end_of_run<V: Source, B: Bay, K: Sink>(
     alloc: Global,
     words: &[String],
     raws: &mut Vec<V>,
+    bay: &mut B,
     out: &mut K,
 ) -> Cause
     requires some { 0 < vec_len raws.old }
     ensures ends { RunEnds K.contents K.faults (map string_bytes words.now) (contents_at V.contents raws.old.items 0)
-        (faults_at V.faults raws.old.items 0) (faults_at V.faults raws.new.items 0) out.old out.new result }
+        (faults_at V.faults raws.old.items 0) (faults_at V.faults raws.new.items 0)
+        (B.header bay.old) (B.faults bay.old) (B.faults bay.new) out.old out.new result }
     ensures place { (at : ℕ) → result ≡ Cause.Usage at → at ≤ length words.now }
     ensures unasked { (at : ℕ) → result ≡ Cause.Usage at → raws.new.items ≡ raws.old.items }
+    ensures bay_unasked { (at : ℕ) → result ≡ Cause.Usage at → bay.new ≡ bay.old }
     ensures raw_answered { faults_at V.faults raws.old.items 0 < faults_at V.faults raws.new.items 0 →
         result ≡ Cause.RawFault }
+    ensures store_answered { B.faults bay.old < B.faults bay.new → result ≡ Cause.StoreFault }
     ensures sink_answered { K.faults out.old < K.faults out.new → result ≡ Cause.SinkFault }
     ensures raws { UsesOnly V.contents V.faults 0 raws.old.items raws.new.items }
+    ensures header { B.header bay.new ≡ B.header bay.old }
+    ensures bay_count { NeverFalls (B.faults bay.old) (B.faults bay.new) }
     ensures sink_count { NeverFalls (K.faults out.old) (K.faults out.new) }
+    ensures cut_alone { GiveCut (map string_bytes words.now) → bay.new ≡ bay.old }
+    ensures info_alone { GiveInfo (map string_bytes words.now) → raws.new.items ≡ raws.old.items }
 {
     match read_words(words) {
-        Ok(command) => run_command(alloc, &command, raws, out),
+        Ok(command) => run_command(alloc, &command, raws, bay, out),
         Err(misread) => Cause::Usage { at: misread.at },
     }
 }
 
 /// Does what a command asks for, and says why it ended.
-fn run_command<V: Source, K: Sink>(
+fn run_command<V: Source, B: Bay, K: Sink>(
     alloc: Global,
     command: &Command,
     raws: &mut Vec<V>,
+    bay: &mut B,
     out: &mut K,
 ) -> Cause
     requires some { 0 < vec_len raws.old }
     requires sound { IsSoundCommand command.now }
     ensures ends { CommandEnds K.contents K.faults command.now (contents_at V.contents raws.old.items 0)
-        (faults_at V.faults raws.old.items 0) (faults_at V.faults raws.new.items 0) out.old out.new result }
+        (faults_at V.faults raws.old.items 0) (faults_at V.faults raws.new.items 0)
+        (B.header bay.old) (B.faults bay.old) (B.faults bay.new) out.old out.new result }
     ensures read { (at : ℕ) → result ≢ Cause.Usage at }
     ensures raw_answered { faults_at V.faults raws.old.items 0 < faults_at V.faults raws.new.items 0 →
         result ≡ Cause.RawFault }
+    ensures store_answered { B.faults bay.old < B.faults bay.new → result ≡ Cause.StoreFault }
     ensures sink_answered { K.faults out.old < K.faults out.new → result ≡ Cause.SinkFault }
     ensures raws { UsesOnly V.contents V.faults 0 raws.old.items raws.new.items }
+    ensures header { B.header bay.new ≡ B.header bay.old }
+    ensures bay_count { NeverFalls (B.faults bay.old) (B.faults bay.new) }
     ensures sink_count { NeverFalls (K.faults out.old) (K.faults out.new) }
+    ensures cut_alone { IsCut command.now → bay.new ≡ bay.old }
+    ensures info_alone { IsInfo command.now → raws.new.items ≡ raws.old.items }
 {
     match command {
         Command::Cut(cut) => cut_volume(alloc, cut, &mut raws[0], out),
+        Command::Info => info(alloc, bay, out),
     }
 }

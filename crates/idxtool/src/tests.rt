@@ -7,7 +7,8 @@ use crate::report::report;
 use crate::run::run;
 use crate::usage::{text_asked_for, write_text};
 use crate::words::{Command, read_words};
-use idx_outside::{Bytes, MemSink, MemSource, NoMemory};
+use idx_header::HeaderKind;
+use idx_outside::{Bytes, MemBay, MemSink, MemSource, NoMemory, SureBay};
 use idx_real::{Fault, Reason};
 use idx_walk::answer_by_points;
 use std::alloc::{AllocError, Global};
@@ -49,7 +50,8 @@ fn run_in_memory(
     let mut raws = Vec::with_capacity(alloc, 1)?;
     raws.push(MemSource::new(raw, Vec::from_slice(alloc, raw_fails)?))?;
     let mut out = MemSink::new(Vec::from_slice(alloc, sink_fails)?);
-    let done = run(alloc, words, &mut raws, &mut out);
+    let mut bay = SureBay::new(Bytes::new(alloc), Vec::new(alloc));
+    let done = run(alloc, words, &mut raws, &mut bay, &mut out);
     let written = Vec::from_slice(alloc, out.written().as_slice())?;
     Ok((done, written))
 }
@@ -148,6 +150,7 @@ fn searched_for(alloc: Global, command: &Command, raw: &[u8]) -> Result<Bytes, N
 {
     match command {
         Command::Cut(cut) => searched_in(alloc, cut, raw),
+        Command::Info => Ok(Bytes::new(alloc)),
     }
 }
 
@@ -205,6 +208,7 @@ fn cause_of(alloc: Global, words: &[String]) -> Result<Cause, AllocError> {
 fn each_rule_of_the_words_is_kept(rt: HostRuntime) -> Result<(), Fail> {
     for (at, word, place) in [
         (0, "Cut", 0),
+        (0, "info", 2),
         (1, "", 1),
         (1, "-r.raw", 1),
         (1, "r\t.raw", 1),
@@ -355,11 +359,20 @@ fn causes_have_statuses_and_lines(rt: HostRuntime) -> Result<(), Fail> {
         (Cause::Done, 0, ""),
         (Cause::Usage { at: 7 }, 1, "usage at 7"),
         (
+            Cause::Header {
+                line: 13,
+                kind: HeaderKind::TemplateTooSmall,
+            },
+            2,
+            "header line 13 TemplateTooSmall",
+        ),
+        (
             Cause::RawWrongSize { want: 16, found: 0 },
             3,
             "raw size want 16 found 0",
         ),
         (Cause::RawFault, 4, "raw fault"),
+        (Cause::StoreFault, 5, "store fault"),
         (Cause::SinkFault, 9, "sink fault"),
         (Cause::NoMemory, 11, "no memory"),
     ] {
@@ -371,9 +384,9 @@ fn causes_have_statuses_and_lines(rt: HostRuntime) -> Result<(), Fail> {
 }
 
 /// What is printed of a run that ended so.
-fn printed(alloc: Global, cause: Cause, words: &[String], raw_fault: Option<Fault<'_>>) -> Vec<u8> {
+fn printed(alloc: Global, cause: Cause, words: &[String], fault: Option<Fault<'_>>) -> Vec<u8> {
     let mut err = Vec::new(alloc);
-    let _ = report(&mut err, Done::of(cause), words, raw_fault, None);
+    let _ = report(&mut err, Done::of(cause), words, fault);
     err
 }
 
@@ -396,8 +409,117 @@ fn a_message_says_what_helps(rt: HostRuntime) -> Result<(), Fail> {
     let shown = printed(rt.alloc(), Cause::RawFault, &words, Some(fault));
     let want = b"idxtool: raw fault\n  r.raw: not a regular file\n";
     assert_eq!(rt; shown.as_slice(), want.as_slice());
+    let refused = Cause::Header {
+        line: 2,
+        kind: HeaderKind::OtherVersion,
+    };
+    let shown = printed(rt.alloc(), refused, &words, None);
+    let want = b"idxtool: header line 2 OtherVersion\n  r.raw: the version is not 6\n";
+    assert_eq!(rt; shown.as_slice(), want.as_slice());
     let shown = printed(rt.alloc(), Cause::Done, &words, Some(fault));
     assert!(rt; shown.is_empty());
+    Ok(())
+}
+
+/// The header text of a small dataset.
+const HEADER: &str =
+    "(version)\n6\n(box)\n0 3 0 3\n(fields)\na uint8\n(bits)\nV0101\n(bitsperblock)\n2\n\
+    (blocksperfile)\n2\n(filename_template)\n./%01x.bin\n(time)\n0 9 time%04d/\n";
+
+/// The bay of a text, whose calls of these numbers fail.
+fn bay_of(alloc: Global, text: &str, fails: &[u64]) -> Result<MemBay, AllocError> {
+    let header = Bytes::from_vec(Vec::from_slice(alloc, text.as_bytes())?);
+    let fails = Vec::from_slice(alloc, fails)?;
+    Ok(MemBay::new(header, Vec::new(alloc), fails, Vec::new(alloc)))
+}
+
+/// How `info` over this bay ends, and what it writes.
+fn info_of(alloc: Global, mut bay: MemBay, fails: &[u64]) -> Result<(Done, Vec<u8>), AllocError> {
+    let words = owned(alloc, &["info", "run.idx"])?;
+    let mut raws = Vec::with_capacity(alloc, 1)?;
+    raws.push(MemSource::new(Bytes::new(alloc), Vec::new(alloc)))?;
+    let mut out = MemSink::new(Vec::from_slice(alloc, fails)?);
+    let done = run(alloc, &words, &mut raws, &mut bay, &mut out);
+    let written = Vec::from_slice(alloc, out.written().as_slice())?;
+    Ok((done, written))
+}
+
+#[test]
+fn info_says_what_a_header_says(rt: HostRuntime) -> Result<(), Fail> {
+    let bare =
+        "(version)\n6\n(box)\n0 7 1 2 0 0\n(fields)\nvelocity 3*float64 + t float32[2]\n(bits)\nV10010\n\
+        (bitsperblock)\n3\n(blocksperfile)\n65\n(filename_template)\n./a/%02x.bin\n";
+    for (text, want) in [
+        (
+            HEADER,
+            "version 6\naxes 2\nbox 0 3 0 3\nbits V0101\nlevels 4\nbitsperblock 2\nblocksperfile 2\nblocks 4\n\
+             steps 0 9\nfield a uint8 1\n",
+        ),
+        (
+            bare,
+            "version 6\naxes 2\nbox 0 7 1 2\nbits V10010\nlevels 5\nbitsperblock 3\nblocksperfile 65\n\
+             blocks 4\nsteps none\nfield velocity float64[3] 24\nfield t float32[2] 8\n",
+        ),
+    ] {
+        let bay = bay_of(rt.alloc(), text, &[])?;
+        let (done, written) = info_of(rt.alloc(), bay, &[])?;
+        assert_eq!(rt; done, Done::of(Cause::Done));
+        assert_eq!(rt; written.as_slice(), want.as_bytes());
+    }
+    Ok(())
+}
+
+#[test]
+fn a_header_is_refused_for_its_first_fault(rt: HostRuntime) -> Result<(), Fail> {
+    for (line, other, at, kind) in [
+        ("V0101", "V0501", 7, HeaderKind::BadMask),
+        ("0 3 0 3", "0 4 0 3", 3, HeaderKind::BoxOutsideMask),
+        ("V0101", "V0101010101", 13, HeaderKind::TemplateTooSmall),
+        ("6", "5", 1, HeaderKind::OtherVersion),
+    ] {
+        let text = HEADER.replace(rt.alloc(), line, other)?;
+        let bay = bay_of(rt.alloc(), text.as_str(), &[])?;
+        let (done, written) = info_of(rt.alloc(), bay, &[1])?;
+        assert_eq!(rt; done, Done::of(Cause::Header { line: at, kind }), "{line}");
+        assert!(rt; written.is_empty());
+    }
+    let bay = bay_of(rt.alloc(), "", &[])?;
+    let (done, _) = info_of(rt.alloc(), bay, &[])?;
+    let missing = Cause::Header {
+        line: 1,
+        kind: HeaderKind::MissingKey,
+    };
+    assert_eq!(rt; done, Done::of(missing));
+    Ok(())
+}
+
+/// The header is read in one call, and the summary is written in one.
+#[test]
+fn a_fault_ends_info(rt: HostRuntime) -> Result<(), Fail> {
+    for (bay_fails, sink_fails, cause) in [
+        ([1].as_slice(), [1].as_slice(), Cause::StoreFault),
+        ([2].as_slice(), [1].as_slice(), Cause::SinkFault),
+        ([2].as_slice(), [2].as_slice(), Cause::Done),
+    ] {
+        let bay = bay_of(rt.alloc(), HEADER, bay_fails)?;
+        let (done, _) = info_of(rt.alloc(), bay, sink_fails)?;
+        assert_eq!(rt; done, Done::of(cause));
+    }
+    Ok(())
+}
+
+#[test]
+fn info_has_one_word_behind_it(rt: HostRuntime) -> Result<(), Fail> {
+    for (words, at) in [
+        (["info"].as_slice(), 1),
+        (["info", ""].as_slice(), 1),
+        (["info", "-v.idx"].as_slice(), 1),
+        (["info", "v.idx", "0"].as_slice(), 2),
+        (["inform", "v.idx"].as_slice(), 0),
+    ] {
+        let words = owned(rt.alloc(), words)?;
+        assert_eq!(rt; cause_of(rt.alloc(), &words)?, Cause::Usage { at });
+    }
     Ok(())
 }
 

@@ -1,0 +1,20 @@
+-- The kinds of faults of a header by their names, as they are printed.
+use Rattle.std.specs.Prelude.{ℕ, List, codes}
+use Rattle.idx_header.specs.declared.header_kind.HeaderKind.{HeaderKind}
+use Rattle.idx_header.specs.declared.header_kind.HeaderKind.TheVariants as kinds
+
+abbrev pub kind_text : HeaderKind → List ℕ
+kind_text kinds.NotText = codes "NotText"
+kind_text kinds.DoubleKey = codes "DoubleKey"
+kind_text kinds.MissingKey = codes "MissingKey"
+kind_text kinds.BadNumber = codes "BadNumber"
+kind_text kinds.OtherVersion = codes "OtherVersion"
+kind_text kinds.BadBox = codes "BadBox"
+kind_text kinds.BadMask = codes "BadMask"
+kind_text kinds.BoxOutsideMask = codes "BoxOutsideMask"
+kind_text kinds.BadField = codes "BadField"
+kind_text kinds.BadTemplate = codes "BadTemplate"
+kind_text kinds.TemplateTooSmall = codes "TemplateTooSmall"
+kind_text kinds.BadTime = codes "BadTime"
+kind_text kinds.OverLimit = codes "OverLimit"
+kind_text kinds.NoMemory = codes "NoMemory"
