@@ -2,5 +2,7 @@ pub mod Bytes
 pub mod Cause
 pub mod Contents
 pub mod Counts
-pub mod Objects
+pub mod Files
 pub mod Memory
+pub mod Objects
+pub mod Shape

@@ -1,5 +1,5 @@
 -- The forms in memory: bytes, and the calls that are to fail.
-use Rattle.std.specs.Prelude.{ℕ, List, Contains, Bool, true, false, Result, Ok, Err, if◌then◌else◌}
+use Rattle.std.specs.Prelude.{ℕ, List, [], ◌∷◌, ◌++◌, length, take, drop, replicate, Contains, Bool, true, false, Option, Result, Ok, Err, nat_lt, if◌then◌else◌}
 use Rattle.idx_outside.specs.Cause.{counted}
 use Rattle.idx_outside.specs.declared.mem_file.MemFile.{MemFile}
 use Rattle.idx_outside.specs.declared.bay_fault.BayFault.{BayFault}
@@ -40,9 +40,39 @@ pub record BayContents : Type 0 where
   pub header : List ℕ
   pub files : List MemFile
 
--- A bay in memory, and which of its calls fail. `drafts` are the numbers of the failing calls of each draft to come.
+-- A bay in memory, and which of its calls fail: `begun` is the folder that was last begun, and `drafts` are the numbers of
+-- the failing calls of each draft to come.
 pub record BayState : Type 0 where
   pub header : List ℕ
   pub files : List MemFile
+  pub begun : Option (List ℕ)
   pub drafts : List (List ℕ)
   pub script : FaultState
+
+-- the numbers of the failing calls of the next draft; none where no list is left
+abbrev pub next_draft : List (List ℕ) → List ℕ
+next_draft [] = []
+next_draft (fails ∷ drafts) = fails
+
+-- after a draft with so many faults was given up
+abbrev pub after_retire : ℕ → FaultState → FaultState
+after_retire faults s =
+    record { fails = s.fails; calls = s.calls; faults = (if nat_lt 0 faults then counted s.faults else s.faults) }
+
+-- a reader in memory: how many calls there were, modulo 2 ^ 64, and which of them fail
+pub record ReaderState : Type 0 where
+  pub reads : ℕ
+  pub script : FaultState
+
+-- a file of which nothing is told: its length, and the bytes that are kept of it, behind which it reads as zeros
+pub record KeptFile : Type 0 where
+  pub len : ℕ
+  pub bytes : List ℕ
+
+-- a file whose bytes are all kept
+abbrev pub kept_whole : List ℕ → KeptFile
+kept_whole bytes = record { len = length bytes; bytes = bytes }
+
+-- so many bytes of a file from a place on
+abbrev pub kept_range : KeptFile → ℕ → ℕ → List ℕ
+kept_range file at count = take count (drop at file.bytes ++ replicate count 0)

@@ -1,15 +1,33 @@
-ghost use Rattle.std.specs.Prelude.{◌≡◌, ℕ, ◌++◌, List, Option, IfSome, OnOk, OnErr, IsErrOf};
+ghost use Rattle.std.specs.Prelude.{◌≡◌, ◌↔◌, ◌⊎◌, ℕ, ◌<◌, ◌++◌, [], List, Option, None, IsSome, IsTrue, IfSome, IfOk, OnOk, OnErr, IsErrOf};
 ghost use Rattle.std.specs.Io.{StartsWith};
-ghost use Rattle.idx_outside.specs.Cause.{NeverFalls, OnlyWhereRose};
+ghost use Rattle.std.specs.Option.{ForSome};
+ghost use Rattle.idx_outside.specs.Cause.{NeverFalls, Rose, OnlyWhereRose};
+ghost use Rattle.idx_outside.specs.Files.{retold, added, known_with, HasStep, LiesIn, AllLieIn, StillAdmits, file_at, stored_at, leaf_files};
+ghost use Rattle.idx_outside.specs.declared.mem_file.MemFile.{MemFile};
 
-use crate::{BayFault, Bytes};
+use crate::{BayFault, Bytes, Draft, Leaf, Outage};
 
 /// Where a dataset stands: its header, beside the files of its steps.
 ///
-/// A call that answers `Outage` has counted a fault of this bay, and no other call has.
+/// A step is written so: `begin_step`, then a `create` for each of its files, whose drafts are filled and sealed, and
+/// then one `commit` of all of them. A draft that is given up is handed to `retire`.
+///
+/// A call that answers `Outage` has counted a fault of this bay, and no other call has, but for `retire`.
 pub trait Bay {
+    /// A committed file, or one that can be committed.
+    type Leaf: Leaf;
+
+    /// A file that is being written.
+    type Draft: Draft<Leaf = Self::Leaf>;
+
     /// The header's text, where it is known. Where no header stands it is empty.
     ghost header: { Self → Option (List ℕ) };
+
+    /// The committed files, where they are known.
+    ghost files: { Self → Option (List MemFile) };
+
+    /// A draft of this path may be made: where the files are known, it lies in the folder that was last begun.
+    ghost admits: { Self → List ℕ → Type 0 };
 
     /// How many faults were counted. The count stands still at `u64::MAX`.
     ghost faults: { Self → ℕ };
@@ -20,12 +38,103 @@ pub trait Bay {
         ensures appends { OnOk result (StartsWith into.new into.old) }
         ensures refused { OnErr result (into.new ≡ into.old) }
         ensures header { header self.new ≡ header self.old }
+        ensures files { files self.new ≡ files self.old }
+        ensures admits { StillAdmits admits self.old self.new }
         ensures count { NeverFalls (faults self.old) (faults self.new) }
         ensures quiet { OnOk result (faults self.new ≡ faults self.old) }
         ensures no_memory { IsErrOf result BayFault.NoMemory → faults self.new ≡ faults self.old }
         ensures cause { OnlyWhereRose result BayFault.Outage (faults self.old) (faults self.new) };
 
+    /// Puts the header's text. After `Outage` the old or the new text stands.
+    fn set_header(&mut self, text: &[u8]) -> Result<(), Outage>
+        ensures text { OnOk result (header self.new ≡ retold (header self.old) text.now) }
+        ensures refused { OnErr result ((header self.new ≡ header self.old)
+            ⊎ (header self.new ≡ retold (header self.old) text.now)) }
+        ensures files { files self.new ≡ files self.old }
+        ensures admits { StillAdmits admits self.old self.new }
+        ensures count { NeverFalls (faults self.old) (faults self.new) }
+        ensures quiet { OnOk result (faults self.new ≡ faults self.old) }
+        ensures cause { OnErr result (Rose (faults self.old) (faults self.new)) };
+
+    /// Whether a committed step has this folder.
+    fn has_step(&mut self, folder: &[u8]) -> Result<bool, Outage>
+        ensures stands { IfOk result (λ stands. IfSome (files self.old)
+            (λ files. IsTrue stands ↔ HasStep folder.now files)) }
+        ensures header { header self.new ≡ header self.old }
+        ensures files { files self.new ≡ files self.old }
+        ensures admits { StillAdmits admits self.old self.new }
+        ensures count { NeverFalls (faults self.old) (faults self.new) }
+        ensures quiet { OnOk result (faults self.new ≡ faults self.old) }
+        ensures cause { OnErr result (Rose (faults self.old) (faults self.new)) };
+
+    /// Drops whatever was staged for this folder, which is then the folder last begun. After `Outage` that is the one
+    /// that it was.
+    fn begin_step(&mut self, folder: &[u8]) -> Result<(), Outage>
+        ensures begun { OnOk result ((path : List ℕ) → LiesIn folder.now path → admits self.new path) }
+        ensures refused { OnErr result (StillAdmits admits self.old self.new) }
+        ensures header { header self.new ≡ header self.old }
+        ensures files { files self.new ≡ files self.old }
+        ensures count { NeverFalls (faults self.old) (faults self.new) }
+        ensures quiet { OnOk result (faults self.new ≡ faults self.old) }
+        ensures cause { OnErr result (Rose (faults self.old) (faults self.new)) };
+
+    /// An empty draft in the folder last begun, without a fault.
+    fn create(&mut self, path: &[u8]) -> Result<Self::Draft, BayFault>
+        requires { admits self.old path.now }
+        ensures empty { IfOk result (λ draft. Self.Draft.contents draft ≡ known_with (files self.old) []) }
+        ensures unfailed { IfOk result (λ draft. Self.Draft.faults draft ≡ 0) }
+        ensures header { header self.new ≡ header self.old }
+        ensures files { files self.new ≡ files self.old }
+        ensures admits { StillAdmits admits self.old self.new }
+        ensures count { NeverFalls (faults self.old) (faults self.new) }
+        ensures quiet { OnOk result (faults self.new ≡ faults self.old) }
+        ensures no_memory { IsErrOf result BayFault.NoMemory → faults self.new ≡ faults self.old }
+        ensures cause { OnlyWhereRose result BayFault.Outage (faults self.old) (faults self.new) };
+
+    /// The committed file of this path; `None` where there is none.
+    fn leaf(&mut self, path: &[u8]) -> Result<Option<Self::Leaf>, BayFault>
+        ensures found { IfOk result (λ found. IfSome found
+            (λ leaf. Self.Leaf.contents leaf ≡ stored_at path.now (files self.old))) }
+        ensures none { IfOk result (λ found. IfSome (files self.old)
+            (λ files. (found ≡ None) ↔ (file_at path.now files ≡ None))) }
+        ensures header { header self.new ≡ header self.old }
+        ensures files { files self.new ≡ files self.old }
+        ensures admits { StillAdmits admits self.old self.new }
+        ensures count { NeverFalls (faults self.old) (faults self.new) }
+        ensures quiet { OnOk result (faults self.new ≡ faults self.old) }
+        ensures no_memory { IsErrOf result BayFault.NoMemory → faults self.new ≡ faults self.old }
+        ensures cause { OnlyWhereRose result BayFault.Outage (faults self.old) (faults self.new) };
+
+    /// Makes all leaves stand at once under their paths, as the files of a step. After a refusal they stand wholly or
+    /// not at all, and after `NoMemory` not at all.
+    fn commit(&mut self, folder: &[u8], leaves: &Vec<(Bytes, Self::Leaf)>) -> Result<(), BayFault>
+        requires new { ForSome (files self.old) (λ files. ¬ (HasStep folder.now files)) }
+        requires within { ForSome (files self.old) (λ _. AllLieIn folder.now leaves.now.items) }
+        ensures stands { OnOk result (files self.new
+            ≡ added (files self.old) (leaf_files Self.Leaf.contents folder.now leaves.now.items)) }
+        ensures whole { OnErr result ((files self.new ≡ files self.old) ⊎ (files self.new
+            ≡ added (files self.old) (leaf_files Self.Leaf.contents folder.now leaves.now.items))) }
+        ensures none { IsErrOf result BayFault.NoMemory → files self.new ≡ files self.old }
+        ensures header { header self.new ≡ header self.old }
+        ensures admits { StillAdmits admits self.old self.new }
+        ensures count { NeverFalls (faults self.old) (faults self.new) }
+        ensures quiet { OnOk result (faults self.new ≡ faults self.old) }
+        ensures no_memory { IsErrOf result BayFault.NoMemory → faults self.new ≡ faults self.old }
+        ensures cause { OnlyWhereRose result BayFault.Outage (faults self.old) (faults self.new) };
+
+    /// Takes a draft that is given up, and counts a fault exactly where the draft has counted some. Takes no memory.
+    fn retire(&mut self, draft: Self::Draft)
+        ensures rose { 0 < Self.Draft.faults draft → Rose (faults self.old) (faults self.new) }
+        ensures same { Self.Draft.faults draft ≡ 0 → faults self.new ≡ faults self.old }
+        ensures count { NeverFalls (faults self.old) (faults self.new) }
+        ensures header { header self.new ≡ header self.old }
+        ensures files { files self.new ≡ files self.old }
+        ensures admits { StillAdmits admits self.old self.new };
+
     /// How many faults were counted.
     fn faults(&self) -> u64
         ensures { result ≡ faults self.now };
+
+    /// A bay that tells its files has leaves that tell their bytes.
+    ghost leaves_tell: { (bay : Self) (leaf : Self.Leaf) → IsSome (files bay) → IsSome (Self.Leaf.contents leaf) };
 }

@@ -2,6 +2,7 @@ ghost use Rattle.std.specs.Prelude.{◌≡◌};
 ghost use Rattle.idx_outside.specs.declared.bay_fault.BayFault.TheVariants.{Outage, NoMemory};
 
 use crate::{NoMemory, Outage};
+use std::alloc::{AllocError, AllocFailed};
 use thiserror::Error;
 
 /// Why a call of a bay was refused.
@@ -27,6 +28,22 @@ impl From<NoMemory> for BayFault {
     ghost from_gives = { λ _ fault. fault ≡ NoMemory };
 
     fn from(_: NoMemory) -> BayFault {
+        BayFault::NoMemory
+    }
+}
+
+impl From<AllocError> for BayFault {
+    ghost from_gives = { λ _ fault. fault ≡ NoMemory };
+
+    fn from(_: AllocError) -> BayFault {
+        BayFault::NoMemory
+    }
+}
+
+impl<T: Drop> From<AllocFailed<T>> for BayFault {
+    ghost from_gives = { λ _ fault. fault ≡ NoMemory };
+
+    fn from(_: AllocFailed<T>) -> BayFault {
         BayFault::NoMemory
     }
 }

@@ -1,5 +1,6 @@
 ghost use Rattle.std.specs.Prelude.{◌≡◌, ◌+◌, ◌≤◌, length, take, drop, Some, Ok, IsOk};
 
+use crate::range::copy_range;
 use crate::{Bytes, Outage, Source};
 use std::marker::Model;
 
@@ -44,9 +45,7 @@ impl Source for SureSource {
         ensures read { into.new ≡ take (length into.old) (drop at self.old) }
         ensures same { self.new ≡ self.old }
     {
-        let bytes = self.bytes.as_slice();
-        let start = at as usize;
-        into.copy_from_slice(&bytes[start..start + into.len()]);
+        copy_range(self.bytes.as_slice(), at, into);
         Ok(())
     }
 

@@ -10,6 +10,9 @@ use super::*;
 use std::alloc::Global;
 use std::test::Fail;
 
+mod saving;
+mod step_of_blocks;
+
 #[derive(Clone, Copy, Debug, PartialEq, Eq)]
 enum CopyFault {
     RawFault,

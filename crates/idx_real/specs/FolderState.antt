@@ -1,8 +1,36 @@
--- What a contract sees of the folder of a header file as a bay.
-use Rattle.std.specs.Prelude.{ℕ, List}
+-- What a contract sees of the folder of a header file as a bay, and of its files.
+use Rattle.std.specs.Prelude.{ℕ, List, Option, Some, None}
+use Rattle.idx_outside.specs.Cause.{counted}
+use Rattle.idx_outside.specs.Files.{LiesIn}
 use Rattle.idx_real.specs.Faults.{Faults}
+use Rattle.idx_real.specs.declared.fault.Reason.{Reason}
 
--- the bytes of the header file's path, and the faults
+-- The bytes of the header file's path, the folder that was last begun, the path of the last fault, where it is not the
+-- header file's, and the faults.
 pub record FolderState : Type 0 where
   pub path : List ℕ
+  pub begun : Option (List ℕ)
+  pub failed : Option (List ℕ)
   pub faults : Faults
+
+-- after one more fault at this path
+abbrev pub failed_at : Option (List ℕ) → Reason → FolderState → FolderState
+failed_at place reason s =
+    record { path = s.path; begun = s.begun; failed = place; faults = record { count = counted s.faults.count; last = Some reason } }
+
+-- a path in the folder that was last begun
+abbrev pub InStep : Option (List ℕ) → List ℕ → Type 0
+InStep None path = ⊥
+InStep (Some folder) path = LiesIn folder path
+
+-- a file that is being written: the open file, its path where it is staged, its path once it is committed, and the faults
+pub record DraftState (F : Type 0) : Type 0 where
+  pub file : F
+  pub staged : List ℕ
+  pub path : List ℕ
+  pub faults : Faults
+
+-- a finished file: its path once it is committed, and its length
+pub record LeafState : Type 0 where
+  pub path : List ℕ
+  pub len : ℕ

@@ -3,4 +3,5 @@ pub mod FileState
 pub mod FolderState
 pub mod Front
 pub mod Placed
+pub mod ReaderState
 pub mod SinkState

@@ -14,6 +14,18 @@ pub enum Reason {
     /// The range that was asked for passes the end of the file.
     #[error("the range that was asked for passes the end of the file")]
     EndsEarly,
+    /// Something stands where a step was to be committed.
+    #[error("something stands there already")]
+    StandsAlready,
+    /// A name has bytes that are no text, so that no path can be made of it.
+    #[error("the name is no text")]
+    NotText,
+    /// A file was to be made outside of the step that was begun.
+    #[error("the file is not in the step that was begun")]
+    OutsideStep,
+    /// A file was to be committed under another path than it was written for.
+    #[error("a file was written for another path")]
+    OtherPath,
 }
 
 impl From<io::Error> for Reason {

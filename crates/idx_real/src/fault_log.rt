@@ -45,12 +45,19 @@ impl FaultLog {
     {
         match found {
             Ok(value) => Ok(value),
-            Err(reason) => {
-                self.faults = self.faults.saturating_add(1);
-                self.last = Some(reason);
-                Err(Outage)
-            }
+            Err(reason) => Err(self.fault(reason)),
         }
+    }
+
+    /// Counts a fault, and keeps its reason.
+    pub(crate) fn fault(&mut self, reason: Reason) -> Outage
+        ensures state { self.new ≡ record { count = counted self.old.count; last = Some reason } }
+        ensures cause { Rose self.old.count self.new.count }
+        ensures count { NeverFalls self.old.count self.new.count }
+    {
+        self.faults = self.faults.saturating_add(1);
+        self.last = Some(reason);
+        Outage
     }
 
     pub(crate) fn faults(&self) -> u64

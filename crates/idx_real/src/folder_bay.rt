@@ -1,12 +1,21 @@
-ghost use Rattle.std.specs.Prelude.{◌≡◌, ◌↔◌, ◌<◌, None, IsSome, string_bytes, option_map, IfSome, OnOk, OnErr, IsErrOf};
-ghost use Rattle.idx_outside.specs.Cause.{counted, NeverFalls, OnlyWhereRose};
+ghost use Rattle.std.specs.Prelude.{◌≡◌, ◌↔◌, ◌<◌, None, Some, Ok, Err, ⊤, IsSome, string_bytes, option_map, IfSome, IfOk, OnOk, OnErr, IsErrOf, length};
+ghost use Rattle.std.specs.Option.{unwrap_or};
+ghost use Rattle.idx_outside.specs.Cause.{counted, NeverFalls, Rose, OnlyWhereRose};
 ghost use Rattle.idx_real.specs.Faults.{no_faults};
+ghost use Rattle.idx_real.specs.FolderState.{failed_at, InStep};
 ghost use Rattle.idx_real.specs.Front.{AppendsFront};
 
 use crate::fault_log::FaultLog;
 use crate::regular_file::{front, open_if_there};
-use crate::{Fault, Reason};
-use idx_outside::{Bay, BayFault, Bytes};
+use crate::step_folder::{
+    PART, are_of_their_paths, beside, create_file, folder_above, folder_of, is_folder,
+    length_if_there, make_anew, make_folders, rename_new, replace,
+};
+use crate::{Fault, FileDraft, FileLeaf, Reason};
+use idx_outside::{Bay, BayFault, Bytes, NoMemory, Outage};
+use std::alloc::Global;
+use std::fs;
+use std::io::{self, ErrorKind};
 use std::marker::Model;
 use std::rt::Files;
 
@@ -14,52 +23,184 @@ use std::rt::Files;
 /// sees that it is too long.
 pub const HEADER_READ: u64 = 65_537;
 
-/// The folder of a header file as a bay, of which nothing is known. A contract sees the header file's path and the
-/// faults.
+/// The folder of a header file as a bay, of which nothing is known. A contract sees the header file's path, the folder
+/// last begun and the faults.
 ///
-/// Each is one fault: a header file that cannot be looked at or opened for any reason but that there is none of its
-/// path, what is no regular file (a folder, a pipe, a terminal, a device), and a read that fails.
+/// A step of folder F is staged in `F.part` beside it, which is renamed at `commit`. After a refusal it may be left; it
+/// is never read, and the next `begin_step` of F drops it. A header is staged likewise.
+///
+/// Each call of the system that fails is one fault, but for what is not there where a call asks whether it is. So are
+/// what is no regular file where a file is read, a folder that stands already where a step is committed, a file outside
+/// of the step that was begun, a name that is no text, and want of memory in a call that cannot answer it.
 #[derive(Drop)]
 pub struct FolderBay<R: Files + Drop> {
     rt: R,
     path: String,
+    begun: Option<String>,
+    failed: Option<String>,
     log: FaultLog,
 }
 
+/// The paths of a file of a step: where it is staged, and where it stands once it is committed.
+#[derive(Drop)]
+struct Places {
+    staged: String,
+    path: String,
+}
+
 impl<R: Files + Drop> Model for FolderBay<R> {
-    ghost use Rattle.std.specs.Prelude.{string_bytes};
+    ghost use Rattle.std.specs.Prelude.{string_bytes, option_map};
     ghost use Rattle.idx_real.specs.FolderState.{FolderState};
 
     ghost Value = { FolderState };
 
-    ghost view = { λ s. record { path = string_bytes s.path; faults = s.log } };
+    ghost view = { λ s. record {
+      path = string_bytes s.path;
+      begun = option_map string_bytes s.begun;
+      failed = option_map string_bytes s.failed;
+      faults = s.log;
+    } };
 }
 
 impl<R: Files + Drop> FolderBay<R> {
     /// `path` is the header file's. Opens nothing yet and takes no memory.
     pub fn new(rt: R, path: String) -> FolderBay<R>
-        ensures { result ≡ record { path = string_bytes path; faults = no_faults } }
+        ensures { result ≡ record { path = string_bytes path; begun = None; failed = None; faults = no_faults } }
     {
         FolderBay {
             rt,
             path,
+            begun: None,
+            failed: None,
             log: FaultLog::new(),
         }
     }
 
     /// The last fault, with the path and the reason; `None` exactly where no fault was counted.
     pub fn last_fault(&self) -> Option<Fault<'_>>
-        ensures path { IfSome result (λ fault. fault.path.now ≡ self.now.path) }
+        ensures path { IfSome result (λ fault. fault.path.now ≡ unwrap_or self.now.failed self.now.path) }
         ensures reason { option_map (λ fault. fault.reason) result ≡ self.now.faults.last }
         ensures some { IsSome result ↔ (0 < self.now.faults.count) }
     {
-        let path = self.path.as_str();
+        let path = match &self.failed {
+            Some(path) => path.as_str(),
+            None => self.path.as_str(),
+        };
         self.log.last().map(|reason| Fault { path, reason })
+    }
+
+    fn alloc(&self) -> Global {
+        *self.path.allocator()
+    }
+
+    /// Counts a fault at a path; at the header file's where there is none.
+    fn fault(&mut self, place: Option<String>, reason: Reason) -> Outage
+        ensures state { self.new ≡ failed_at (option_map string_bytes place) reason self.old }
+        ensures cause { Rose self.old.faults.count self.new.faults.count }
+    {
+        self.failed = place;
+        self.log.fault(reason)
+    }
+
+    /// The name as text. What is no text is a fault.
+    fn text<'t>(&mut self, name: &'t [u8]) -> Result<&'t str, Outage>
+        ensures text { IfOk result (λ text. text.now ≡ name.now) }
+        ensures ok { OnOk result (self.new ≡ self.old) }
+        ensures err { OnErr result (self.new ≡ failed_at None Reason.NotText self.old) }
+        ensures cause { OnErr result (Rose self.old.faults.count self.new.faults.count) }
+    {
+        match str::from_utf8(name) {
+            Ok(text) => Ok(text),
+            Err(_) => Err(self.fault(None, Reason::NotText)),
+        }
+    }
+
+    /// Where this name stands beside the header file.
+    fn place(&self, name: &str, end: &str) -> Result<String, NoMemory> {
+        beside(self.alloc(), self.path.as_str(), name, end)
+    }
+
+    /// The same, where the name is text and there is memory.
+    fn place_if_text(&self, name: &[u8]) -> Option<String> {
+        match str::from_utf8(name) {
+            Ok(name) => self.place(name, "").ok(),
+            Err(_) => None,
+        }
+    }
+
+    /// Where a file of the step that was begun is staged, and where it stands once it is committed.
+    fn places(&self, path: &[u8]) -> Result<Result<Places, Reason>, NoMemory>
+        ensures { ¬ (InStep self.now.begun path.now) → result ≡ Ok (Err Reason.OutsideStep) }
+    {
+        match folder_of(&self.begun, path) {
+            Some(folder) => self.places_in(folder, path),
+            None => Ok(Err(Reason::OutsideStep)),
+        }
+    }
+
+    /// The same of a folder in which the path lies.
+    fn places_in(&self, folder: &str, path: &[u8]) -> Result<Result<Places, Reason>, NoMemory>
+        requires { length folder.now < length path.now }
+    {
+        let rest = &path[folder.len() + 1..];
+        let (Ok(path), Ok(rest)) = (str::from_utf8(path), str::from_utf8(rest)) else {
+            return Ok(Err(Reason::NotText));
+        };
+        let end = format!(in self.alloc(); "{PART}/{rest}")?;
+        Ok(Ok(Places {
+            staged: self.place(folder, end.as_str())?,
+            path: self.place(path, "")?,
+        }))
+    }
+
+    /// The same, for a call that cannot answer want of memory.
+    fn place_or_fault(&mut self, name: &str, end: &str) -> Result<String, Outage>
+        ensures ok { OnOk result (self.new ≡ self.old) }
+        ensures path { self.new.path ≡ self.old.path }
+        ensures begun { self.new.begun ≡ self.old.begun }
+        ensures err { OnErr result (self.new.faults.count ≡ counted self.old.faults.count) }
+        ensures cause { OnErr result (Rose self.old.faults.count self.new.faults.count) }
+    {
+        match self.place(name, end) {
+            Ok(place) => Ok(place),
+            Err(_) => {
+                let reason = Reason::System(io::Error::from(ErrorKind::OutOfMemory));
+                Err(self.fault(None, reason))
+            }
+        }
+    }
+}
+
+impl<R: Files + Drop> FolderBay<R> {
+    /// Makes the folders above a path.
+    fn make_above(&mut self, path: &str) -> Result<(), Outage>
+        ensures ok { OnOk result (self.new ≡ self.old) }
+        ensures path { self.new.path ≡ self.old.path }
+        ensures begun { self.new.begun ≡ self.old.begun }
+        ensures err { OnErr result (self.new.faults.count ≡ counted self.old.faults.count) }
+        ensures cause { OnErr result (Rose self.old.faults.count self.new.faults.count) }
+    {
+        let folder = folder_above(path);
+        match make_folders(&self.rt, folder) {
+            Ok(()) => Ok(()),
+            Err(reason) => {
+                let place = String::from_str(self.alloc(), folder).ok();
+                Err(self.fault(place, reason))
+            }
+        }
     }
 }
 
 impl<R: Files + Drop> Bay for FolderBay<R> {
+    type Leaf = FileLeaf;
+
+    type Draft = FileDraft<R::File>;
+
     ghost header = { λ _. None };
+
+    ghost files = { λ _. None };
+
+    ghost admits = { λ _ _. ⊤ };
 
     ghost faults = { λ s. s.faults.count };
 
@@ -68,23 +209,172 @@ impl<R: Files + Drop> Bay for FolderBay<R> {
         ensures text { OnOk result (AppendsFront R.File.remaining HEADER_READ into.old into.new) }
         ensures refused { OnErr result (into.new ≡ into.old) }
         ensures path { self.new.path ≡ self.old.path }
+        ensures begun { self.new.begun ≡ self.old.begun }
+        ensures failed { IsErrOf result BayFault.Outage → self.new.failed ≡ None }
         ensures quiet { OnOk result (self.new.faults ≡ self.old.faults) }
         ensures no_memory { IsErrOf result BayFault.NoMemory → self.new.faults ≡ self.old.faults }
         ensures outage { IsErrOf result BayFault.Outage → self.new.faults.count ≡ counted self.old.faults.count }
         ensures count { NeverFalls self.old.faults.count self.new.faults.count }
         ensures cause { OnlyWhereRose result BayFault.Outage self.old.faults.count self.new.faults.count }
     {
-        let found = open_if_there(&self.rt, self.path.as_str());
-        let Some(file) = self.log.answer(found)? else {
-            return Ok(());
+        let file = match open_if_there(&self.rt, self.path.as_str()) {
+            Ok(Some(file)) => file,
+            Ok(None) => return Ok(()),
+            Err(reason) => return Err(self.fault(None, reason).into()),
         };
-        let found = front(*self.path.allocator(), file, HEADER_READ)?;
-        let text = self.log.answer(found)?;
-        into.append(text.as_slice())?;
-        Ok(())
+        match front(self.alloc(), file, HEADER_READ)? {
+            Ok(text) => Ok(into.append(text.as_slice())?),
+            Err(reason) => Err(self.fault(None, reason).into()),
+        }
+    }
+
+    /// Makes the folders above the header file, writes beside it and renames over it.
+    fn set_header(&mut self, text: &[u8]) -> Result<(), Outage>
+        ensures path { self.new.path ≡ self.old.path }
+        ensures begun { self.new.begun ≡ self.old.begun }
+        ensures quiet { OnOk result (self.new.faults ≡ self.old.faults) }
+        ensures err { OnErr result (self.new.faults.count ≡ counted self.old.faults.count) }
+        ensures count { NeverFalls self.old.faults.count self.new.faults.count }
+        ensures cause { OnErr result (Rose self.old.faults.count self.new.faults.count) }
+    {
+        let Ok(staged) = format!(in self.alloc(); "{}{PART}", self.path) else {
+            let reason = Reason::System(io::Error::from(ErrorKind::OutOfMemory));
+            return Err(self.fault(None, reason));
+        };
+        self.make_above(staged.as_str())?;
+        match replace(&self.rt, staged.as_str(), self.path.as_str(), text) {
+            Ok(()) => Ok(()),
+            Err(reason) => Err(self.fault(None, reason)),
+        }
+    }
+
+    /// True exactly where the step's folder is there and is a folder.
+    fn has_step(&mut self, folder: &[u8]) -> Result<bool, Outage>
+        ensures path { self.new.path ≡ self.old.path }
+        ensures begun { self.new.begun ≡ self.old.begun }
+        ensures quiet { OnOk result (self.new.faults ≡ self.old.faults) }
+        ensures err { OnErr result (self.new.faults.count ≡ counted self.old.faults.count) }
+        ensures count { NeverFalls self.old.faults.count self.new.faults.count }
+        ensures cause { OnErr result (Rose self.old.faults.count self.new.faults.count) }
+    {
+        let folder = self.text(folder)?;
+        let place = self.place_or_fault(folder, "")?;
+        match is_folder(&self.rt, place.as_str()) {
+            Ok(stands) => Ok(stands),
+            Err(reason) => Err(self.fault(Some(place), reason)),
+        }
+    }
+
+    /// Makes an empty folder for the step's files, and the folders above it.
+    fn begin_step(&mut self, folder: &[u8]) -> Result<(), Outage>
+        ensures path { self.new.path ≡ self.old.path }
+        ensures begun { OnOk result (self.new.begun ≡ Some folder.now) }
+        ensures refused { OnErr result (self.new.begun ≡ self.old.begun) }
+        ensures quiet { OnOk result (self.new.faults ≡ self.old.faults) }
+        ensures err { OnErr result (self.new.faults.count ≡ counted self.old.faults.count) }
+        ensures count { NeverFalls self.old.faults.count self.new.faults.count }
+        ensures cause { OnErr result (Rose self.old.faults.count self.new.faults.count) }
+    {
+        let folder = self.text(folder)?;
+        let place = self.place_or_fault(folder, PART)?;
+        let Ok(begun) = String::from_str(self.alloc(), folder) else {
+            let reason = Reason::System(io::Error::from(ErrorKind::OutOfMemory));
+            return Err(self.fault(Some(place), reason));
+        };
+        self.make_above(place.as_str())?;
+        match make_anew(&self.rt, self.alloc(), place.as_str()) {
+            Ok(()) => {
+                self.begun = Some(begun);
+                Ok(())
+            }
+            Err(reason) => Err(self.fault(Some(place), reason)),
+        }
+    }
+
+    fn create(&mut self, path: &[u8]) -> Result<FileDraft<R::File>, BayFault>
+        ensures new { IfOk result (λ draft. draft.faults ≡ no_faults) }
+        ensures outside { ¬ (InStep self.old.begun path.now) → IsErrOf result BayFault.Outage }
+        ensures path { self.new.path ≡ self.old.path }
+        ensures begun { self.new.begun ≡ self.old.begun }
+        ensures quiet { OnOk result (self.new.faults ≡ self.old.faults) }
+        ensures no_memory { IsErrOf result BayFault.NoMemory → self.new.faults ≡ self.old.faults }
+        ensures outage { IsErrOf result BayFault.Outage → self.new.faults.count ≡ counted self.old.faults.count }
+        ensures count { NeverFalls self.old.faults.count self.new.faults.count }
+        ensures cause { OnlyWhereRose result BayFault.Outage self.old.faults.count self.new.faults.count }
+    {
+        let places = match self.places(path)? {
+            Ok(places) => places,
+            Err(reason) => {
+                let place = self.place_if_text(path);
+                return Err(self.fault(place, reason).into());
+            }
+        };
+        self.make_above(places.staged.as_str())?;
+        match create_file(&self.rt, places.staged.as_str()) {
+            Ok(file) => Ok(FileDraft::new(file, places.staged, places.path)),
+            Err(reason) => Err(self.fault(Some(places.staged), reason).into()),
+        }
+    }
+
+    fn leaf(&mut self, path: &[u8]) -> Result<Option<FileLeaf>, BayFault>
+        ensures path { self.new.path ≡ self.old.path }
+        ensures begun { self.new.begun ≡ self.old.begun }
+        ensures quiet { OnOk result (self.new.faults ≡ self.old.faults) }
+        ensures no_memory { IsErrOf result BayFault.NoMemory → self.new.faults ≡ self.old.faults }
+        ensures outage { IsErrOf result BayFault.Outage → self.new.faults.count ≡ counted self.old.faults.count }
+        ensures count { NeverFalls self.old.faults.count self.new.faults.count }
+        ensures cause { OnlyWhereRose result BayFault.Outage self.old.faults.count self.new.faults.count }
+    {
+        let name = self.text(path)?;
+        let place = self.place(name, "")?;
+        match length_if_there(&self.rt, place.as_str()) {
+            Ok(Some(len)) => Ok(Some(FileLeaf::new(place, len))),
+            Ok(None) => Ok(None),
+            Err(reason) => Err(self.fault(Some(place), reason).into()),
+        }
+    }
+
+    /// Gives the step's folder its own name. Where something stands there already, or a file was written for another
+    /// path, that is a fault.
+    fn commit(&mut self, folder: &[u8], leaves: &Vec<(Bytes, FileLeaf)>) -> Result<(), BayFault>
+        ensures path { self.new.path ≡ self.old.path }
+        ensures begun { self.new.begun ≡ self.old.begun }
+        ensures quiet { OnOk result (self.new.faults ≡ self.old.faults) }
+        ensures no_memory { IsErrOf result BayFault.NoMemory → self.new.faults ≡ self.old.faults }
+        ensures outage { IsErrOf result BayFault.Outage → self.new.faults.count ≡ counted self.old.faults.count }
+        ensures count { NeverFalls self.old.faults.count self.new.faults.count }
+        ensures cause { OnlyWhereRose result BayFault.Outage self.old.faults.count self.new.faults.count }
+    {
+        let folder = self.text(folder)?;
+        let staged = self.place(folder, PART)?;
+        let place = self.place(folder, "")?;
+        if !are_of_their_paths(leaves) {
+            return Err(self.fault(Some(place), Reason::OtherPath).into());
+        }
+        match rename_new(&self.rt, staged.as_str(), place.as_str()) {
+            Ok(()) => Ok(()),
+            Err(reason) => Err(self.fault(Some(place), reason).into()),
+        }
+    }
+
+    /// Removes the staged file. That it cannot be removed is no fault: the next `begin_step` of its folder drops it.
+    fn retire(&mut self, draft: FileDraft<R::File>)
+        ensures rose { 0 < draft.faults.count → self.new.faults.count ≡ counted self.old.faults.count }
+        ensures same { draft.faults.count ≡ 0 → self.new ≡ self.old }
+        ensures path { self.new.path ≡ self.old.path }
+        ensures begun { self.new.begun ≡ self.old.begun }
+        ensures count { NeverFalls self.old.faults.count self.new.faults.count }
+    {
+        let (staged, reason) = draft.end();
+        let _removed = fs::remove_file(&self.rt, staged.as_str());
+        if let Some(reason) = reason {
+            let _outage = self.fault(Some(staged), reason);
+        }
     }
 
     fn faults(&self) -> u64 {
         self.log.faults()
     }
+
+    ghost leaves_tell = { λ _ _ told. cc };
 }

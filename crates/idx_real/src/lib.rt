@@ -1,16 +1,23 @@
 //! The real forms of what lies outside: a file as a source, a writer of std, as standard output, as a sink, and the
-//! folder of a header file as a bay.
+//! folder of a header file as a bay, with the files that are written there and read again.
 #![tactic(auto)]
 
 mod fault;
 mod fault_log;
+mod file_draft;
+mod file_leaf;
+mod file_reader;
 mod file_source;
 mod folder_bay;
 mod placed;
 mod regular_file;
 mod std_sink;
+mod step_folder;
 
 pub use fault::{Fault, Reason};
+pub use file_draft::FileDraft;
+pub use file_leaf::FileLeaf;
+pub use file_reader::FileReader;
 pub use file_source::FileSource;
 pub use folder_bay::{FolderBay, HEADER_READ};
 pub use std_sink::StdSink;

@@ -13,6 +13,8 @@ use std::os::fd::AsRawFd;
 use std::test::Fail;
 use std::{fs, io};
 
+mod steps;
+
 /// What a writer was asked for.
 #[derive(Clone, Copy, Debug, PartialEq, Eq)]
 enum Call {

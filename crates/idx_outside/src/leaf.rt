@@ -1,0 +1,11 @@
+ghost use Rattle.std.specs.Prelude.{◌≡◌, ℕ, List, Option, length, IfSome};
+
+/// A finished file, as a bay keeps it.
+pub trait Leaf: Drop {
+    /// The bytes, where they are known.
+    ghost contents: { Self → Option (List ℕ) };
+
+    /// The number of bytes.
+    fn len(&self) -> u64
+        ensures { IfSome (contents self.now) (λ bytes. result ≡ length bytes) };
+}

@@ -1,0 +1,45 @@
+ghost use Rattle.std.specs.Prelude.{◌≡◌, None, string_bytes};
+
+use idx_outside::Leaf;
+use std::marker::Model;
+
+/// A finished file, of which nothing is told but its length: it stands at its path once its step was committed.
+#[derive(Debug, Drop)]
+pub struct FileLeaf {
+    path: String,
+    len: u64,
+}
+
+impl Model for FileLeaf {
+    ghost use Rattle.std.specs.Prelude.{string_bytes};
+    ghost use Rattle.idx_real.specs.FolderState.{LeafState};
+
+    ghost Value = { LeafState };
+
+    ghost view = { λ leaf. record { path = string_bytes leaf.path; len = leaf.len } };
+}
+
+impl FileLeaf {
+    pub(crate) fn new(path: String, len: u64) -> FileLeaf
+        ensures { result ≡ record { path = string_bytes path; len = len } }
+    {
+        FileLeaf { path, len }
+    }
+
+    /// Where the file stands once its step was committed.
+    pub fn path(&self) -> &str
+        ensures { result.now ≡ self.now.path }
+    {
+        self.path.as_str()
+    }
+}
+
+impl Leaf for FileLeaf {
+    ghost contents = { λ _. None };
+
+    fn len(&self) -> u64
+        ensures { result ≡ self.now.len }
+    {
+        self.len
+    }
+}

@@ -1,0 +1,130 @@
+ghost use Rattle.std.specs.Prelude.{◌≡◌, ◌↔◌, ◌<◌, ◌+◌, ◌%◌, ◌^◌, None, IsSome, option_map, OnOk, OnErr};
+ghost use Rattle.idx_outside.specs.Cause.{counted, NeverFalls, Rose};
+ghost use Rattle.idx_real.specs.Faults.{no_faults};
+ghost use Rattle.idx_real.specs.Placed.{WasReadAt, OfItsFile};
+
+use crate::fault_log::FaultLog;
+use crate::placed::read_range;
+use crate::regular_file::open_regular;
+use crate::{Fault, FileLeaf, Reason};
+use idx_outside::{Outage, Reader};
+use std::alloc::Global;
+use std::marker::Model;
+use std::rt::Files;
+
+/// A reader of finished files. The file that was read last stays open. A contract sees how many reads there were, modulo
+/// 2^64, and the faults.
+///
+/// Each is one fault: a path that cannot be opened, what is no regular file, a read that fails, and a range that passes
+/// the file's end.
+#[derive(Drop)]
+pub struct FileReader<R: Files + Drop> {
+    rt: R,
+    alloc: Global,
+    last: Option<Opened<R::File>>,
+    failed: Option<String>,
+    reads: u64,
+    log: FaultLog,
+}
+
+/// An open file, and its path.
+#[derive(Drop)]
+struct Opened<F: Drop> {
+    path: String,
+    file: F,
+}
+
+impl<R: Files + Drop> Model for FileReader<R> {
+    ghost use Rattle.idx_real.specs.ReaderState.{ReaderState};
+
+    ghost Value = { ReaderState };
+
+    ghost view = { λ s. record { reads = s.reads; faults = s.log } };
+}
+
+impl<R: Files + Drop> FileReader<R> {
+    /// Opens nothing yet and takes no memory.
+    pub fn new(rt: R, alloc: Global) -> FileReader<R>
+        ensures { result ≡ record { reads = 0; faults = no_faults } }
+    {
+        FileReader {
+            rt,
+            alloc,
+            last: None,
+            failed: None,
+            reads: 0,
+            log: FaultLog::new(),
+        }
+    }
+
+    /// How many calls of `read_at` were made, modulo 2^64.
+    pub fn reads(&self) -> u64
+        ensures { result ≡ self.now.reads }
+    {
+        self.reads
+    }
+
+    /// The last fault, with the path and the reason; `None` exactly where no fault was counted.
+    pub fn last_fault(&self) -> Option<Fault<'_>>
+        ensures reason { option_map (λ fault. fault.reason) result ≡ self.now.faults.last }
+        ensures some { IsSome result ↔ (0 < self.now.faults.count) }
+    {
+        let path = match &self.failed {
+            Some(path) => path.as_str(),
+            None => "a file of a step",
+        };
+        self.log.last().map(|reason| Fault { path, reason })
+    }
+}
+
+impl<R: Files + Drop> Reader<FileLeaf> for FileReader<R> {
+    ghost faults = { λ s. s.faults.count };
+
+    ghost reads = { λ s. s.reads };
+
+    fn read_at(&mut self, leaf: &FileLeaf, at: u64, into: &mut [u8]) -> Result<(), Outage>
+        ensures read { OnOk result (OfItsFile None
+            (λ f. WasReadAt R.File.remaining R.File.stream_position R.File.stream_bytes f at into.new)) }
+        ensures reads { self.new.reads ≡ (self.old.reads + 1) % 2 ^ 64 }
+        ensures quiet { OnOk result (self.new.faults ≡ self.old.faults) }
+        ensures err { OnErr result (self.new.faults.count ≡ counted self.old.faults.count) }
+        ensures count { NeverFalls self.old.faults.count self.new.faults.count }
+        ensures cause { OnErr result (Rose self.old.faults.count self.new.faults.count) }
+    {
+        self.reads = self.reads.wrapping_add(1);
+        let found = read_of(&self.rt, self.alloc, &mut self.last, leaf.path(), at, into);
+        if found.is_err() {
+            self.failed = String::from_str(self.alloc, leaf.path()).ok();
+        }
+        self.log.answer(found)
+    }
+
+    fn faults(&self) -> u64 {
+        self.log.faults()
+    }
+}
+
+/// Reads a file that is open already, or opens it. It stays open where there is memory for its path.
+fn read_of<R: Files>(
+    rt: &R,
+    alloc: Global,
+    last: &mut Option<Opened<R::File>>,
+    path: &str,
+    at: u64,
+    into: &mut [u8],
+) -> Result<(), Reason>
+    ensures { OnOk result (OfItsFile None
+        (λ f. WasReadAt R.File.remaining R.File.stream_position R.File.stream_bytes f at into.new)) }
+{
+    if let Some(opened) = last {
+        if opened.path.as_str() == path {
+            return read_range(&mut opened.file, at, into);
+        }
+    }
+    let mut file = open_regular(rt, path)?;
+    read_range(&mut file, at, into)?;
+    if let Ok(path) = String::from_str(alloc, path) {
+        *last = Some(Opened { path, file });
+    }
+    Ok(())
+}
