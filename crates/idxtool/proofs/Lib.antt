@@ -1,3 +1,2 @@
-pub mod GrammarLemmas
 pub mod SummaryLemmas
 pub mod RunLemmas

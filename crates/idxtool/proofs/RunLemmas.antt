@@ -4,16 +4,16 @@ use Rattle.std.proofs.lemmas.Bool.{false≢true}
 use Rattle.idx_outside.specs.Cause.{Rose}
 use Rattle.idx_header.specs.HeaderOf.{header_of}
 use Rattle.idx_header.specs.Header.{HeaderValue}
-use Rattle.idxtool.specs.declared.cut_words.CutWords.{CutWords}
-use Rattle.idxtool.specs.declared.words.Command.{Command}
-use Rattle.idxtool.specs.declared.words.Command.TheVariants.{Cut, Info}
+use Rattle.idx_words.specs.declared.cut_words.CutWords.{CutWords}
+use Rattle.idx_words.specs.declared.command.Command.{Command}
+use Rattle.idx_words.specs.declared.command.Command.TheVariants.{Cut, Info}
 use Rattle.idxtool.specs.declared.causes.Cause.{Cause}
 use Rattle.idxtool.specs.declared.causes.Cause.TheVariants as causes
 use Rattle.idxtool.specs.Cause.{status_of}
-use Rattle.idxtool.specs.CutGrammar.{volume_bytes}
+use Rattle.idx_words.specs.CutGrammar.{volume_bytes}
 use Rattle.idxtool.specs.CutRun.{RunEnds, HasSize}
 use Rattle.idxtool.specs.InfoRun.{Reads}
-use Rattle.idxtool.specs.Words.{Give}
+use Rattle.idx_words.specs.Words.{Give}
 use Rattle.idxtool.specs.Run.{AskFor, HasOtherSize, HasRightSize, HasBadHeader, HasGoodHeader}
 
 not_right : (raw : Option (List ℕ)) (want : ℕ) → IfSome raw (λ bytes. length bytes ≡ want) → IsSomeAnd raw (λ bytes. length bytes ≢ want) → ⊥

@@ -4,7 +4,7 @@ use Rattle.std.specs.List.{slice_index_or}
 use Rattle.idx_geom.specs.Region.{points}
 use Rattle.idx_geom.specs.Volume.{volume_of}
 use Rattle.idx_hz.specs.Answer.{answer}
-use Rattle.idxtool.specs.declared.cut_words.CutWords.{CutWords}
+use Rattle.idx_words.specs.declared.cut_words.CutWords.{CutWords}
 
 -- the samples of the raw volume, which has one field
 abbrev pub samples_in : CutWords → List ℕ → List (List ℕ)

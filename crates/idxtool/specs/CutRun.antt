@@ -2,13 +2,13 @@
 use Rattle.std.specs.Prelude.{◌≡◌, ◌≢◌, ℕ, List, length, Option, IfSome}
 use Rattle.idx_outside.specs.Cause.{Rose}
 use Rattle.idx_outside.specs.Contents.{appended, AppendsPrefix}
-use Rattle.idxtool.specs.declared.cut_words.CutWords.{CutWords}
+use Rattle.idx_words.specs.declared.cut_words.CutWords.{CutWords}
 use Rattle.idxtool.specs.declared.causes.Cause.{Cause}
 use Rattle.idxtool.specs.declared.causes.Cause.TheVariants as causes
-use Rattle.idxtool.specs.CutGrammar.{volume_bytes}
-use Rattle.idxtool.specs.declared.words.Command.{Command}
-use Rattle.idxtool.specs.declared.words.Command.TheVariants.{Cut, Info}
-use Rattle.idxtool.specs.Words.{Give, GiveCommand}
+use Rattle.idx_words.specs.CutGrammar.{volume_bytes}
+use Rattle.idx_words.specs.declared.command.Command.{Command}
+use Rattle.idx_words.specs.declared.command.Command.TheVariants.{Cut, Info}
+use Rattle.idx_words.specs.Words.{Give, GiveCommand}
 use Rattle.idxtool.specs.CutOutput.{cut_output}
 use Rattle.idxtool.specs.InfoRun.{InfoEnds}
 

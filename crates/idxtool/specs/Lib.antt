@@ -1,10 +1,6 @@
-pub mod PathWord
-pub mod CutWord
-pub mod CutGrammar
 pub mod CutOutput
 pub mod KindText
 pub mod Cause
-pub mod Words
 pub mod Summary
 pub mod InfoRun
 pub mod CutRun

@@ -5,11 +5,11 @@ use Rattle.idx_outside.specs.Objects.{contents_at}
 use Rattle.idx_header.specs.declared.header_kind.HeaderKind.{HeaderKind}
 use Rattle.idx_header.specs.declared.header_kind.HeaderKind.TheVariants as kinds
 use Rattle.idx_header.specs.HeaderOf.{header_of}
-use Rattle.idxtool.specs.declared.cut_words.CutWords.{CutWords}
-use Rattle.idxtool.specs.CutGrammar.{volume_bytes}
-use Rattle.idxtool.specs.declared.words.Command.{Command}
-use Rattle.idxtool.specs.declared.words.Command.TheVariants.{Cut, Info}
-use Rattle.idxtool.specs.Words.{Give, GiveInfo}
+use Rattle.idx_words.specs.declared.cut_words.CutWords.{CutWords}
+use Rattle.idx_words.specs.CutGrammar.{volume_bytes}
+use Rattle.idx_words.specs.declared.command.Command.{Command}
+use Rattle.idx_words.specs.declared.command.Command.TheVariants.{Cut, Info}
+use Rattle.idx_words.specs.Words.{Give, GiveInfo}
 use Rattle.idxtool.specs.CutOutput.{cut_output}
 use Rattle.idxtool.specs.Summary.{summary}
 use Rattle.idxtool.specs.InfoRun.{Reads}

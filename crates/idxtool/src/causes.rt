@@ -12,7 +12,8 @@ use std::process::ExitCode;
 pub enum Cause {
     /// All was written.
     Done,
-    /// The words are not in the grammar. The word at place `at`, counted from 0, is wrong, or one is missing there.
+    /// The words are not in the grammar. The word at place `at`, counted from 0, is the first after which no list of the
+    /// grammar goes on, or the first that is missing.
     Usage { at: u64 },
     /// The header is refused: on this line, counted from 1, stands this fault. The line is 0 where the text is too long.
     Header { line: u64, kind: HeaderKind },

@@ -2,15 +2,15 @@ ghost use Rattle.std.specs.Prelude.{◌≡◌, ◌<◌, ◌≤◌, Err, IfOk, If
 ghost use Rattle.idx_outside.specs.Cause.{NeverFalls, Rose};
 ghost use Rattle.idx_raw.specs.Reads.{AreSamples, LiesIn};
 ghost use Rattle.idxtool.specs.CutRun.{EndsWith, HasSize};
-ghost use Rattle.idxtool.specs.CutGrammar.{IsSound};
+ghost use Rattle.idx_words.specs.CutGrammar.{IsSound};
 ghost use Rattle.idxtool.specs.CutOutput.{cut_output};
 
 use crate::causes::Cause;
-use crate::cut_words::CutWords;
 use idx_outside::{Sink, Source};
 use idx_raw::{ReadFault, read_samples};
 use idx_stride::Strides;
 use idx_walk::walk;
+use idx_words::CutWords;
 use std::alloc::Global;
 
 /// Reads the samples that the words ask for, and then writes them in one piece. It reads nothing of a raw volume of

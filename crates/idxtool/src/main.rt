@@ -5,22 +5,19 @@ ghost use Rattle.std.specs.Prelude.{◌≡◌, IfOk, vec_len};
 
 mod causes;
 mod cut;
-mod cut_word;
-mod cut_words;
 mod examples;
 mod info;
 mod kind_text;
-mod path;
 mod report;
 mod run;
 mod summary;
 #[cfg(test)]
 mod tests;
 mod usage;
-mod words;
 
 use causes::{Cause, Done};
 use idx_real::{FileSource, FolderBay, StdSink};
+use idx_words::given_path;
 use report::report;
 use std::alloc::AllocError;
 use std::io::ErrorKind;
@@ -74,7 +71,7 @@ fn give_run(rt: &HostRuntime, words: &[String]) -> ExitCode {
 fn raw_files(rt: &HostRuntime, words: &[String]) -> Result<Vec<FileSource<HostRuntime>>, AllocError>
     ensures { IfOk result (λ raws. vec_len raws ≡ 1) }
 {
-    let path = String::from_str(rt.alloc(), words::given_path(words))?;
+    let path = String::from_str(rt.alloc(), given_path(words))?;
     let mut raws = Vec::with_capacity(rt.alloc(), 1)?;
     raws.push(FileSource::new(rt.clone()?, path))?;
     Ok(raws)
@@ -82,7 +79,7 @@ fn raw_files(rt: &HostRuntime, words: &[String]) -> Result<Vec<FileSource<HostRu
 
 /// The dataset that the words name, or one without a path.
 fn header_file(rt: &HostRuntime, words: &[String]) -> Result<FolderBay<HostRuntime>, AllocError> {
-    let path = String::from_str(rt.alloc(), words::given_path(words))?;
+    let path = String::from_str(rt.alloc(), given_path(words))?;
     Ok(FolderBay::new(rt.clone()?, path))
 }
 

@@ -5,9 +5,9 @@ ghost use Rattle.idxtool.specs.Cause.{message_of};
 
 use crate::causes::{Cause, Done};
 use crate::kind_text::plain_words;
-use crate::words::{given_path, read_words};
 use idx_header::HeaderKind;
 use idx_real::Fault;
+use idx_words::{given_path, read_words};
 use std::io::Write;
 use std::process::ExitCode;
 use std::{fmt, io};

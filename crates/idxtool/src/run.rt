@@ -1,17 +1,17 @@
-ghost use Rattle.std.specs.Prelude.{◌≡◌, ◌≢◌, ◌↔◌, ◌⊎◌, ℕ, ◌<◌, ◌≤◌, length, map, vec_len, string_bytes};
+ghost use Rattle.std.specs.Prelude.{◌≡◌, ◌≢◌, ◌↔◌, ◌⊎◌, ℕ, ◌<◌, map, vec_len, string_bytes};
 ghost use Rattle.idx_outside.specs.Cause.{NeverFalls, Rose};
 ghost use Rattle.idx_outside.specs.Objects.{contents_at, faults_at, UsesOnly};
 ghost use Rattle.idxtool.specs.Cause.{status_of};
 ghost use Rattle.idxtool.specs.CutRun.{CommandEnds, RunEnds};
-ghost use Rattle.idxtool.specs.Words.{GiveCommand, GiveCut, GiveInfo, IsCut, IsInfo, IsSoundCommand};
+ghost use Rattle.idx_words.specs.Words.{GiveCommand, GiveCut, GiveInfo, IsCut, IsInfo, IsSoundCommand, IsUsagePlace};
 ghost use Rattle.idxtool.specs.Run.{HaveSameContents, WroteAnswer, WrotePrefix, AsksForOther, HasOtherSize, HasRightSize, IsRefusedFor, HasBadHeader, HasGoodHeader};
 
 use crate::causes::{Cause, Done};
 use crate::cut::cut_volume;
 use crate::info::info;
-use crate::words::{Command, read_words};
 use idx_header::HeaderKind;
 use idx_outside::{Bay, Sink, Source};
+use idx_words::{Command, read_words};
 use std::alloc::Global;
 
 /// Does what the words ask for, and says how it ended. The first refusal ends it. `cut`: the words, the length of the raw
@@ -38,9 +38,10 @@ pub fn run<V: Source, B: Bay, K: Sink>(
     ensures silent { result.status ≢ 0 → result.status ≢ 9 → out.new ≡ out.old }
 
     // Usage comes exactly where the words are not in the grammar, and then nothing was asked of a raw volume or the bay.
-    // At each other status they give a command.
+    // Its place is the least such that no list of the grammar begins with the words up to it and the word at it, and the
+    // number of words where there is none. At each other status the words give a command.
     ensures usage { (result.status ≡ 1) ↔ (¬ GiveCommand (map string_bytes words.now)) }
-    ensures place { (at : ℕ) → result.cause ≡ Cause.Usage at → at ≤ length words.now }
+    ensures place { (at : ℕ) → result.cause ≡ Cause.Usage at → IsUsagePlace (map string_bytes words.now) at }
     ensures unasked { result.status ≡ 1 → raws.new.items ≡ raws.old.items }
     ensures bay_unasked { result.status ≡ 1 → bay.new ≡ bay.old }
     ensures given { result.status ≢ 1 → GiveCommand (map string_bytes words.now) }
@@ -104,7 +105,7 @@ fn end_of_run<V: Source, B: Bay, K: Sink>(
     ensures ends { RunEnds K.contents K.faults (map string_bytes words.now) (contents_at V.contents raws.old.items 0)
         (faults_at V.faults raws.old.items 0) (faults_at V.faults raws.new.items 0)
         (B.header bay.old) (B.faults bay.old) (B.faults bay.new) out.old out.new result }
-    ensures place { (at : ℕ) → result ≡ Cause.Usage at → at ≤ length words.now }
+    ensures place { (at : ℕ) → result ≡ Cause.Usage at → IsUsagePlace (map string_bytes words.now) at }
     ensures unasked { (at : ℕ) → result ≡ Cause.Usage at → raws.new.items ≡ raws.old.items }
     ensures bay_unasked { (at : ℕ) → result ≡ Cause.Usage at → bay.new ≡ bay.old }
     ensures raw_answered { faults_at V.faults raws.old.items 0 < faults_at V.faults raws.new.items 0 →

@@ -1,16 +1,15 @@
-ghost use Rattle.idxtool.specs.CutGrammar.{IsSound};
-ghost use Rattle.idxtool.specs.Words.{IsSoundCommand};
+ghost use Rattle.idx_words.specs.CutGrammar.{IsSound};
+ghost use Rattle.idx_words.specs.Words.{IsSoundCommand};
 
 use crate::causes::{Cause, Done};
-use crate::cut_words::CutWords;
 use crate::report::report;
 use crate::run::run;
 use crate::usage::{text_asked_for, write_text};
-use crate::words::{Command, read_words};
 use idx_header::HeaderKind;
 use idx_outside::{Bytes, MemBay, MemSink, MemSource, NoMemory, SureBay};
 use idx_real::{Fault, Reason};
 use idx_walk::answer_by_points;
+use idx_words::{Command, CutWords, read_words};
 use std::alloc::{AllocError, Global};
 use std::test::Fail;
 
@@ -198,115 +197,15 @@ fn windows_join_without_a_seam(rt: HostRuntime) -> Result<(), Fail> {
     Ok(())
 }
 
-/// The cause of a run over the right raw volume with these words.
-fn cause_of(alloc: Global, words: &[String]) -> Result<Cause, AllocError> {
-    let (done, _) = run_in_memory(alloc, words, &RAW[..16], &[], &[])?;
-    Ok(done.cause)
-}
-
+/// The place of the first word that is wrong or missing is handed on, and nothing is asked.
 #[test]
-fn each_rule_of_the_words_is_kept(rt: HostRuntime) -> Result<(), Fail> {
-    for (at, word, place) in [
-        (0, "Cut", 0),
-        (0, "info", 2),
-        (1, "", 1),
-        (1, "-r.raw", 1),
-        (1, "r\t.raw", 1),
-        (1, "r\u{7f}.raw", 1),
-        (1, "r\u{e9}.raw", 1),
-        (2, "", 2),
-        (2, "0", 2),
-        (2, "65", 2),
-        (2, "+1", 2),
-        (2, "1 ", 2),
-        (2, "00000000000000000001", 2),
-        (3, "", 3),
-        (3, "0 3", 3),
-        (3, "0 3 0 3 0", 3),
-        (3, "0 3 0 3 0 0 0 0 0 0 0 0", 3),
-        (3, "0 3 3 0", 3),
-        (3, "0 3,0 3", 3),
-        (3, "0 3 0 1099511627776", 3),
-        (3, "0 1099511627775 0 1", 3),
-        (3, "0 32767 0 32768", 3),
-        (3, "0 4 0 3", 4),
-        (3, "0 3 0 3 0 1", 4),
-        (4, "V", 4),
-        (4, "v0101", 4),
-        (4, "V0151", 4),
-        (4, "V0102", 4),
-        (4, "V01010101010101010101010101010101010101010", 4),
-        (5, "0 3", 5),
-        (5, "0 3 0 4", 5),
-        (5, "0 3 0 3 0 0", 5),
-        (6, "3", 7),
-        (6, "5", 6),
-        (6, "-0", 6),
-        (7, "5", 7),
-        (7, "two", 7),
-    ] {
-        let words = changed(rt.alloc(), &[(at, word)])?;
-        let cause = cause_of(rt.alloc(), &words)?;
-        assert_eq!(rt; cause, Cause::Usage { at: place }, "{at} {word}");
+fn wrong_words_end_the_run(rt: HostRuntime) -> Result<(), Fail> {
+    let outside = changed(rt.alloc(), &[(5, "0 3 0 4")])?;
+    let short = owned(rt.alloc(), &BASE[..3])?;
+    for (words, at) in [(&outside, 5), (&short, 3), (&Vec::new(rt.alloc()), 0)] {
+        let (done, _) = run_in_memory(rt.alloc(), words, &RAW[..16], &[1], &[1])?;
+        assert_eq!(rt; done.cause, Cause::Usage { at });
     }
-    Ok(())
-}
-
-#[test]
-fn lists_of_another_length_are_no_words(rt: HostRuntime) -> Result<(), Fail> {
-    for count in 0..8 {
-        let words = owned(rt.alloc(), &BASE[..count])?;
-        let cause = cause_of(rt.alloc(), &words)?;
-        assert_eq!(rt; cause, Cause::Usage { at: count as u64 });
-    }
-    let mut words = owned(rt.alloc(), &BASE)?;
-    words.push(String::from_str(rt.alloc(), "3")?)?;
-    let cause = cause_of(rt.alloc(), &words)?;
-    assert_eq!(rt; cause, Cause::Usage { at: 8 });
-    Ok(())
-}
-
-#[test]
-fn leading_zeros_and_blanks_are_right(rt: HostRuntime) -> Result<(), Fail> {
-    for (at, word) in [
-        (2, "0000000000000000001"),
-        (3, " 0\t3  00 03\t"),
-        (5, "\t 0 3 0 3"),
-        (7, "02"),
-    ] {
-        let words = changed(rt.alloc(), &[(at, word)])?;
-        assert_eq!(rt; cause_of(rt.alloc(), &words)?, Cause::Done, "{at} {word}");
-    }
-    Ok(())
-}
-
-/// A path of so many bytes.
-fn long_path(alloc: Global, length: u32) -> Result<String, AllocError> {
-    let mut path = String::new(alloc);
-    for _ in 0..length {
-        path.push('p')?;
-    }
-    Ok(path)
-}
-
-#[test]
-fn limits_are_those_of_the_words(rt: HostRuntime) -> Result<(), Fail> {
-    let path = long_path(rt.alloc(), 4096)?;
-    let words = changed(rt.alloc(), &[(1, path.as_str())])?;
-    assert_eq!(rt; cause_of(rt.alloc(), &words)?, Cause::Done);
-    let path = long_path(rt.alloc(), 4097)?;
-    let words = changed(rt.alloc(), &[(1, path.as_str())])?;
-    assert_eq!(rt; cause_of(rt.alloc(), &words)?, Cause::Usage { at: 1 });
-    let forty = "V0101010101010101010101010101010101010101";
-    let words = changed(rt.alloc(), &[(4, forty), (7, "40")])?;
-    assert_eq!(rt; cause_of(rt.alloc(), &words)?, Cause::Done);
-    let thirty = "V010101010101010101010101010101";
-    let words = changed(rt.alloc(), &[(3, "0 32767 0 32767"), (4, thirty)])?;
-    let want = 1 << 30;
-    assert_eq!(rt;
-        cause_of(rt.alloc(), &words)?,
-        Cause::RawWrongSize { want, found: 16 }
-    );
     Ok(())
 }
 
@@ -397,9 +296,11 @@ fn a_message_says_what_helps(rt: HostRuntime) -> Result<(), Fail> {
     for word in split.split(' ') {
         words.push(String::from_str(rt.alloc(), word)?)?;
     }
-    let shown = printed(rt.alloc(), Cause::Usage { at: 8 }, &words, None);
-    let want = b"idxtool: usage at 8\n  word 8 is `0`\n  \
-        expected the end of the words: cut RAW SIZE BOX MASK REGION LO HI\n  \
+    let shown = printed(rt.alloc(), Cause::Usage { at: 3 }, &words, None);
+    let want = b"idxtool: usage at 3\n  word 3 is `0`\n  \
+        expected BOX, the box that the raw volume fills, one quoted word as \"0 63 0 63 0 63\": \
+        two to five pairs `lo hi`, at most 2^30 bytes in all, \
+        whose upper ends have at most 40 binary digits in all\n  \
         a box is one word: quote it, as \"0 63 0 63\"\n  idxtool --help says more\n";
     assert_eq!(rt; shown.as_slice(), want.as_slice());
     let fault = Fault {
@@ -504,21 +405,6 @@ fn a_fault_ends_info(rt: HostRuntime) -> Result<(), Fail> {
         let bay = bay_of(rt.alloc(), HEADER, bay_fails)?;
         let (done, _) = info_of(rt.alloc(), bay, sink_fails)?;
         assert_eq!(rt; done, Done::of(cause));
-    }
-    Ok(())
-}
-
-#[test]
-fn info_has_one_word_behind_it(rt: HostRuntime) -> Result<(), Fail> {
-    for (words, at) in [
-        (["info"].as_slice(), 1),
-        (["info", ""].as_slice(), 1),
-        (["info", "-v.idx"].as_slice(), 1),
-        (["info", "v.idx", "0"].as_slice(), 2),
-        (["inform", "v.idx"].as_slice(), 0),
-    ] {
-        let words = owned(rt.alloc(), words)?;
-        assert_eq!(rt; cause_of(rt.alloc(), &words)?, Cause::Usage { at });
     }
     Ok(())
 }

@@ -1,0 +1,43 @@
+-- The words of a command behind its name.
+use Rattle.std.proofs.Common.{◌≡◌, ℕ, Result, Ok, Err, IfErr, List, ◌∷◌, codes, refl, sym, ap, ◌∙◌, subst}
+use Rattle.idx_words.specs.declared.command.Command.{Command}
+use Rattle.idx_words.specs.declared.command.Command.TheVariants.{Cut, Info}
+use Rattle.idx_words.specs.declared.misread.Misread.{Misread}
+use Rattle.idx_words.specs.Place.{IsPlaceBehind}
+use Rattle.idx_words.specs.Words.{GiveCommand, AreInfoWords, AreSomeCutWords, IsUsagePlace}
+use Rattle.idx_words.proofs.PlaceLemmas.{IsPlace-behind}
+use Rattle.idx_words.proofs.WitnessLemmas.{on_raw}
+use Rattle.idx_words.proofs.InfoLemmas.{info_goes_on}
+
+-- of two names the words give one command
+only_cut : (words : List (List ℕ)) → GiveCommand (codes "cut" ∷ words) → AreSomeCutWords words
+only_cut words (Cut c, gives) = (c, gives.1)
+only_cut words (Info, gives) = absurd (let same = gives.0 in cc)
+
+only_info : (words : List (List ℕ)) → GiveCommand (codes "info" ∷ words) → AreInfoWords words
+only_info words (Cut c, gives) = absurd (let same = gives.0 in cc)
+only_info words (Info, gives) = gives.1
+
+-- the place behind a command's name is that of the whole list
+usage_cut : (words : List (List ℕ)) (at : ℕ) → IsPlaceBehind AreSomeCutWords words at → IsUsagePlace (codes "cut" ∷ words) at
+usage_cut words at (k, next, place) =
+    subst (IsUsagePlace (codes "cut" ∷ words)) (sym next)
+    (IsPlace-behind AreSomeCutWords GiveCommand (codes "cut") words k (λ list some. (Cut some.0, (refl, some.1))) (only_cut) on_raw place)
+
+usage_info : (words : List (List ℕ)) (at : ℕ) → IsPlaceBehind AreInfoWords words at → IsUsagePlace (codes "info" ∷ words) at
+usage_info words at (k, next, place) =
+    subst (IsUsagePlace (codes "info" ∷ words)) (sym next)
+    (IsPlace-behind AreInfoWords GiveCommand (codes "info") words k (λ list some. (Info, (refl, some))) (only_info) (info_goes_on words) place)
+
+module _ (answer : Result Command Misread) (all : List (List ℕ)) (name : List ℕ) (words : List (List ℕ)) (is : all ≡ name ∷ words) where
+  -- what a reader of the words behind a name says is so of the whole list
+  passed_on : (command : List ℕ) (G : List (List ℕ) → Type 0) → ((at : ℕ) → IsPlaceBehind G words at → IsUsagePlace (command ∷ words) at) → name ≡ command →
+      (answer : Result Command Misread) → IfErr answer (λ misread. IsPlaceBehind G words misread.at) → IfErr answer (λ misread. IsUsagePlace all misread.at)
+  passed_on command G behind named (Ok read) place = tt
+  passed_on command G behind named (Err misread) place = subst (λ ws. IsUsagePlace ws misread.at) (sym (is ∙ ap (λ n. n ∷ words) named)) (behind misread.at place)
+
+  pub cut_passed_on : name ≡ codes "cut" → IfErr answer (λ misread. IsPlaceBehind AreSomeCutWords words misread.at) → IfErr answer (λ misread. IsUsagePlace all misread.at)
+  cut_passed_on named = passed_on (codes "cut") AreSomeCutWords (usage_cut words) named answer
+
+  pub info_passed_on : name ≡ codes "info" → IfErr answer (λ misread. IsPlaceBehind AreInfoWords words misread.at) → IfErr answer (λ misread. IsUsagePlace all misread.at)
+  info_passed_on named = passed_on (codes "info") AreInfoWords (usage_info words) named answer

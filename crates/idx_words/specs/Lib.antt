@@ -1,0 +1,7 @@
+pub mod PathWord
+pub mod WordAt
+pub mod CutWord
+pub mod CutGrammar
+pub mod CutSteps
+pub mod Place
+pub mod Words

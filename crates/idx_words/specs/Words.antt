@@ -1,0 +1,53 @@
+-- What a list of words stands for: a command with its values.
+use Rattle.std.specs.Prelude.{◌≡◌, ℕ, List, [], ◌∷◌, IsTrue, codes}
+use Rattle.idx_words.specs.declared.command.Command.{Command}
+use Rattle.idx_words.specs.declared.command.Command.TheVariants.{Cut, Info}
+use Rattle.idx_words.specs.PathWord.{is_path}
+use Rattle.idx_words.specs.declared.cut_words.CutWords.{CutWords}
+use Rattle.idx_words.specs.CutGrammar.{AreCutWords, IsSound}
+use Rattle.idx_words.specs.Place.{IsPlace}
+
+-- the words behind the command are those of `info`: DATASET alone
+abbrev pub AreInfoWords : List (List ℕ) → Type 0
+AreInfoWords (dataset ∷ []) = IsTrue (is_path dataset)
+AreInfoWords _ = ⊥
+
+-- the first word names a command, and those behind it stand for its values
+abbrev pub Give : List (List ℕ) → Command → Type 0
+Give [] command = ⊥
+Give (name ∷ words) (Cut c) = (name ≡ codes "cut") × AreCutWords words c
+Give (name ∷ words) Info = (name ≡ codes "info") × AreInfoWords words
+
+-- the words are in the grammar
+abbrev pub GiveCommand : List (List ℕ) → Type 0
+GiveCommand words = (command : Command) × Give words command
+
+-- the words are those of `cut`
+abbrev pub GiveCut : List (List ℕ) → Type 0
+GiveCut words = (c : CutWords) × Give words (Cut c)
+
+-- the words are those of `info`
+abbrev pub GiveInfo : List (List ℕ) → Type 0
+GiveInfo words = Give words Info
+
+-- what is so of the values of a command
+abbrev pub IsSoundCommand : Command → Type 0
+IsSoundCommand (Cut c) = IsSound c
+IsSoundCommand Info = Unit {0}
+
+-- which command it is
+abbrev pub IsCut : Command → Type 0
+IsCut (Cut c) = Unit {0}
+IsCut Info = ⊥
+
+abbrev pub IsInfo : Command → Type 0
+IsInfo (Cut c) = ⊥
+IsInfo Info = Unit {0}
+
+-- the words behind the command are those of `cut`
+abbrev pub AreSomeCutWords : List (List ℕ) → Type 0
+AreSomeCutWords words = (c : CutWords) × AreCutWords words c
+
+-- the place of a usage fault: that of the first word that is wrong or missing
+abbrev pub IsUsagePlace : List (List ℕ) → ℕ → Type 0
+IsUsagePlace words at = IsPlace GiveCommand words at

@@ -1,0 +1,24 @@
+ghost use Rattle.std.specs.Prelude.{◌≡◌, [], map, string_bytes};
+ghost use Rattle.std.specs.List.{slice_index_or};
+ghost use Rattle.idx_words.specs.WordAt.{word_at};
+
+/// The bytes of the word at a place, counted from 0; none where there is no word.
+pub(crate) fn word_at(words: &[String], place: usize) -> &[u8]
+    ensures { result.now ≡ word_at (map string_bytes words.now) place }
+{
+    match words.get(place) {
+        Some(word) => word.as_bytes(),
+        None => &[],
+    }
+}
+
+/// The second word, which is the path of what a command reads where the words are in the grammar; no path where there
+/// is none.
+pub fn given_path(words: &[String]) -> &str
+    ensures { result.now ≡ slice_index_or (map string_bytes words.now) 1 [] }
+{
+    match words {
+        [_, path, ..] => path.as_str(),
+        _ => "",
+    }
+}

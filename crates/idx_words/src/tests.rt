@@ -1,0 +1,125 @@
+use crate::{Command, given_path, is_path, read_words};
+use std::alloc::{AllocError, Global};
+use std::test::Fail;
+
+/// The words of a line, which stand between its bars.
+fn words_in(alloc: Global, line: &str) -> Result<Vec<String>, AllocError> {
+    let mut words = Vec::new(alloc);
+    for word in line.split('|') {
+        words.push(String::from_str(alloc, word)?)?;
+    }
+    Ok(words)
+}
+
+/// The place of the first word that is wrong or missing, if there is one.
+fn wrong_place(words: &[String]) -> Option<u64> {
+    match read_words(words) {
+        Ok(_) => None,
+        Err(misread) => Some(misread.at),
+    }
+}
+
+#[test]
+fn the_first_word_after_which_nothing_goes_is_the_place(rt: HostRuntime) -> Result<(), Fail> {
+    assert_eq!(rt; wrong_place(&[]), Some(0));
+    for (line, place) in [
+        ("", 0),
+        ("--help|cut", 0),
+        ("Cut|r.raw", 0),
+        ("inform|v.idx", 0),
+        ("info", 1),
+        ("info|-v.idx", 1),
+        ("info||0", 1),
+        ("info|v.idx|0", 2),
+        ("cut", 1),
+        ("cut|-r.raw|0", 1),
+        ("cut|r\t.raw", 1),
+        ("cut|r\u{e9}.raw", 1),
+        ("cut|r.raw", 2),
+        ("cut|r.raw|65", 2),
+        ("cut|r.raw|+1|0 3 0 3|V", 2),
+        ("cut|r.raw|00000000000000000001", 2),
+        ("cut|r.raw|1", 3),
+        ("cut|r.raw|1|0 3", 3),
+        ("cut|r.raw|1|0 3 0 3 0|V0101", 3),
+        ("cut|r.raw|1|0 3 3 0", 3),
+        ("cut|r.raw|1|0 3 0 3 0 0 0 0 0 0 0 0", 3),
+        ("cut|r.raw|1|0 32767 0 32768|V0101|0 3 0 3|0|2", 3),
+        ("cut|r.raw|1|0 0 1048576 1048576 1048575 1048575|V", 3),
+        ("cut|r.raw|1|0 0 1048575 1048575 1048575 1048575|V", 4),
+        ("cut|r.raw|1|0 4 0 3|V0101|0 3 0 3|0|2", 4),
+        ("cut|r.raw|1|0 3 0 3|V0102", 4),
+        (
+            "cut|r.raw|1|0 3 0 3|V01010101010101010101010101010101010101010",
+            4,
+        ),
+        ("cut|r.raw|1|0 3 0 3|V0101", 5),
+        ("cut|r.raw|1|0 3 0 3|V0101|0 3 0 4|0|2", 5),
+        ("cut|r.raw|1|0 3 0 3|V0101|0 3 0 3 0 0|9|9", 5),
+        ("cut|r.raw|1|0 3 0 3|V0101|0 3 0 3|5|2", 6),
+        ("cut|r.raw|1|0 3 0 3|V0101|0 3 0 3|3|2", 7),
+        ("cut|r.raw|1|0 3 0 3|V0101|0 3 0 3|0|5", 7),
+        ("cut|r.raw|1|0 3 0 3|V0101|0 3 0 3|0", 7),
+        ("cut|r.raw|1|0 3 0 3|V0101|0 3 0 3|0|2|3", 8),
+        ("cut|r.raw|1|0 3 0 3|V0101|0 3 0 3|0|2||", 8),
+    ] {
+        let words = words_in(rt.alloc(), line)?;
+        assert_eq!(rt; wrong_place(&words), Some(place), "{line}");
+    }
+    Ok(())
+}
+
+#[test]
+fn right_words_are_read(rt: HostRuntime) -> Result<(), Fail> {
+    for (line, bytes, levels) in [
+        ("cut|r.raw|1|0 3 0 3|V0101|0 3 0 3|0|2", 16, (0, 2)),
+        (
+            "cut|r|0000000000000000064| 0\t3  00 03\t|V0101|1 1 1 1|04|4",
+            1024,
+            (4, 4),
+        ),
+        ("cut|r|1|0 0 0 0|V0|0 0 0 0|0|1", 1, (0, 1)),
+        (
+            "cut|r|2|0 0 0 0|V0101010101010101010101010101010101010101|0 0 0 0|0|40",
+            2,
+            (0, 40),
+        ),
+        (
+            "cut|r|1|0 32767 0 32767|V010101010101010101010101010101|0 3 0 3|0|2",
+            1 << 30,
+            (0, 2),
+        ),
+    ] {
+        let words = words_in(rt.alloc(), line)?;
+        match read_words(&words) {
+            Ok(Command::Cut(cut)) => {
+                assert_eq!(rt; cut.volume_bytes(), bytes, "{line}");
+                assert_eq!(rt; cut.levels(), levels, "{line}");
+            }
+            _ => assert!(rt; false, "{line}"),
+        }
+    }
+    let words = words_in(rt.alloc(), "info|-/v.idx")?;
+    assert_eq!(rt; given_path(&words), "-/v.idx");
+    assert!(rt; is_path(b"v.idx"));
+    Ok(())
+}
+
+/// A path of so many bytes.
+fn long_path(alloc: Global, length: u32) -> Result<String, AllocError> {
+    let mut path = String::new(alloc);
+    for _ in 0..length {
+        path.push('p')?;
+    }
+    Ok(path)
+}
+
+#[test]
+fn a_path_has_at_most_4096_bytes(rt: HostRuntime) -> Result<(), Fail> {
+    for (length, place) in [(4096, None), (4097, Some(1))] {
+        let mut words = words_in(rt.alloc(), "info")?;
+        words.push(long_path(rt.alloc(), length)?)?;
+        assert_eq!(rt; wrong_place(&words), place);
+    }
+    Ok(())
+}

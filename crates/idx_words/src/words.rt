@@ -1,0 +1,44 @@
+ghost use Rattle.std.specs.Prelude.{◌≡◌, ◌↔◌, map, string_bytes, IfErr, IfOk, IsTrue, Ok, codes};
+ghost use Rattle.idx_words.specs.declared.command.Command.{Command};
+ghost use Rattle.idx_words.specs.Words.{Give, IsSoundCommand, IsUsagePlace};
+
+use crate::command::Command;
+use crate::cut::cut_command;
+use crate::info::info_command;
+use crate::misread::Misread;
+
+const NO_COMMAND: Misread = Misread {
+    at: 0,
+    expected: "a command: cut or info",
+};
+
+/// The command that the words give. Where they are not in the grammar, the first word that is wrong or missing: no list
+/// of the grammar begins with it and the words before it, and it is missing where some list begins with all words.
+pub fn read_words(words: &[String]) -> Result<Command, Misread>
+    ensures read { (command : Command) → (result ≡ Ok command) ↔ Give (map string_bytes words.now) command }
+    ensures sound { IfOk result IsSoundCommand }
+    ensures place { IfErr result (λ misread. IsUsagePlace (map string_bytes words.now) misread.at) }
+{
+    let Some((name, words)) = words.split_first() else {
+        return Err(NO_COMMAND);
+    };
+    if is_cut(name.as_bytes()) {
+        return cut_command(words);
+    }
+    if is_info(name.as_bytes()) {
+        return info_command(words);
+    }
+    Err(NO_COMMAND)
+}
+
+fn is_cut(word: &[u8]) -> bool
+    ensures { IsTrue result ↔ (word.now ≡ codes "cut") }
+{
+    word == b"cut".as_slice()
+}
+
+fn is_info(word: &[u8]) -> bool
+    ensures { IsTrue result ↔ (word.now ≡ codes "info") }
+{
+    word == b"info".as_slice()
+}
