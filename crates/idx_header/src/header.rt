@@ -194,7 +194,7 @@ impl Header {
         block_bytes(self.fields.sample_bytes(i), self.block_bits)
     }
 
-    /// How many bytes the raw input has: the samples of the box, field after field. Below 2^52 and a bit.
+    /// How many bytes the raw input has: the samples of the box, field after field. At most 2^52.
     pub fn volume_bytes(&self) -> u64
         ensures value { result ≡ volume_bytes self.now }
         ensures few { result ≤ 2 ^ 52 }

@@ -30,3 +30,4 @@ pub use header_kind::HeaderKind;
 pub use laws::{names_differ, texts_read_back};
 pub use steps::Steps;
 pub use unknown::Unknown;
+pub use write::mask_text;

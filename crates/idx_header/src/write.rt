@@ -123,8 +123,8 @@ fn write_field_lines(fields: &Fields, out: &mut Bytes) -> Result<(), NoMemory>
     Ok(())
 }
 
-/// The mask.
-fn mask_text(alloc: Global, mask: &Mask) -> Result<Bytes, NoMemory>
+/// The text of a mask as a header has it: `V`, and the axis of each digit, the coarsest first.
+pub fn mask_text(alloc: Global, mask: &Mask) -> Result<Bytes, NoMemory>
     ensures { IfOk result (λ text. text ≡ mask_text mask.now) }
 {
     let mut text = Bytes::from_slice(alloc, b"V")?;

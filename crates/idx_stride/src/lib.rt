@@ -14,4 +14,5 @@ mod tests;
 
 pub use axis::Axis;
 pub use examples::{worked_offsets, worked_samples};
+pub use sample::{AnySize, Fixed, Sample};
 pub use strides::Strides;

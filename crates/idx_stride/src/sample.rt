@@ -2,7 +2,7 @@ ghost use Rattle.std.specs.Prelude.{◌≡◌, ℕ, ◌+◌, ◌≤◌, ◌<◌,
 ghost use Rattle.idx_stride.specs.Written.{written};
 
 /// How the bytes of one sample are copied: known at compile time, or not.
-pub(crate) trait Sample: Copy {
+pub trait Sample: Copy {
     /// How many bytes a sample has.
     ghost bytes: { Self → ℕ };
 
@@ -20,7 +20,7 @@ pub(crate) trait Sample: Copy {
 
 /// Samples of `N` bytes.
 #[derive(Clone, Copy)]
-pub(crate) struct Fixed<const N: usize>;
+pub struct Fixed<const N: usize>;
 
 impl<const N: usize> Sample for Fixed<N> {
     ghost bytes = { λ _. N };
@@ -38,8 +38,9 @@ impl<const N: usize> Sample for Fixed<N> {
 
 /// Samples of so many bytes.
 #[derive(Clone, Copy)]
-pub(crate) struct AnySize {
-    pub(crate) bytes: usize,
+pub struct AnySize {
+    /// How many bytes a sample has.
+    pub bytes: usize,
 }
 
 impl Sample for AnySize {
