@@ -1,0 +1,66 @@
+ghost use Rattle.std.specs.Prelude.{◌≡◌, ◌<◌, ◌≤◌, ℕ, IfErr, IfSome, List, OnOk, vec_len};
+ghost use Rattle.std.specs.Option.{ForSome};
+ghost use Rattle.idx_outside.specs.Cause.{NeverFalls};
+ghost use Rattle.idx_outside.specs.Files.{HasStep as HasCommitted, LiesIn};
+ghost use Rattle.idx_outside.specs.Objects.{contents_at, faults_at, UsesOnly};
+ghost use Rattle.idx_header.specs.Names.{step_folder};
+ghost use Rattle.idx_gather.specs.Gather.{HasFolder, HasVolume, IsCaused, Leaves, StepAdded};
+
+use crate::GatherFault;
+use crate::step::write_step;
+use crate::volume::read_volume;
+use idx_header::Header;
+use idx_outside::{Bay, BayFault, Gate, Source};
+use std::alloc::Global;
+
+/// Writes a step from a raw volume and makes it stand in the bay, in the folder that was last begun: exactly its files,
+/// byte for byte as the format defines them. The first raw volume alone is read, once and whole, before the first file is
+/// begun.
+///
+/// After a refusal no file stands that did not before, unless the bay's own commit failed: then the step stands whole or
+/// not at all.
+pub fn gather<V: Source, B: Bay, G: Gate>(
+    alloc: Global,
+    header: &Header,
+    step: u64,
+    raws: &mut Vec<V>,
+    bay: &mut B,
+    _gate: &G,
+) -> Result<(), GatherFault>
+    requires some { 0 < vec_len raws.old }
+    requires few { vec_len raws.old ≤ 256 }
+    requires folder { HasFolder header.now step }
+    requires begun { ForSome (step_folder header.now step)
+        (λ folder. (path : List ℕ) → LiesIn folder path → B.admits bay.old path) }
+    requires new { ForSome (step_folder header.now step)
+        (λ folder. ForSome (B.files bay.old) (λ files. ¬ HasCommitted folder files)) }
+
+    // The raw volume has the right length, and exactly the files of the step were added.
+    ensures right { OnOk result (HasVolume header.now (contents_at V.contents raws.old.items 0)) }
+    ensures added { OnOk result (IfSome (contents_at V.contents raws.old.items 0)
+        (StepAdded header.now step (B.files bay.old) (B.files bay.new))) }
+
+    // Each refusal has its cause, and leaves the committed files as they were, a failed commit apart.
+    ensures cause { IfErr result (IsCaused header.now (contents_at V.contents raws.old.items 0)
+        (faults_at V.faults raws.old.items 0) (faults_at V.faults raws.new.items 0)
+        (B.faults bay.old) (B.faults bay.new)) }
+    ensures leaves { IfErr result (Leaves header.now step (contents_at V.contents raws.old.items 0)
+        (B.files bay.old) (B.files bay.new)) }
+
+    // Where all is written, no fault was counted.
+    ensures raw_quiet { OnOk result (faults_at V.faults raws.new.items 0 ≡ faults_at V.faults raws.old.items 0) }
+    ensures quiet { OnOk result (B.faults bay.new ≡ B.faults bay.old) }
+
+    ensures raws { UsesOnly V.contents V.faults 0 raws.old.items raws.new.items }
+    ensures header { B.header bay.new ≡ B.header bay.old }
+    ensures count { NeverFalls (B.faults bay.old) (B.faults bay.new) }
+{
+    let raw = read_volume(alloc, header, &mut raws[0])?;
+    match write_step(alloc, header, step, &raw, bay) {
+        Ok(()) => Ok(()),
+        Err(BayFault::Outage) => Err(GatherFault::StoreFault {
+            faults: bay.faults(),
+        }),
+        Err(BayFault::NoMemory) => Err(GatherFault::NoMemory),
+    }
+}
