@@ -1,5 +1,5 @@
-//! The two fastest lines of a walk. Four neighbouring rows are copied side by side, so that more reads of the raw samples
-//! are under way at a time.
+//! The two fastest lines of a walk. Some neighbouring rows, a band, are copied side by side, so that more reads of the raw
+//! samples are under way at a time.
 ghost use Rattle.std.specs.Prelude.{◌≡◌, ℕ, ◌+◌, ◌*◌, ◌<◌, ◌≤◌, List, [], ◌∷◌, slice_index};
 ghost use Rattle.idx_block.specs.Copies.{AreMade, EachCopy, HasCoordinate, IsWanted, IsWithin};
 ghost use Rattle.idx_block.specs.Spread.{part_after};
@@ -8,8 +8,11 @@ use crate::line::Line;
 use crate::walk::next_part;
 use idx_stride::Sample;
 
-/// So many rows are copied side by side.
-const SIDE_BY_SIDE: usize = 4;
+/// So many rows are copied side by side, where there are as many.
+const WIDE: usize = 16;
+
+/// So many where there are fewer.
+const NARROW: usize = 4;
 
 /// Copies the samples along two lines.
 pub(crate) fn rows<S: Sample>(
@@ -29,26 +32,53 @@ pub(crate) fn rows<S: Sample>(
         EachCopy (IsWanted want (S.bytes sample) samples.now) (slower.now ∷ line.now ∷ []) from place →
         AreMade want (S.bytes sample) (slower.now ∷ line.now ∷ []) from place into.old into.new }
 {
+    if slower.count < WIDE {
+        rows_by::<S, NARROW>(sample, slower, line, samples, from, into, place);
+    } else {
+        rows_by::<S, WIDE>(sample, slower, line, samples, from, into, place);
+    }
+}
+
+/// Copies the samples along two lines, in bands of `N` rows.
+fn rows_by<S: Sample, const N: usize>(
+    sample: S,
+    slower: &Line,
+    line: &Line,
+    samples: &[u8],
+    from: usize,
+    into: &mut [u8],
+    place: usize,
+)
+    requires wide { 1 ≤ N }
+    requires narrow { N ≤ 64 }
+    requires some { 0 < S.bytes sample }
+    requires few { S.bytes sample ≤ 64 }
+    requires coordinates { HasCoordinate line.now }
+    requires within { EachCopy (IsWithin (S.bytes sample) samples.now into.old) (slower.now ∷ line.now ∷ []) from place }
+    ensures { (want : ℕ → List ℕ) →
+        EachCopy (IsWanted want (S.bytes sample) samples.now) (slower.now ∷ line.now ∷ []) from place →
+        AreMade want (S.bytes sample) (slower.now ∷ line.now ∷ []) from place into.old into.new }
+{
     let mut part = slower.first;
     let mut k = 0;
     while k < slower.count {
-        if slower.count - k >= SIDE_BY_SIDE {
-            let four = Line {
+        if slower.count - k >= N {
+            let band = Line {
                 step: slower.step,
-                count: SIDE_BY_SIDE,
+                count: N,
                 bits: slower.bits,
                 first: part,
             };
-            part = four_rows(
+            part = band_rows::<S, N>(
                 sample,
-                &four,
+                &band,
                 line,
                 samples,
                 from + k * slower.step,
                 into,
                 place,
             );
-            k += SIDE_BY_SIDE;
+            k += N;
         } else {
             row(
                 sample,
@@ -64,33 +94,35 @@ pub(crate) fn rows<S: Sample>(
     }
 }
 
-/// Copies the samples along a line, at each of its coordinates those along another one of four coordinates. Answers what
-/// the coordinate behind the four gives to the place.
-fn four_rows<S: Sample>(
+/// Copies the samples along a line, at each of its coordinates those along a band. Answers what the coordinate behind
+/// the band gives to the place.
+fn band_rows<S: Sample, const N: usize>(
     sample: S,
-    four: &Line,
+    band: &Line,
     line: &Line,
     samples: &[u8],
     from: usize,
     into: &mut [u8],
     place: usize,
 ) -> usize
+    requires wide { 1 ≤ N }
+    requires narrow { N ≤ 64 }
     requires some { 0 < S.bytes sample }
     requires few { S.bytes sample ≤ 64 }
-    requires four { four.now.count ≡ 4 }
-    requires within { EachCopy (IsWithin (S.bytes sample) samples.now into.old) (line.now ∷ four.now ∷ []) from place }
-    ensures part { result ≡ part_after four.now.bits four.now.first 4 }
+    requires band { band.now.count ≡ N }
+    requires within { EachCopy (IsWithin (S.bytes sample) samples.now into.old) (line.now ∷ band.now ∷ []) from place }
+    ensures part { result ≡ part_after band.now.bits band.now.first N }
     ensures made { (want : ℕ → List ℕ) →
-        EachCopy (IsWanted want (S.bytes sample) samples.now) (line.now ∷ four.now ∷ []) from place →
-        AreMade want (S.bytes sample) (line.now ∷ four.now ∷ []) from place into.old into.new }
+        EachCopy (IsWanted want (S.bytes sample) samples.now) (line.now ∷ band.now ∷ []) from place →
+        AreMade want (S.bytes sample) (line.now ∷ band.now ∷ []) from place into.old into.new }
 {
-    let parts = parts_of(four);
+    let parts = parts_of::<N>(band);
     let (step, bits) = (line.step, line.bits);
     let mut part = line.first;
     for k in 0..line.count {
-        copy_four(
+        copy_column::<S, N>(
             sample,
-            four,
+            band,
             parts,
             samples,
             from + k * step,
@@ -99,44 +131,48 @@ fn four_rows<S: Sample>(
         );
         part = next_part(bits, part);
     }
-    next_part(four.bits, parts[SIDE_BY_SIDE - 1])
+    next_part(band.bits, parts[N - 1])
 }
 
-/// What the coordinates of a line of four give to the place.
+/// What the coordinates of a band give to the place.
 #[inline(always)]
-fn parts_of(four: &Line) -> [usize; SIDE_BY_SIDE]
-    ensures { (k : ℕ) → k < 4 → slice_index result k ≡ part_after four.now.bits four.now.first k }
+fn parts_of<const N: usize>(band: &Line) -> [usize; N]
+    requires wide { 1 ≤ N }
+    requires narrow { N ≤ 64 }
+    ensures { (k : ℕ) → k < N → slice_index result k ≡ part_after band.now.bits band.now.first k }
 {
-    let mut parts = [four.first; SIDE_BY_SIDE];
-    for k in 1..SIDE_BY_SIDE {
-        parts[k] = next_part(four.bits, parts[k - 1]);
+    let mut parts = [band.first; N];
+    for k in 1..N {
+        parts[k] = next_part(band.bits, parts[k - 1]);
     }
     parts
 }
 
-/// Copies the samples along a line of four coordinates, whose parts of the place are given.
+/// Copies the samples along a band, whose coordinates' parts of the place are given.
 #[inline(always)]
-fn copy_four<S: Sample>(
+fn copy_column<S: Sample, const N: usize>(
     sample: S,
-    four: &Line,
-    parts: [usize; SIDE_BY_SIDE],
+    band: &Line,
+    parts: [usize; N],
     samples: &[u8],
     from: usize,
     into: &mut [u8],
     place: usize,
 )
+    requires wide { 1 ≤ N }
+    requires narrow { N ≤ 64 }
     requires some { 0 < S.bytes sample }
     requires few { S.bytes sample ≤ 64 }
-    requires four { four.now.count ≡ 4 }
-    requires parts { (k : ℕ) → k < 4 → slice_index parts k ≡ part_after four.now.bits four.now.first k }
-    requires within { EachCopy (IsWithin (S.bytes sample) samples.now into.old) (four.now ∷ []) from place }
-    ensures { (want : ℕ → List ℕ) → EachCopy (IsWanted want (S.bytes sample) samples.now) (four.now ∷ []) from place →
-        AreMade want (S.bytes sample) (four.now ∷ []) from place into.old into.new }
+    requires band { band.now.count ≡ N }
+    requires parts { (k : ℕ) → k < N → slice_index parts k ≡ part_after band.now.bits band.now.first k }
+    requires within { EachCopy (IsWithin (S.bytes sample) samples.now into.old) (band.now ∷ []) from place }
+    ensures { (want : ℕ → List ℕ) → EachCopy (IsWanted want (S.bytes sample) samples.now) (band.now ∷ []) from place →
+        AreMade want (S.bytes sample) (band.now ∷ []) from place into.old into.new }
 {
-    for k in 0..SIDE_BY_SIDE {
+    for k in 0..N {
         sample.copy(
             samples,
-            from + k * four.step,
+            from + k * band.step,
             into,
             (place + parts[k]) * sample.bytes(),
         );

@@ -19,11 +19,13 @@ const NINE: &[u8] =
 const MIDDLE: &[u8] =
     b"(version)\n6\n(box)\n1 2 1 2\n(fields)\na uint8\n(bits)\nV0101\n(bitsperblock)\n2\n(blocksperfile)\n2\n(filename_template)\n./%01x.bin\n";
 
-/// Boxes of two and three axes, some of whose blocks are not wholly in the box, with samples of 1, 3, 4 and 8 bytes.
-const OTHERS: [&[u8]; 4] = [
+/// Boxes of two and three axes, some of whose blocks are not wholly in the box, with samples of 1, 2, 3, 4 and 8 bytes,
+/// and one whose blocks have more than sixteen rows.
+const OTHERS: [&[u8]; 5] = [
     b"(version)\n6\n(box)\n0 6 0 4 1 3\n(fields)\na uint8\n(bits)\nV02101021\n(bitsperblock)\n4\n(blocksperfile)\n2\n(filename_template)\n./%02x.bin\n",
     b"(version)\n6\n(box)\n2 9 3 5\n(fields)\na uint8[3]\n(bits)\nV0100101\n(bitsperblock)\n3\n(blocksperfile)\n2\n(filename_template)\n./%01x.bin\n",
     b"(version)\n6\n(box)\n0 7 0 3 0 3\n(fields)\na float32\n(bits)\nV0012012\n(bitsperblock)\n5\n(blocksperfile)\n2\n(filename_template)\n./%01x.bin\n",
+    b"(version)\n6\n(box)\n0 2 0 39\n(fields)\na uint16\n(bits)\nV10110111\n(bitsperblock)\n7\n(blocksperfile)\n2\n(filename_template)\n./%01x.bin\n",
     b"(version)\n6\n(box)\n3 12 1 6\n(fields)\na float64\n(bits)\nV1101000\n(bitsperblock)\n1\n(blocksperfile)\n2\n(filename_template)\n./%02x.bin\n",
 ];
 

@@ -5,7 +5,7 @@ use Rattle.idx_block.proofs.rows.parts_of.Given as goal
 
 -- the parts so far
 abbrev pub invariant-loop-k : goal.invariant-loop-k
-invariant-loop-k l = record {
-  room : length l.parts ≡ 4;
-  are : (i : ℕ) → i < l.k → slice_index l.parts i ≡ part_after l.four.bits l.four.first i;
+invariant-loop-k g l = record {
+  room : length l.parts ≡ g.row.N;
+  are : (i : ℕ) → i < l.k → slice_index l.parts i ≡ part_after l.band.bits l.band.first i;
 }

@@ -3,31 +3,31 @@ use Rattle.idx_block.specs.Spread.{next_part, part_after}
 use Rattle.idx_block.specs.Copies.{AreMade, EachCopy, IsWanted, IsWithin}
 use Rattle.idx_block.proofs.CopyLemmas.{begins_within, each-implied, so_far-all, so_far-more}
 use Rattle.idx_block.proofs.RowsLemmas.{each-some, one_coordinate, part_after-add, so_far-some, some_of}
-use Rattle.idx_block.proofs.rows.rows.Goals as goal
+use Rattle.idx_block.proofs.rows.rows_by.Goals as goal
 
-pub four_rows-part-requires-clause-within : goal.four_rows-part-requires-clause-within
-four_rows-part-requires-clause-within g c =
+pub band_rows-part-requires-clause-within : goal.band_rows-part-requires-clause-within
+band_rows-part-requires-clause-within g c =
     let size : ℕ = g.S.Sample.bytes c.args.sample in
     let slower = c.args.slower.now in
     let line = c.args.line.now in
     let k : ℕ = c.loop-k.k in
-    let each = each-some (IsWithin size c.args.samples.now c.args.into.now) slower line c.args.from c.args.place k 4 c.loop-k.part (omega arith) c.loop-k.invariant.part c.requires.within in
+    let each = each-some (IsWithin size c.args.samples.now c.args.into.now) slower line c.args.from c.args.place k g.row.N c.loop-k.part (omega arith) c.loop-k.invariant.part c.requires.within in
     each-implied (IsWithin size c.args.samples.now c.args.into.now) (IsWithin size c.args.samples.now c.loop-k.into) (λ f o h. (h.0, omega (arith, h.1, c.loop-k.auto.into)))
-    (line ∷ (some_of slower 4 c.loop-k.part ∷ [])) (c.args.from + k * slower.step) c.args.place each
+    (line ∷ (some_of slower g.row.N c.loop-k.part ∷ [])) (c.args.from + k * slower.step) c.args.place each
 
-pub loop-k-preserved-then-slower-k-ge-SIDE_BY_SIDE : goal.loop-k-preserved-then-slower-k-ge-SIDE_BY_SIDE
-loop-k-preserved-then-slower-k-ge-SIDE_BY_SIDE g c =
+pub loop-k-preserved-then-slower-k : goal.loop-k-preserved-then-slower-k
+loop-k-preserved-then-slower-k g c =
     let size : ℕ = g.S.Sample.bytes c.args.sample in
     let slower = c.args.slower.now in
     let line = c.args.line.now in
     let k : ℕ = c.loop-k.k in
-    let within : k + 4 ≤ slower.count = omega arith in
+    let within : k + g.row.N ≤ slower.count = omega arith in
     record {
       within = within;
-      part = c.four_rows-part.ensures.part ∙ ap (λ p. part_after slower.bits p 4) c.loop-k.invariant.part ∙ part_after-add slower.bits slower.first k 4;
+      part = c.band_rows-part.ensures.part ∙ ap (λ p. part_after slower.bits p g.row.N) c.loop-k.invariant.part ∙ part_after-add slower.bits slower.first k g.row.N;
       made = λ want right.
-          so_far-some want size slower line c.args.from c.args.place k 4 c.loop-k.part c.args.into.now c.loop-k.into c.four_rows-part.new.into c.loop-k.invariant.part (c.loop-k.invariant.made want right)
-          (c.four_rows-part.ensures.made want (each-some (IsWanted want size c.args.samples.now) slower line c.args.from c.args.place k 4 c.loop-k.part within c.loop-k.invariant.part right));
+          so_far-some want size slower line c.args.from c.args.place k g.row.N c.loop-k.part c.args.into.now c.loop-k.into c.band_rows-part.new.into c.loop-k.invariant.part (c.loop-k.invariant.made want right)
+          (c.band_rows-part.ensures.made want (each-some (IsWanted want size c.args.samples.now) slower line c.args.from c.args.place k g.row.N c.loop-k.part within c.loop-k.invariant.part right));
     }
 
 pub overflow_add-place : goal.overflow_add-place

@@ -1,9 +1,0 @@
-use Rattle.std.proofs.Common.{ℕ, List, [], ◌∷◌}
-use Rattle.idx_block.specs.Copies.{EachCopy, IsWanted}
-use Rattle.idx_block.proofs.CopyLemmas.{AreSoFar}
-use Rattle.idx_block.proofs.rows.copy_four.Given as goal
-
--- the copies so far are made
-abbrev pub invariant-loop-k : goal.invariant-loop-k
-invariant-loop-k g l = (want : ℕ → List ℕ) → EachCopy (IsWanted want (g.S.Sample.bytes l.sample) l.samples) (l.four ∷ []) l.from l.place →
-    AreSoFar want (g.S.Sample.bytes l.sample) l.four [] l.from l.place l.k l.initial.into l.into
