@@ -24,6 +24,11 @@ abbrev pub StepAdded : HeaderValue → ℕ → Option (List MemFile) → Option 
 StepAdded h step old new raw =
     IfSome (step_folder h step) (λ folder. new ≡ added old (files_of folder (step_files h (volume_of_raw h raw) step)))
 
+-- The same of some bytes, as many as a volume has; they are those of the raw volume where these are known.
+abbrev pub SomeStepAdded : HeaderValue → ℕ → Option (List ℕ) → Option (List MemFile) → Option (List MemFile) → Type 0
+SomeStepAdded h step raw old new =
+    (bytes : List ℕ) × ((length bytes ≡ volume_bytes h) × IfSome raw (λ known. bytes ≡ known) × StepAdded h step old new bytes)
+
 -- What each fault says of the raw volume, and of the counts of the raw volume and of the bay before and after.
 abbrev pub IsCaused : HeaderValue → Option (List ℕ) → ℕ → ℕ → ℕ → ℕ → GatherFault → Type 0
 IsCaused h raw raw_before raw_after before after (RawWrongSize want found) =
@@ -39,5 +44,5 @@ IsCaused h raw raw_before raw_after before after NoMemory =
 -- What each fault leaves of the committed files: they are those from before. A store's fault may come of the commit itself,
 -- which then may have added the step, whole.
 abbrev pub Leaves : HeaderValue → ℕ → Option (List ℕ) → Option (List MemFile) → Option (List MemFile) → GatherFault → Type 0
-Leaves h step raw old new (StoreFault faults) = (new ≡ old) ⊎ IfSome raw (StepAdded h step old new)
+Leaves h step raw old new (StoreFault faults) = (new ≡ old) ⊎ SomeStepAdded h step raw old new
 Leaves h step raw old new fault = new ≡ old

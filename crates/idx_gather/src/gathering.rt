@@ -1,10 +1,10 @@
-ghost use Rattle.std.specs.Prelude.{◌≡◌, ◌<◌, ◌≤◌, ℕ, IfErr, IfSome, List, OnOk, vec_len};
+ghost use Rattle.std.specs.Prelude.{◌≡◌, ◌<◌, ℕ, IfErr, IfSome, List, OnOk, vec_len};
 ghost use Rattle.std.specs.Option.{ForSome};
 ghost use Rattle.idx_outside.specs.Cause.{NeverFalls};
 ghost use Rattle.idx_outside.specs.Files.{HasStep as HasCommitted, LiesIn};
 ghost use Rattle.idx_outside.specs.Objects.{contents_at, faults_at, UsesOnly};
 ghost use Rattle.idx_header.specs.Names.{step_folder};
-ghost use Rattle.idx_gather.specs.Gather.{HasFolder, HasVolume, IsCaused, Leaves, StepAdded};
+ghost use Rattle.idx_gather.specs.Gather.{HasFolder, HasVolume, IsCaused, Leaves, SomeStepAdded};
 
 use crate::GatherFault;
 use crate::step::write_step;
@@ -28,7 +28,6 @@ pub fn gather<V: Source, B: Bay, G: Gate>(
     _gate: &G,
 ) -> Result<(), GatherFault>
     requires some { 0 < vec_len raws.old }
-    requires few { vec_len raws.old ≤ 256 }
     requires folder { HasFolder header.now step }
     requires begun { ForSome (step_folder header.now step)
         (λ folder. (path : List ℕ) → LiesIn folder path → B.admits bay.old path) }
@@ -37,8 +36,8 @@ pub fn gather<V: Source, B: Bay, G: Gate>(
 
     // The raw volume has the right length, and exactly the files of the step were added.
     ensures right { OnOk result (HasVolume header.now (contents_at V.contents raws.old.items 0)) }
-    ensures added { OnOk result (IfSome (contents_at V.contents raws.old.items 0)
-        (StepAdded header.now step (B.files bay.old) (B.files bay.new))) }
+    ensures added { OnOk result (SomeStepAdded header.now step (contents_at V.contents raws.old.items 0)
+        (B.files bay.old) (B.files bay.new)) }
 
     // Each refusal has its cause, and leaves the committed files as they were, a failed commit apart.
     ensures cause { IfErr result (IsCaused header.now (contents_at V.contents raws.old.items 0)
