@@ -5,4 +5,6 @@ pub mod HasMaskLemmas
 pub mod WitnessLemmas
 pub mod CutLemmas
 pub mod InfoLemmas
+pub mod ConvertLemmas
+pub mod BuiltLemmas
 pub mod WordsLemmas

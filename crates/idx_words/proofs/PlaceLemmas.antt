@@ -60,3 +60,12 @@ IsPlace-behind G H word words at longer shorter some h = record {
     begun (suc k) less =
         let next : suc (k + 1) ≡ suc k + 1 = omega arith in
         subst (Begins H (word ∷ words)) next (before (k + 1) (h.before k (omega arith)))
+
+-- grammars with the same lists have the same places
+pub IsPlace-same : (G H : List (List ℕ) → Type 0) (words : List (List ℕ)) (at : ℕ) →
+    ((list : List (List ℕ)) → G list → H list) → ((list : List (List ℕ)) → H list → G list) → IsPlace G words at → IsPlace H words at
+IsPlace-same G H words at to from h = record {
+  within = h.within;
+  before = λ k less. let begins = h.before k less in (begins.0, to (take (k + 1) words ++ begins.0) begins.1);
+  wrong = λ less begins. h.wrong less (begins.0, from (take (at + 1) words ++ begins.0) begins.1);
+}

@@ -3,5 +3,10 @@ pub mod WordAt
 pub mod CutWord
 pub mod CutGrammar
 pub mod CutSteps
+pub mod ConvertValue
+pub mod ConvertGrammar
+pub mod ConvertWord
+pub mod Built
 pub mod Place
 pub mod Words
+pub mod Worked

@@ -1,10 +1,12 @@
 -- What a list of words stands for: a command with its values.
 use Rattle.std.specs.Prelude.{◌≡◌, ℕ, List, [], ◌∷◌, IsTrue, codes}
 use Rattle.idx_words.specs.declared.command.Command.{Command}
-use Rattle.idx_words.specs.declared.command.Command.TheVariants.{Cut, Info}
+use Rattle.idx_words.specs.declared.command.Command.TheVariants.{Cut, Info, Convert}
 use Rattle.idx_words.specs.PathWord.{is_path}
 use Rattle.idx_words.specs.declared.cut_words.CutWords.{CutWords}
 use Rattle.idx_words.specs.CutGrammar.{AreCutWords, IsSound}
+use Rattle.idx_words.specs.ConvertValue.{ConvertValue}
+use Rattle.idx_words.specs.ConvertGrammar.{AreConvertWords}
 use Rattle.idx_words.specs.Place.{IsPlace}
 
 -- the words behind the command are those of `info`: DATASET alone
@@ -17,6 +19,7 @@ abbrev pub Give : List (List ℕ) → Command → Type 0
 Give [] command = ⊥
 Give (name ∷ words) (Cut c) = (name ≡ codes "cut") × AreCutWords words c
 Give (name ∷ words) Info = (name ≡ codes "info") × AreInfoWords words
+Give (name ∷ words) (Convert c) = (name ≡ codes "convert") × AreConvertWords words c
 
 -- the words are in the grammar
 abbrev pub GiveCommand : List (List ℕ) → Type 0
@@ -30,23 +33,39 @@ GiveCut words = (c : CutWords) × Give words (Cut c)
 abbrev pub GiveInfo : List (List ℕ) → Type 0
 GiveInfo words = Give words Info
 
+-- the words are those of `convert`
+abbrev pub GiveConvert : List (List ℕ) → Type 0
+GiveConvert words = (c : ConvertValue) × Give words (Convert c)
+
 -- what is so of the values of a command
 abbrev pub IsSoundCommand : Command → Type 0
 IsSoundCommand (Cut c) = IsSound c
 IsSoundCommand Info = Unit {0}
+IsSoundCommand (Convert c) = Unit {0}
 
 -- which command it is
 abbrev pub IsCut : Command → Type 0
 IsCut (Cut c) = Unit {0}
 IsCut Info = ⊥
+IsCut (Convert c) = ⊥
 
 abbrev pub IsInfo : Command → Type 0
 IsInfo (Cut c) = ⊥
 IsInfo Info = Unit {0}
+IsInfo (Convert c) = ⊥
+
+abbrev pub IsConvert : Command → Type 0
+IsConvert (Cut c) = ⊥
+IsConvert Info = ⊥
+IsConvert (Convert c) = Unit {0}
 
 -- the words behind the command are those of `cut`
 abbrev pub AreSomeCutWords : List (List ℕ) → Type 0
 AreSomeCutWords words = (c : CutWords) × AreCutWords words c
+
+-- the words behind the command are those of `convert`
+abbrev pub AreSomeConvertWords : List (List ℕ) → Type 0
+AreSomeConvertWords words = (c : ConvertValue) × AreConvertWords words c
 
 -- the place of a usage fault: that of the first word that is wrong or missing
 abbrev pub IsUsagePlace : List (List ℕ) → ℕ → Type 0

@@ -2,6 +2,7 @@ ghost use Rattle.std.specs.Prelude.{◌≡◌, ◌≢◌, ◌↔◌, ◌≤◌, 
 ghost use Rattle.idx_geom.specs.Region.{IsRegion};
 ghost use Rattle.idx_words.specs.declared.command.Command.{Command};
 ghost use Rattle.idx_words.specs.declared.cut_words.CutWords.{CutWords};
+ghost use Rattle.idx_words.specs.ConvertValue.{ConvertValue};
 ghost use Rattle.idx_words.specs.CutGrammar.{AreCutWords, IsSound};
 ghost use Rattle.idx_words.specs.CutSteps.{HasMask, IsBox, IsLevel, IsMaskOf, IsRegionIn, IsSize};
 ghost use Rattle.idx_words.specs.CutWord.{place_of, word_of};
@@ -29,9 +30,10 @@ const MAX_VOLUME_BYTES: u64 = 1 << 30;
 
 /// The command `cut` with the values of the words behind it. The place of a word that is wrong or missing counts the
 /// command too.
-pub fn cut_command(words: &[String]) -> Result<Command, Misread>
+pub fn cut_command(words: &[String]) -> Result<Command<'_>, Misread>
     ensures read { (c : CutWords) → (result ≡ Ok (Command.Cut c)) ↔ AreCutWords (map string_bytes words.now) c }
-    ensures only { result ≢ Ok Command.Info }
+    ensures no_info { result ≢ Ok Command.Info }
+    ensures no_convert { (c : ConvertValue) → result ≢ Ok (Command.Convert c) }
     ensures sound { IfOk result IsSoundCommand }
     ensures place { IfErr result (λ misread. IsPlaceBehind AreSomeCutWords (map string_bytes words.now) misread.at) }
 {

@@ -22,3 +22,14 @@ pub fn given_path(words: &[String]) -> &str
         _ => "",
     }
 }
+
+/// The third word, which is the path of the raw volume where the words are those of `convert`; no text where there is
+/// none.
+pub fn third_word(words: &[String]) -> &str
+    ensures { result.now ≡ slice_index_or (map string_bytes words.now) 2 [] }
+{
+    match words {
+        [_, _, word, ..] => word.as_str(),
+        _ => "",
+    }
+}

@@ -1,6 +1,7 @@
 ghost use Rattle.std.specs.Prelude.{◌≡◌, ◌≢◌, ◌↔◌, map, string_bytes, IfErr, IfOk, Ok};
 ghost use Rattle.idx_words.specs.declared.command.Command.{Command};
 ghost use Rattle.idx_words.specs.declared.cut_words.CutWords.{CutWords};
+ghost use Rattle.idx_words.specs.ConvertValue.{ConvertValue};
 ghost use Rattle.idx_words.specs.Place.{IsPlaceBehind};
 ghost use Rattle.idx_words.specs.Words.{AreInfoWords, IsSoundCommand};
 
@@ -20,9 +21,10 @@ const MORE_WORDS: Misread = Misread {
 };
 
 /// The command `info` with the word behind it. The place of a word that is wrong or missing counts the command too.
-pub fn info_command(words: &[String]) -> Result<Command, Misread>
+pub fn info_command(words: &[String]) -> Result<Command<'_>, Misread>
     ensures read { (result ≡ Ok Command.Info) ↔ AreInfoWords (map string_bytes words.now) }
-    ensures only { (c : CutWords) → result ≢ Ok (Command.Cut c) }
+    ensures no_cut { (c : CutWords) → result ≢ Ok (Command.Cut c) }
+    ensures no_convert { (c : ConvertValue) → result ≢ Ok (Command.Convert c) }
     ensures place { IfErr result (λ misread. IsPlaceBehind AreInfoWords (map string_bytes words.now) misread.at) }
 {
     if !is_path(word_at(words, 0)) {

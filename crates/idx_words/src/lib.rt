@@ -1,10 +1,15 @@
 //! The words of a command line: which command they give, and where the first is wrong or missing.
 #![tactic(auto)]
 
+mod built;
 mod command;
+mod convert;
+mod convert_word;
+mod convert_words;
 mod cut;
 mod cut_word;
 mod cut_words;
+mod examples;
 mod given;
 mod info;
 mod laws;
@@ -12,12 +17,16 @@ mod misread;
 mod path;
 #[cfg(test)]
 mod tests;
+mod text;
 mod words;
 
 pub use command::Command;
+pub use convert_words::ConvertWords;
 pub use cut_words::CutWords;
-pub use given::given_path;
-pub use laws::places_are_one;
+pub use examples::worked_words;
+pub use given::{given_path, third_word};
+pub use laws::{built_texts_are_one, places_are_one};
 pub use misread::Misread;
 pub use path::is_path;
+pub use text::is_text;
 pub use words::read_words;

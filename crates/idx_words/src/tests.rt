@@ -1,4 +1,4 @@
-use crate::{Command, given_path, is_path, read_words};
+use crate::{Command, given_path, is_path, is_text, read_words, third_word};
 use std::alloc::{AllocError, Global};
 use std::test::Fail;
 
@@ -65,6 +65,68 @@ fn the_first_word_after_which_nothing_goes_is_the_place(rt: HostRuntime) -> Resu
     ] {
         let words = words_in(rt.alloc(), line)?;
         assert_eq!(rt; wrong_place(&words), Some(place), "{line}");
+    }
+    Ok(())
+}
+
+#[test]
+fn each_word_of_convert_has_its_place(rt: HostRuntime) -> Result<(), Fail> {
+    for (line, place) in [
+        ("convert", 1),
+        ("convert|-v.idx", 1),
+        ("convert|v.idx", 2),
+        ("convert|v.idx||(box)", 2),
+        ("convert|v.idx|r.raw|(box)", 3),
+        ("convert|v.idx|r.raw|0\t3 0 3", 3),
+        ("convert|v.idx|r.raw| (box)", 4),
+        ("convert|v|r|0 3 0 3|a uint8|V0101|2|2||0 9 time%04d/|0", 8),
+        (
+            "convert|v|r|0 3 0 3|a uint8|V0101|2|2|./%01x.bin|0 9 time%04d/",
+            10,
+        ),
+        (
+            "convert|v|r|0 3 0 3|a uint8|V0101|2|2|./%01x.bin|0 9 time%04d/|-1",
+            10,
+        ),
+        ("convert|v|r|b|f|m|b|p|t|t|00000000000000000000", 10),
+        ("convert|v|r|b|f|m|b|p|t|t|0000000000000000000|0", 11),
+        ("convert|v|r|b|f|m|b|p|t|t|0||", 11),
+    ] {
+        let words = words_in(rt.alloc(), line)?;
+        assert_eq!(rt; wrong_place(&words), Some(place), "{line}");
+    }
+    assert!(rt; is_text(b" (box)"));
+    Ok(())
+}
+
+#[test]
+fn words_of_convert_ask_for_a_header(rt: HostRuntime) -> Result<(), Fail> {
+    for (extent, mask, bits) in [
+        ("0 3 0 3", "V0101", "V0101"),
+        ("0 2 0 2", "auto", "V0101"),
+        ("0 0 0 0", "auto", "V"),
+        ("x", "auto", "V"),
+        ("x", "Auto", "Auto"),
+    ] {
+        let line = format!(in rt.alloc();
+            "convert|v.idx|r.raw|{extent}|a uint8|{mask}|2|2|./%01x.bin|0 9 time%04d/|7"
+        )?;
+        let words = words_in(rt.alloc(), line.as_str())?;
+        let Ok(Command::Convert(convert)) = read_words(&words) else {
+            assert!(rt; false, "{line}");
+            return Ok(());
+        };
+        assert_eq!(rt; convert.step, 7);
+        let text = format!(in rt.alloc();
+            "(version)\n6\n(box)\n{extent}\n(fields)\na uint8\n(bits)\n{bits}\n(bitsperblock)\n2\n\
+            (blocksperfile)\n2\n(filename_template)\n./%01x.bin\n(time)\n0 9 time%04d/\n"
+        )?;
+        assert_eq!(rt;
+            convert.header_text(rt.alloc())?.as_slice(),
+            text.as_bytes(),
+            "{line}"
+        );
+        assert_eq!(rt; third_word(&words), "r.raw");
     }
     Ok(())
 }

@@ -3,18 +3,19 @@ ghost use Rattle.idx_words.specs.declared.command.Command.{Command};
 ghost use Rattle.idx_words.specs.Words.{Give, IsSoundCommand, IsUsagePlace};
 
 use crate::command::Command;
+use crate::convert::convert_command;
 use crate::cut::cut_command;
 use crate::info::info_command;
 use crate::misread::Misread;
 
 const NO_COMMAND: Misread = Misread {
     at: 0,
-    expected: "a command: cut or info",
+    expected: "a command: cut, info or convert",
 };
 
 /// The command that the words give. Where they are not in the grammar, the first word that is wrong or missing: no list
 /// of the grammar begins with it and the words before it, and it is missing where some list begins with all words.
-pub fn read_words(words: &[String]) -> Result<Command, Misread>
+pub fn read_words(words: &[String]) -> Result<Command<'_>, Misread>
     ensures read { (command : Command) → (result ≡ Ok command) ↔ Give (map string_bytes words.now) command }
     ensures sound { IfOk result IsSoundCommand }
     ensures place { IfErr result (λ misread. IsUsagePlace (map string_bytes words.now) misread.at) }
@@ -27,6 +28,9 @@ pub fn read_words(words: &[String]) -> Result<Command, Misread>
     }
     if is_info(name.as_bytes()) {
         return info_command(words);
+    }
+    if is_convert(name.as_bytes()) {
+        return convert_command(words);
     }
     Err(NO_COMMAND)
 }
@@ -41,4 +45,10 @@ fn is_info(word: &[u8]) -> bool
     ensures { IsTrue result ↔ (word.now ≡ codes "info") }
 {
     word == b"info".as_slice()
+}
+
+fn is_convert(word: &[u8]) -> bool
+    ensures { IsTrue result ↔ (word.now ≡ codes "convert") }
+{
+    word == b"convert".as_slice()
 }

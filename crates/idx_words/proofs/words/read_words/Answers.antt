@@ -1,5 +1,5 @@
 use Rattle.std.proofs.Common.{map, string_bytes, sym, ap, ◌∙◌}
-use Rattle.idx_words.proofs.WordsLemmas.{cut_passed_on, info_passed_on}
+use Rattle.idx_words.proofs.WordsLemmas.{convert_passed_on, cut_passed_on, info_passed_on}
 use Rattle.idx_words.proofs.words.read_words.Goals as goal
 
 pub returns-then-is_cut-clause-place : goal.returns-then-is_cut-clause-place
@@ -11,3 +11,8 @@ pub returns-then-is_info-clause-place : goal.returns-then-is_info-clause-place
 returns-then-is_info-clause-place c =
     info_passed_on c.info_command.result (map string_bytes c.args.words.now) (string_bytes c.in-Some.name.now) (map string_bytes c.in-Some.words.now)
     (ap (map string_bytes) c.in-Some.ensures.cases.0) (sym c.as_bytes-2.ensures.value ∙ c.is_info.ensures.0 c.if-is_info.true) c.info_command.ensures.place
+
+pub returns-then-is_convert-clause-place : goal.returns-then-is_convert-clause-place
+returns-then-is_convert-clause-place c =
+    convert_passed_on c.convert_command.result (map string_bytes c.args.words.now) (string_bytes c.in-Some.name.now) (map string_bytes c.in-Some.words.now)
+    (ap (map string_bytes) c.in-Some.ensures.cases.0) (sym c.as_bytes-3.ensures.value ∙ c.is_convert.ensures.0 c.if-is_convert.true) c.convert_command.ensures.place
