@@ -1,0 +1,68 @@
+ghost use Rattle.std.specs.Prelude.{◌≡◌, ◌⊎◌, ◌↔◌, ◌<◌, [], IsTrue, OnErr, OnOk, Some, vec_len};
+ghost use Rattle.std.specs.Option.{ForSome};
+ghost use Rattle.idx_outside.specs.Cause.{NeverFalls, Rose};
+ghost use Rattle.idx_outside.specs.Objects.{contents_at, faults_at, UsesOnly};
+ghost use Rattle.idx_header.specs.Names.{step_folder};
+ghost use Rattle.idx_gather.specs.Gather.{HasVolume};
+ghost use Rattle.idx_convert.specs.Convert.{AsksFor, Takes, put_where_none};
+ghost use Rattle.idx_convert.specs.Stages.{Ends};
+
+use crate::ConvertFault;
+use crate::faults::cause_of_gather;
+use crate::place::Place;
+use idx_gather::gather;
+use idx_header::Header;
+use idx_outside::{Bay, FreeGate, Outage, Source};
+use std::alloc::Global;
+
+/// Puts the header's text where none stands, and adds the step, all of which was checked.
+pub(crate) fn add_step<V: Source, B: Bay>(
+    alloc: Global,
+    text: &[u8],
+    step: u64,
+    header: &Header,
+    place: &Place,
+    raws: &mut Vec<V>,
+    bay: &mut B,
+) -> Result<(), ConvertFault>
+    requires some { 0 < vec_len raws.old }
+    requires asked { AsksFor text.now step header.now }
+    requires taken { Takes header.now step (B.header bay.old) (B.files bay.old) }
+    requires size { HasVolume header.now (contents_at V.contents raws.old.items 0) }
+    requires folder { step_folder header.now step ≡ Some place.now.folder }
+    requires none { ForSome (B.header bay.old) (λ text. IsTrue place.now.no_header ↔ (text ≡ [])) }
+    ensures ends { Ends text.now step (B.header bay.old) (B.header bay.new) (B.files bay.old) (B.files bay.new)
+        (contents_at V.contents raws.old.items 0)
+        (faults_at V.faults raws.old.items 0) (faults_at V.faults raws.new.items 0)
+        (B.faults bay.old) (B.faults bay.new) result }
+    ensures raws { UsesOnly V.contents V.faults 0 raws.old.items raws.new.items }
+{
+    let Ok(()) = put_header(text, place.no_header, bay) else {
+        return Err(ConvertFault::StoreFault);
+    };
+    let Ok(()) = bay.begin_step(place.folder.as_slice()) else {
+        return Err(ConvertFault::StoreFault);
+    };
+    match gather(alloc, header, step, raws, bay, &FreeGate) {
+        Ok(()) => Ok(()),
+        Err(fault) => Err(cause_of_gather(fault)),
+    }
+}
+
+/// Puts the header's text if none stands.
+fn put_header<B: Bay>(text: &[u8], no_header: bool, bay: &mut B) -> Result<(), Outage>
+    requires { ForSome (B.header bay.old) (λ text. IsTrue no_header ↔ (text ≡ [])) }
+    ensures put { OnOk result (B.header bay.new ≡ put_where_none text.now (B.header bay.old)) }
+    ensures refused { OnErr result ((B.header bay.new ≡ B.header bay.old)
+        ⊎ (B.header bay.new ≡ put_where_none text.now (B.header bay.old))) }
+    ensures files { B.files bay.new ≡ B.files bay.old }
+    ensures count { NeverFalls (B.faults bay.old) (B.faults bay.new) }
+    ensures quiet { OnOk result (B.faults bay.new ≡ B.faults bay.old) }
+    ensures cause { OnErr result (Rose (B.faults bay.old) (B.faults bay.new)) }
+{
+    if no_header {
+        bay.set_header(text)
+    } else {
+        Ok(())
+    }
+}

@@ -1,0 +1,41 @@
+ghost use Rattle.std.specs.Prelude.{◌≡◌, ◌↔◌, IfErr, IfOk, IsTrue, Option, List, ℕ};
+ghost use Rattle.idx_outside.specs.declared.mem_file.MemFile.{MemFile};
+ghost use Rattle.idx_gather.specs.Gather.{HasFolder};
+ghost use Rattle.idx_convert.specs.Convert.{AsksFor, IsCause};
+
+use crate::ConvertFault;
+use crate::faults::cause_of_header;
+use idx_header::Header;
+use std::alloc::Global;
+
+/// The samples of a header take at most so many bytes.
+const MAX_VOLUME_BYTES: u64 = 1 << 30;
+
+/// The header of the text that is asked for, if it has the step and its samples are few enough. Nothing else has a part
+/// in the cause of a refusal.
+pub(crate) fn asked_header(alloc: Global, text: &[u8], step: u64) -> Result<Header, ConvertFault>
+    ensures asked { IfOk result (λ header. AsksFor text.now step header) }
+    ensures cause { (standing : Option (List ℕ)) (files : Option (List MemFile)) (raw : Option (List ℕ))
+        (raw_before raw_after before after : ℕ) →
+        IfErr result (IsCause text.now step standing files raw raw_before raw_after before after) }
+{
+    let header = match Header::read(alloc, text) {
+        Ok(header) => header,
+        Err(fault) => return Err(cause_of_header(fault)),
+    };
+    if !has_folder(&header, step) {
+        return Err(ConvertFault::NoStep);
+    }
+    let bytes = header.volume_bytes();
+    if bytes > MAX_VOLUME_BYTES {
+        return Err(ConvertFault::TooLarge { bytes });
+    }
+    Ok(header)
+}
+
+/// Whether the header has a time, and the step.
+fn has_folder(header: &Header, step: u64) -> bool
+    ensures { IsTrue result ↔ HasFolder header.now step }
+{
+    header.steps().is_some() && header.has_time(step)
+}

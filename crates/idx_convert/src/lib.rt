@@ -1,0 +1,15 @@
+//! Writes a step of a dataset out of a raw volume, under a header that is asked for, or says why not.
+#![tactic(auto)]
+
+mod adding;
+mod asked;
+mod convert_fault;
+mod converting;
+mod faults;
+mod place;
+mod standing;
+#[cfg(test)]
+mod tests;
+
+pub use convert_fault::ConvertFault;
+pub use converting::convert;
