@@ -1,23 +1,19 @@
-//! Writes the samples of a region of a raw volume between two levels, or what the header of a dataset says.
+//! Writes the samples of a region of a raw volume between two levels, what the header of a dataset says, or a step of a
+//! dataset out of a raw volume.
 #![tactic(auto)]
 
 ghost use Rattle.std.specs.Prelude.{◌≡◌, IfOk, vec_len};
 
-mod causes;
-mod cut;
-mod examples;
-mod info;
-mod kind_text;
+mod paths;
+mod plain_words;
 mod report;
-mod run;
-mod summary;
 #[cfg(test)]
 mod tests;
 mod usage;
 
-use causes::{Cause, Done};
+use idx_commands::{Cause, Done, run};
 use idx_real::{FileSource, FolderBay, StdSink};
-use idx_words::given_path;
+use paths::{dataset_path, raw_path};
 use report::report;
 use std::alloc::AllocError;
 use std::io::ErrorKind;
@@ -45,7 +41,7 @@ fn given_words(rt: &HostRuntime) -> io::Result<Vec<String>> {
 fn give_text(rt: &HostRuntime, text: &str) -> ExitCode {
     let mut out = StdSink::new(rt.stdout());
     let done = write_text(&mut out, text);
-    report(&mut rt.stderr(), done, &[], out.last_fault())
+    report(rt.alloc(), &mut rt.stderr(), done, &[], out.last_fault())
 }
 
 /// Does what the words ask for, over files and standard output.
@@ -53,37 +49,37 @@ fn give_run(rt: &HostRuntime, words: &[String]) -> ExitCode {
     let Ok(mut raws) = raw_files(rt, words) else {
         return give_up(rt, Cause::NoMemory);
     };
-    let Ok(mut bay) = header_file(rt, words) else {
+    let Ok(mut bay) = dataset_files(rt, words) else {
         return give_up(rt, Cause::NoMemory);
     };
     let mut out = StdSink::new(rt.stdout());
-    let done = run::run(rt.alloc(), words, &mut raws, &mut bay, &mut out);
+    let done = run(rt.alloc(), words, &mut raws, &mut bay, &mut out);
     let fault = match done.cause {
         Cause::RawFault => raws[0].last_fault(),
         Cause::StoreFault => bay.last_fault(),
         Cause::SinkFault => out.last_fault(),
         _ => None,
     };
-    report(&mut rt.stderr(), done, words, fault)
+    report(rt.alloc(), &mut rt.stderr(), done, words, fault)
 }
 
 /// The raw volumes that the words name: one, or one without a path.
 fn raw_files(rt: &HostRuntime, words: &[String]) -> Result<Vec<FileSource<HostRuntime>>, AllocError>
     ensures { IfOk result (λ raws. vec_len raws ≡ 1) }
 {
-    let path = String::from_str(rt.alloc(), given_path(words))?;
+    let path = String::from_str(rt.alloc(), raw_path(words))?;
     let mut raws = Vec::with_capacity(rt.alloc(), 1)?;
     raws.push(FileSource::new(rt.clone()?, path))?;
     Ok(raws)
 }
 
 /// The dataset that the words name, or one without a path.
-fn header_file(rt: &HostRuntime, words: &[String]) -> Result<FolderBay<HostRuntime>, AllocError> {
-    let path = String::from_str(rt.alloc(), given_path(words))?;
+fn dataset_files(rt: &HostRuntime, words: &[String]) -> Result<FolderBay<HostRuntime>, AllocError> {
+    let path = String::from_str(rt.alloc(), dataset_path(words))?;
     Ok(FolderBay::new(rt.clone()?, path))
 }
 
 /// Ends before anything was done.
 fn give_up(rt: &HostRuntime, cause: Cause) -> ExitCode {
-    report(&mut rt.stderr(), Done::of(cause), &[], None)
+    report(rt.alloc(), &mut rt.stderr(), Done::of(cause), &[], None)
 }

@@ -1,13 +1,15 @@
 ghost use Rattle.std.specs.Prelude.{◌≡◌, ◌≢◌, OnOk};
 ghost use Rattle.std.specs.Process.{exit_status};
 ghost use Rattle.std.specs.Io.KnownBytes.{Appends, Keeps};
-ghost use Rattle.idxtool.specs.Cause.{message_of};
+ghost use Rattle.idx_commands.specs.Cause.{message_of};
 
-use crate::causes::{Cause, Done};
-use crate::kind_text::plain_words;
-use idx_header::HeaderKind;
+use crate::paths::{dataset_path, raw_path};
+use crate::plain_words::plain_words;
+use idx_commands::{Cause, Done};
+use idx_header::{Header, HeaderKind};
 use idx_real::Fault;
-use idx_words::{given_path, read_words};
+use idx_words::{Command, read_words};
+use std::alloc::Global;
 use std::io::Write;
 use std::process::ExitCode;
 use std::{fmt, io};
@@ -16,6 +18,7 @@ use std::{fmt, io};
 /// lines that help: of a fault its place and the system's reason, of wrong words what is expected, of a refused header
 /// its place and what is wrong. A message that cannot be printed changes nothing of how the run ended.
 pub fn report<W: Write>(
+    alloc: Global,
     err: &mut W,
     done: Done,
     words: &[String],
@@ -25,23 +28,20 @@ pub fn report<W: Write>(
     ensures silent { done.cause ≡ Cause.Done → Keeps (W.contents err.old) (W.contents err.new) }
 {
     if !done.cause.is_done() {
-        let _ = print_all(err, done.cause, words, fault);
+        let _ = print_all(alloc, err, done.cause, words, fault);
     }
     done.exit_code()
 }
 
 fn print_all<W: Write>(
+    alloc: Global,
     err: &mut W,
     cause: Cause,
     words: &[String],
     fault: Option<Fault<'_>>,
 ) -> io::Result<()> {
     print_cause(err, cause)?;
-    match cause {
-        Cause::Usage { .. } => print_usage(err, words)?,
-        Cause::Header { kind, .. } => print_header(err, words, kind)?,
-        _ => {}
-    }
+    print_help(alloc, err, cause, words)?;
     match fault {
         Some(fault) => writeln!(err, "  {fault}"),
         None => Ok(()),
@@ -55,8 +55,44 @@ pub fn print_cause<W: Write>(err: &mut W, cause: Cause) -> io::Result<()>
     writeln!(err, "idxtool: {cause}")
 }
 
-/// Prints which word is wrong or missing, and what is expected there. This and every other line behind the first begins
-/// with two spaces.
+/// Prints what helps against a cause. These lines, and every other behind the first, begin with two spaces.
+fn print_help<W: Write>(
+    alloc: Global,
+    err: &mut W,
+    cause: Cause,
+    words: &[String],
+) -> io::Result<()> {
+    match cause {
+        Cause::Usage { .. } => print_usage(err, words),
+        Cause::Header { line, kind } => print_header(alloc, err, words, line, kind),
+        Cause::RawWrongSize { .. } => {
+            writeln!(
+                err,
+                "  {}: not the bytes that these samples take",
+                raw_path(words)
+            )
+        }
+        Cause::AlreadyPublished { .. } => {
+            writeln!(
+                err,
+                "  {}: the step stands there already",
+                dataset_path(words)
+            )
+        }
+        Cause::OtherHeader => {
+            let path = dataset_path(words);
+            writeln!(
+                err,
+                "  {path}: the header there has other values than these words"
+            )
+        }
+        Cause::NoStep { .. } => writeln!(err, "  the step is none of those that TIME gives"),
+        Cause::TooLarge { .. } => writeln!(err, "  a raw volume has at most 1073741824 bytes"),
+        _ => Ok(()),
+    }
+}
+
+/// Prints which word is wrong or missing, and what is expected there.
 fn print_usage<W: Write>(err: &mut W, words: &[String]) -> io::Result<()> {
     if let Err(misread) = read_words(words) {
         match words.get(misread.at as usize) {
@@ -65,13 +101,63 @@ fn print_usage<W: Write>(err: &mut W, words: &[String]) -> io::Result<()> {
         }
         writeln!(err, "  expected {}", misread.expected)?;
     }
-    if words.first().is_some_and(|name| name.as_str() == "cut") {
+    if has_box(words) {
         writeln!(err, "  a box is one word: quote it, as \"0 63 0 63\"")?;
     }
     writeln!(err, "  idxtool --help says more")
 }
 
-/// Prints where the header stands, and what is wrong with it.
-fn print_header<W: Write>(err: &mut W, words: &[String], kind: HeaderKind) -> io::Result<()> {
-    writeln!(err, "  {}: {}", given_path(words), plain_words(kind))
+/// Whether the words begin with a command that takes a box.
+fn has_box(words: &[String]) -> bool {
+    match words.first() {
+        Some(name) => name.as_str() == "cut" || name.as_str() == "convert",
+        None => false,
+    }
+}
+
+/// Prints which header is refused, the one that stands or the one that the words ask for, and what is wrong with it.
+fn print_header<W: Write>(
+    alloc: Global,
+    err: &mut W,
+    words: &[String],
+    line: u64,
+    kind: HeaderKind,
+) -> io::Result<()> {
+    if asks_for_fault(alloc, words) {
+        let word = word_of_line(line, kind);
+        writeln!(
+            err,
+            "  the header of these words, {word}: {}",
+            plain_words(kind)
+        )
+    } else {
+        writeln!(err, "  {}: {}", dataset_path(words), plain_words(kind))
+    }
+}
+
+/// Whether the words ask for a header that is refused.
+fn asks_for_fault(alloc: Global, words: &[String]) -> bool {
+    match read_words(words) {
+        Ok(Command::Convert(asked)) => match asked.header_text(alloc) {
+            Ok(text) => Header::read(alloc, text.as_slice()).is_err(),
+            Err(_) => false,
+        },
+        _ => false,
+    }
+}
+
+/// The word of `convert` that stands under the key on this line of the header that is asked for. A key that stands a
+/// second time is spelled by one of the texts.
+fn word_of_line(line: u64, kind: HeaderKind) -> &'static str {
+    match (kind, line) {
+        (HeaderKind::DoubleKey, _) => "a text that spells a key",
+        (_, 3) => "BOX",
+        (_, 5) => "FIELDS",
+        (_, 7) => "MASK",
+        (_, 9) => "BITS",
+        (_, 11) => "PERFILE",
+        (_, 13) => "TEMPLATE",
+        (_, 15) => "TIME",
+        _ => "a text that spells a key",
+    }
 }

@@ -1,15 +1,15 @@
 ghost use Rattle.std.specs.Prelude.{◌≡◌, ◌<◌, ◌⊎◌, OnOk};
 ghost use Rattle.idx_outside.specs.Cause.{NeverFalls, Rose};
 ghost use Rattle.idx_outside.specs.Contents.{appended, AppendsPrefix};
-ghost use Rattle.idxtool.specs.Cause.{status_of};
+ghost use Rattle.idx_commands.specs.Cause.{status_of};
 
-use crate::causes::{Cause, Done};
+use idx_commands::{Cause, Done};
 use idx_outside::Sink;
 
 const VERSION: &str = "idxtool 0.1.0\n";
 
 const HELP: &str = "\
-idxtool: samples and headers of ViSUS IDX data, with proved answers
+idxtool: samples, headers and files of ViSUS IDX data, with proved answers
 
   idxtool cut RAW SIZE BOX MASK REGION LO HI
       writes to standard output the samples of a region of a raw volume whose
@@ -31,12 +31,33 @@ idxtool: samples and headers of ViSUS IDX data, with proved answers
 
       DATASET  the header file, as run.idx
 
+  idxtool convert DATASET RAW BOX FIELDS MASK BITS PERFILE TEMPLATE TIME STEP
+      writes a step of a dataset out of a raw volume: the files of the step, all
+      at once, and the header where none stands. A header that stands has to
+      agree, and the step must not stand yet. Nothing else is changed
+
+      DATASET   the header file, as run.idx; the files are written beside it
+      RAW       the file: for each field the samples of BOX in row-major order,
+                axis 0 fastest; at most 2^30 bytes in all
+      BOX       inclusive bounds `lo hi` of each axis, in one quoted word
+      FIELDS    names and types, as \"density float32 + velocity float64[3]\";
+                int8 to int64, uint8 to uint64, float32, float64
+      MASK      as for cut, or auto: guessed of BOX
+      BITS      a block has 2^BITS samples, 1 to 20
+      PERFILE   blocks in a file, 1 to 65536
+      TEMPLATE  the files' names, as ./%04x.bin: %0Nx is N hexadecimal digits of
+                the number of the file's first block
+      TIME      the first and the last step and the name of a step's folder, as
+                \"0 99 time%04d/\": %0Nd is the step in N decimal digits
+      STEP      the step that is written
+
   idxtool --help
   idxtool --version
 
-Exit statuses: 0 all was written, 1 wrong words, 2 the header is refused, 3 RAW
-has another size, 4 RAW could not be read, 5 DATASET could not be read,
-9 standard output did not take all, 11 not enough memory.
+Exit statuses: 0 all was written, 1 wrong words, 2 a header is refused, 3 RAW
+has another size, 4 RAW could not be read, 5 DATASET could not be read or
+written, 6 the step stands already or another header stands, 8 no such step or
+too many bytes, 9 standard output did not take all, 11 not enough memory.
 ";
 
 /// The text that a list of words asks for, if it is `--help` or `--version` alone.

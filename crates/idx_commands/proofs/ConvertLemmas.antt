@@ -1,0 +1,330 @@
+-- What a run of `convert` comes to where what it meets is known.
+use Rattle.std.proofs.Common.{◌≡◌, ◌≢◌, ◌⊎◌, ℕ, ◌^◌, ◌<◌, ◌≤◌, List, [], length, Option, Some, None, Ok, Err, IsErr, IfSome, IsSomeAnd, inl, inr, refl, sym, ◌∙◌, ap, subst, arith}
+use Rattle.std.proofs.lemmas.Bool.{false≢true}
+use Rattle.idx_outside.specs.Cause.{Rose}
+use Rattle.idx_outside.specs.Files.{HasStep as HasCommitted}
+use Rattle.idx_outside.specs.declared.mem_file.MemFile.{MemFile}
+use Rattle.idx_header.specs.declared.header_fault.HeaderFault.{HeaderFault}
+use Rattle.idx_header.specs.declared.header_kind.HeaderKind.{HeaderKind}
+use Rattle.idx_header.specs.Header.{HeaderValue, Agree, volume_bytes}
+use Rattle.idx_header.specs.HeaderOf.{header_of}
+use Rattle.idx_header.specs.Names.{step_folder}
+use Rattle.idx_gather.specs.Gather.{HasFolder}
+use Rattle.idx_convert.specs.declared.convert_fault.ConvertFault.{ConvertFault}
+use Rattle.idx_convert.specs.declared.convert_fault.ConvertFault.TheVariants as faults
+use Rattle.idx_convert.specs.Convert.{AsksFor, Asks, Converted, Differs, IsCause, IsNew, IsEarly, IsRefused, Reads, Stands, Suits, Takes}
+use Rattle.idx_words.specs.ConvertValue.{ConvertValue}
+use Rattle.idx_words.specs.Built.{IsBuilt}
+use Rattle.idx_words.proofs.BuiltLemmas.{IsBuilt-once}
+use Rattle.idx_commands.specs.declared.causes.Cause.{Cause}
+use Rattle.idx_commands.specs.declared.causes.Cause.TheVariants as causes
+use Rattle.idx_commands.specs.Cause.{status_of}
+use Rattle.idx_commands.specs.Known.{Known}
+use Rattle.idx_commands.specs.ConvertRun.{cause_of_fault, ConvertEnds, Fails, IsConverted, IsEarlyCause}
+use Rattle.idx_commands.specs.Due.{HasOtherLength, HasRightLength, IsBadText, IsFree, IsTooLarge, LacksStep, MeetsBadHeader, MeetsOtherHeader, MeetsStep}
+
+-- what is known has one value, of which two things hold that exclude one another
+clash : {T : Type 0} (o : Option T) (P Q : T → Type 0) → ((x : T) → P x → Q x → ⊥) → IfSome o P → IsSomeAnd o Q → ⊥
+clash None P Q not p q = q
+clash (Some x) P Q not p q = not x p q
+
+-- a text has one header, and none where it is refused
+one_header : (text : List ℕ) (g h : HeaderValue) → header_of text ≡ Ok g → header_of text ≡ Ok h → g ≡ h
+one_header text g h first second = let same = sym first ∙ second in cc
+
+not_refused : (text : List ℕ) (h : HeaderValue) (fault : HeaderFault) → header_of text ≡ Ok h → header_of text ≡ Err fault → ⊥
+not_refused text h fault reads refused = let same = sym reads ∙ refused in cc
+
+not_err : (text : List ℕ) (h : HeaderValue) → header_of text ≡ Ok h → IsErr (header_of text) → ⊥
+not_err text h reads refused = false≢true (subst IsErr reads refused)
+
+-- a header that stands
+suits_not_bad : (h : HeaderValue) (known : List ℕ) → Suits h known → (known ≢ []) × IsErr (header_of known) → ⊥
+suits_not_bad h known (inl none) (stands, refused) = stands none
+suits_not_bad h known (inr (other, (reads, agree))) (stands, refused) = not_err known other reads refused
+
+differs_not_bad : (h : HeaderValue) (known : List ℕ) → Differs h known → (known ≢ []) × IsErr (header_of known) → ⊥
+differs_not_bad h known (stands, (other, (reads, differ))) (some, refused) = not_err known other reads refused
+
+differs_not_refused : (h : HeaderValue) (line : ℕ) (kind : HeaderKind) (known : List ℕ) → IsRefused known line kind → Differs h known → ⊥
+differs_not_refused h line kind known (some, refused) (stands, (other, (reads, differ))) = not_refused known other _ reads refused
+
+suits_not_refused : (h : HeaderValue) (line : ℕ) (kind : HeaderKind) (known : List ℕ) → IsRefused known line kind → Suits h known → ⊥
+suits_not_refused h line kind known (some, refused) (inl none) = some none
+suits_not_refused h line kind known (some, refused) (inr (other, (reads, agree))) = not_refused known other _ reads refused
+
+suits_not_differs : (h : HeaderValue) (known : List ℕ) → Suits h known → Differs h known → ⊥
+suits_not_differs h known (inl none) (some, differs) = some none
+suits_not_differs h known (inr (one, (reads, agree))) (some, (other, (too, differ))) =
+    differ (subst (λ g. Agree g h) (one_header known one other reads too) agree)
+
+-- a step that stands is not new
+new_not_stands : (h : HeaderValue) (step : ℕ) (files : List MemFile) → IsNew h step files → Stands h step files → ⊥
+new_not_stands h step files new stands =
+    clash (step_folder h step) (λ folder. ¬ HasCommitted folder files) (λ folder. HasCommitted folder files)
+    (λ folder fresh there. fresh there) new stands
+
+module _ (text : List ℕ) (step : ℕ) (k : Known) where
+  abbrev C : ConvertFault → Type 0
+  C fault = IsCause text step k.header k.files k.raw k.raw_before k.raw_after k.bay_before k.bay_after fault
+
+  abbrev st : ConvertFault → ℕ
+  st fault = status_of (cause_of_fault step fault)
+
+  -- the header that is asked for is one
+  moved : (P : HeaderValue → Type 0) (g h : HeaderValue) → header_of text ≡ Ok g → header_of text ≡ Ok h → P g → P h
+  moved P g h first second = subst P (one_header text g h first second)
+
+  -- what a header that is asked for excludes
+  not_lacking : (h : HeaderValue) → AsksFor text step h → LacksStep text step → ⊥
+  not_lacking h asked (g, (reads, lacks)) = lacks (moved (λ x. HasFolder x step) h g asked.reads reads asked.folder)
+
+  not_large : (h : HeaderValue) → AsksFor text step h → IsTooLarge text step → ⊥
+  not_large h asked (g, (reads, (folder, large))) =
+      let small = moved (λ x. volume_bytes x ≤ 2 ^ 30) h g asked.reads reads asked.small in omega (arith, small, large)
+
+  -- a text that is refused
+  bad_text : (fault : ConvertFault) → C fault → IsBadText text step → (st fault ≡ 2) ⊎ (st fault ≡ 11)
+  bad_text (faults.Header line kind) c h = inl refl
+  bad_text faults.NoStep (g, (reads, c)) h = absurd (not_err text g reads h)
+  bad_text (faults.TooLarge bytes) (g, (reads, c)) h = absurd (not_err text g reads h)
+  bad_text faults.OtherHeader (g, (asked, c)) h = absurd (not_err text g asked.reads h)
+  bad_text faults.AlreadyPublished (g, (asked, c)) h = absurd (not_err text g asked.reads h)
+  bad_text (faults.RawWrongSize want found) (g, (asked, c)) h = absurd (not_err text g asked.reads h)
+  bad_text faults.RawFault (g, (asked, c)) h = absurd (not_err text g asked.reads h)
+  bad_text faults.StoreFault (g, (asked, c)) h = absurd (not_err text g asked.reads h)
+  bad_text faults.NoMemory c h = inr refl
+
+  -- a header without the step
+  no_step : (fault : ConvertFault) → C fault → LacksStep text step → (st fault ≡ 8) ⊎ (st fault ≡ 11)
+  no_step (faults.Header line kind) (real, inl refused) (h, (reads, lacks)) = absurd (not_refused text h _ reads refused)
+  no_step (faults.Header line kind) (real, inr (g, (asked, c))) h = absurd (not_lacking g asked h)
+  no_step faults.NoStep c h = inl refl
+  no_step (faults.TooLarge bytes) c h = inl refl
+  no_step faults.OtherHeader (g, (asked, c)) h = absurd (not_lacking g asked h)
+  no_step faults.AlreadyPublished (g, (asked, c)) h = absurd (not_lacking g asked h)
+  no_step (faults.RawWrongSize want found) (g, (asked, c)) h = absurd (not_lacking g asked h)
+  no_step faults.RawFault (g, (asked, c)) h = absurd (not_lacking g asked h)
+  no_step faults.StoreFault (g, (asked, c)) h = absurd (not_lacking g asked h)
+  no_step faults.NoMemory c h = inr refl
+
+  -- too many bytes
+  too_large : (fault : ConvertFault) → C fault → IsTooLarge text step → (st fault ≡ 8) ⊎ (st fault ≡ 11)
+  too_large (faults.Header line kind) (real, inl refused) (h, (reads, large)) = absurd (not_refused text h _ reads refused)
+  too_large (faults.Header line kind) (real, inr (g, (asked, c))) h = absurd (not_large g asked h)
+  too_large faults.NoStep c h = inl refl
+  too_large (faults.TooLarge bytes) c h = inl refl
+  too_large faults.OtherHeader (g, (asked, c)) h = absurd (not_large g asked h)
+  too_large faults.AlreadyPublished (g, (asked, c)) h = absurd (not_large g asked h)
+  too_large (faults.RawWrongSize want found) (g, (asked, c)) h = absurd (not_large g asked h)
+  too_large faults.RawFault (g, (asked, c)) h = absurd (not_large g asked h)
+  too_large faults.StoreFault (g, (asked, c)) h = absurd (not_large g asked h)
+  too_large faults.NoMemory c h = inr refl
+
+  -- what is asked for is right: what each fault then says of its header
+  module _ (h : HeaderValue) (asked : AsksFor text step h) where
+    abbrev Late : ConvertFault → Type 0
+    Late (faults.Header line kind) = IfSome k.header (λ known. IsRefused known line kind)
+    Late faults.NoStep = ⊥
+    Late (faults.TooLarge bytes) = ⊥
+    Late faults.OtherHeader = IfSome k.header (Differs h)
+    Late faults.AlreadyPublished = IfSome k.header (Suits h) × IfSome k.files (Stands h step)
+    Late (faults.RawWrongSize want found) =
+        Takes h step k.header k.files × (want ≡ volume_bytes h) × (found ≢ want) × IfSome k.raw (λ bytes. found ≡ length bytes)
+    Late faults.RawFault = Takes h step k.header k.files × Rose k.raw_before k.raw_after
+    Late faults.StoreFault = Rose k.bay_before k.bay_after
+    Late faults.NoMemory = Unit {0}
+
+    of_header : (P : HeaderValue → Type 0) → Asks text step P → P h
+    of_header P (g, (other, c)) = moved P g h other.reads asked.reads c
+
+    late : (fault : ConvertFault) → C fault → Late fault
+    late (faults.Header line kind) (real, inl refused) = absurd (not_refused text h _ asked.reads refused)
+    late (faults.Header line kind) (real, inr c) = of_header (λ g. IfSome k.header (λ known. IsRefused known line kind)) c
+    late faults.NoStep c = absurd (not_lacking h asked c)
+    late (faults.TooLarge bytes) (g, (reads, (folder, same, large))) =
+        absurd (not_large h asked (g, (reads, (folder, subst (λ n. 2 ^ 30 < n) same large))))
+    late faults.OtherHeader c = of_header (λ g. IfSome k.header (Differs g)) c
+    late faults.AlreadyPublished c = of_header (λ g. IfSome k.header (Suits g) × IfSome k.files (Stands g step)) c
+    late (faults.RawWrongSize want found) c =
+        of_header (λ g. Takes g step k.header k.files × (want ≡ volume_bytes g) × (found ≢ want)
+        × IfSome k.raw (λ bytes. found ≡ length bytes)) c
+    late faults.RawFault c = of_header (λ g. Takes g step k.header k.files × Rose k.raw_before k.raw_after) c
+    late faults.StoreFault c = of_header (λ g. Rose k.bay_before k.bay_after) c
+    late faults.NoMemory c = tt
+
+    -- a header stands that is refused
+    bad_standing : IsSomeAnd k.header (λ known. (known ≢ []) × IsErr (header_of known)) → (fault : ConvertFault) → Late fault →
+        (st fault ≡ 2) ⊎ ((st fault ≡ 5) ⊎ (st fault ≡ 11))
+    bad_standing bad (faults.Header line kind) c = inl refl
+    bad_standing bad faults.OtherHeader c = absurd (clash k.header (Differs h) _ (differs_not_bad h) c bad)
+    bad_standing bad faults.AlreadyPublished c = absurd (clash k.header (Suits h) _ (suits_not_bad h) c.0 bad)
+    bad_standing bad (faults.RawWrongSize want found) c = absurd (clash k.header (Suits h) _ (suits_not_bad h) c.0.suits bad)
+    bad_standing bad faults.RawFault c = absurd (clash k.header (Suits h) _ (suits_not_bad h) c.0.suits bad)
+    bad_standing bad faults.StoreFault c = inr (inl refl)
+    bad_standing bad faults.NoMemory c = inr (inr refl)
+    bad_standing bad faults.NoStep c = absurd c
+    bad_standing bad (faults.TooLarge bytes) c = absurd c
+
+    -- a header stands that does not agree
+    other_header : IsSomeAnd k.header (Differs h) → (fault : ConvertFault) → Late fault →
+        (st fault ≡ 6) ⊎ ((st fault ≡ 5) ⊎ (st fault ≡ 11))
+    other_header other (faults.Header line kind) c = absurd (clash k.header (λ known. IsRefused known line kind) _ (differs_not_refused h line kind) c other)
+    other_header other faults.OtherHeader c = inl refl
+    other_header other faults.AlreadyPublished c = inl refl
+    other_header other (faults.RawWrongSize want found) c = absurd (clash k.header (Suits h) _ (suits_not_differs h) c.0.suits other)
+    other_header other faults.RawFault c = absurd (clash k.header (Suits h) _ (suits_not_differs h) c.0.suits other)
+    other_header other faults.StoreFault c = inr (inl refl)
+    other_header other faults.NoMemory c = inr (inr refl)
+    other_header other faults.NoStep c = absurd c
+    other_header other (faults.TooLarge bytes) c = absurd c
+
+    -- the step stands
+    published : IsSomeAnd k.header (Suits h) → IsSomeAnd k.files (Stands h step) → (fault : ConvertFault) → Late fault →
+        (st fault ≡ 6) ⊎ ((st fault ≡ 5) ⊎ (st fault ≡ 11))
+    published suits stands (faults.Header line kind) c = absurd (clash k.header (λ known. IsRefused known line kind) _ (suits_not_refused h line kind) c suits)
+    published suits stands faults.OtherHeader c = inl refl
+    published suits stands faults.AlreadyPublished c = inl refl
+    published suits stands (faults.RawWrongSize want found) c = absurd (clash k.files (IsNew h step) _ (new_not_stands h step) c.0.new stands)
+    published suits stands faults.RawFault c = absurd (clash k.files (IsNew h step) _ (new_not_stands h step) c.0.new stands)
+    published suits stands faults.StoreFault c = inr (inl refl)
+    published suits stands faults.NoMemory c = inr (inr refl)
+    published suits stands faults.NoStep c = absurd c
+    published suits stands (faults.TooLarge bytes) c = absurd c
+
+    -- all is right but the length
+    module _ (suits : IsSomeAnd k.header (Suits h)) (new : IsSomeAnd k.files (IsNew h step)) where
+      differs_too : (known : List ℕ) → Differs h known → Suits h known → ⊥
+      differs_too known differs same = suits_not_differs h known same differs
+
+      stands_too : (files : List MemFile) → Stands h step files → IsNew h step files → ⊥
+      stands_too files stands is_new = new_not_stands h step files is_new stands
+
+      other_length : (fault : ConvertFault) → Late fault →
+          (st fault ≡ 3) ⊎ ((st fault ≡ 4) ⊎ ((st fault ≡ 5) ⊎ (st fault ≡ 11)))
+      other_length (faults.Header line kind) c = absurd (clash k.header (λ known. IsRefused known line kind) _ (suits_not_refused h line kind) c suits)
+      other_length faults.OtherHeader c = absurd (clash k.header (Differs h) _ differs_too c suits)
+      other_length faults.AlreadyPublished c = absurd (clash k.files (Stands h step) _ stands_too c.1 new)
+      other_length (faults.RawWrongSize want found) c = inl refl
+      other_length faults.RawFault c = inr (inl refl)
+      other_length faults.StoreFault c = inr (inr (inl refl))
+      other_length faults.NoMemory c = inr (inr (inr refl))
+      other_length faults.NoStep c = absurd c
+      other_length (faults.TooLarge bytes) c = absurd c
+
+      -- so is the length, and no fault was counted
+      complete : IsSomeAnd k.raw (HasRightLength h) → ¬ Rose k.raw_before k.raw_after → ¬ Rose k.bay_before k.bay_after → (fault : ConvertFault) → Late fault →
+          (st fault ≡ 0) ⊎ (st fault ≡ 11)
+      complete right raw_quiet bay_quiet (faults.Header line kind) c = absurd (clash k.header (λ known. IsRefused known line kind) _ (suits_not_refused h line kind) c suits)
+      complete right raw_quiet bay_quiet faults.OtherHeader c = absurd (clash k.header (Differs h) _ differs_too c suits)
+      complete right raw_quiet bay_quiet faults.AlreadyPublished c = absurd (clash k.files (Stands h step) _ stands_too c.1 new)
+      complete right raw_quiet bay_quiet (faults.RawWrongSize want found) (takes, asks, other, found_is) =
+          absurd (clash k.raw (λ bytes. found ≡ length bytes) (HasRightLength h) (λ bytes is fits. other (is ∙ fits ∙ sym asks)) found_is right)
+      complete right raw_quiet bay_quiet faults.RawFault c = absurd (raw_quiet c.1)
+      complete right raw_quiet bay_quiet faults.StoreFault c = absurd (bay_quiet c)
+      complete right raw_quiet bay_quiet faults.NoMemory c = inr refl
+      complete right raw_quiet bay_quiet faults.NoStep c = absurd c
+      complete right raw_quiet bay_quiet (faults.TooLarge bytes) c = absurd c
+
+-- The end of a run of `convert` under the one header text that its words ask for: this is so of its status where it is so of
+-- status 0 if the step was written, of want of memory, and of each fault.
+judged : (P : ℕ → Type 0) (c : ConvertValue) (k : Known) (text : List ℕ) → IsBuilt c text → (IsConverted text c.step k → P 0) → P 11 →
+    ((fault : ConvertFault) → C text c.step k fault → P (status_of (cause_of_fault c.step fault))) →
+    (cause : Cause) → ConvertEnds c k cause → P (status_of cause)
+judged P c k text built done starved failed = end
+  where
+    same : (other : List ℕ) → IsBuilt c other → other ≡ text
+    same other is = IsBuilt-once c other text is built
+
+    fails : (cause : Cause) → Fails text c.step k cause → P (status_of cause)
+    fails cause f = subst (λ x. P (status_of x)) (sym f.is) (failed f.fault f.caused)
+
+    at : (cause : Cause) (other : List ℕ) → IsBuilt c other → Fails other c.step k cause → P (status_of cause)
+    at cause other is f = fails cause (subst (λ x. Fails x c.step k cause) (same other is) f)
+
+    end : (cause : Cause) → ConvertEnds c k cause → P (status_of cause)
+    end causes.Done (other, (is, wrote)) = done (subst (λ x. IsConverted x c.step k) (same other is) wrote)
+    end (causes.Usage place) ends = absurd ends
+    end causes.SinkFault ends = absurd ends
+    end causes.NoMemory ends = starved
+    end (causes.Header line kind) (other, (is, f)) = at (causes.Header line kind) other is f
+    end (causes.RawWrongSize want found) (other, (is, f)) = at (causes.RawWrongSize want found) other is f
+    end causes.RawFault (other, (is, f)) = at causes.RawFault other is f
+    end causes.StoreFault (other, (is, f)) = at causes.StoreFault other is f
+    end (causes.AlreadyPublished time) (other, (is, f)) = at (causes.AlreadyPublished time) other is f
+    end causes.OtherHeader (other, (is, f)) = at causes.OtherHeader other is f
+    end (causes.TooLarge bytes) (other, (is, f)) = at (causes.TooLarge bytes) other is f
+    end (causes.NoStep time) (other, (is, f)) = at (causes.NoStep time) other is f
+
+module _ (c : ConvertValue) (k : Known) (cause : Cause) (ends : ConvertEnds c k cause) where
+  -- what was converted has the header that was asked for
+  wrote_for : (text : List ℕ) (step : ℕ) (h : HeaderValue) → AsksFor text step h → (wrote : IsConverted text step k) → (P : HeaderValue → Type 0) → P wrote.header → P h
+  wrote_for text step h asked wrote P = subst P (one_header text wrote.header h wrote.asked.reads asked.reads)
+
+  pub bad_text_ends : (text : List ℕ) → IsBuilt c text → IsBadText text c.step → (status_of cause ≡ 2) ⊎ (status_of cause ≡ 11)
+  bad_text_ends text built bad =
+      judged (λ s. (s ≡ 2) ⊎ (s ≡ 11)) c k text built
+      (λ wrote. absurd (not_err text wrote.header wrote.asked.reads bad)) (inr refl)
+      (λ fault caused. bad_text text c.step k fault caused bad) cause ends
+
+  pub no_step_ends : (text : List ℕ) → IsBuilt c text → LacksStep text c.step → (status_of cause ≡ 8) ⊎ (status_of cause ≡ 11)
+  no_step_ends text built lacks =
+      judged (λ s. (s ≡ 8) ⊎ (s ≡ 11)) c k text built
+      (λ wrote. absurd (not_lacking text c.step k wrote.header wrote.asked lacks)) (inr refl)
+      (λ fault caused. no_step text c.step k fault caused lacks) cause ends
+
+  pub too_large_ends : (text : List ℕ) → IsBuilt c text → IsTooLarge text c.step → (status_of cause ≡ 8) ⊎ (status_of cause ≡ 11)
+  too_large_ends text built large =
+      judged (λ s. (s ≡ 8) ⊎ (s ≡ 11)) c k text built
+      (λ wrote. absurd (not_large text c.step k wrote.header wrote.asked large)) (inr refl)
+      (λ fault caused. too_large text c.step k fault caused large) cause ends
+
+  pub bad_standing_ends : (text : List ℕ) → IsBuilt c text → MeetsBadHeader k.header text c.step →
+      (status_of cause ≡ 2) ⊎ ((status_of cause ≡ 5) ⊎ (status_of cause ≡ 11))
+  bad_standing_ends text built (h, (asked, bad)) =
+      judged (λ s. (s ≡ 2) ⊎ ((s ≡ 5) ⊎ (s ≡ 11))) c k text built
+      (λ wrote. absurd (clash k.header (Suits wrote.header) _ (suits_not_bad wrote.header) wrote.taken.suits bad)) (inr (inr refl))
+      (λ fault caused. bad_standing text c.step k h asked bad fault (late text c.step k h asked fault caused)) cause ends
+
+  pub other_header_ends : (text : List ℕ) → IsBuilt c text → MeetsOtherHeader k.header text c.step →
+      (status_of cause ≡ 6) ⊎ ((status_of cause ≡ 5) ⊎ (status_of cause ≡ 11))
+  other_header_ends text built (h, (asked, other)) =
+      judged (λ s. (s ≡ 6) ⊎ ((s ≡ 5) ⊎ (s ≡ 11))) c k text built
+      (λ wrote. let taken = wrote_for text c.step h asked wrote (λ g. Takes g c.step k.header k.files) wrote.taken in
+      absurd (clash k.header (Suits h) (Differs h) (suits_not_differs h) taken.suits other)) (inr (inr refl))
+      (λ fault caused. other_header text c.step k h asked other fault (late text c.step k h asked fault caused)) cause ends
+
+  pub published_ends : (text : List ℕ) → IsBuilt c text → MeetsStep k.header k.files text c.step →
+      (status_of cause ≡ 6) ⊎ ((status_of cause ≡ 5) ⊎ (status_of cause ≡ 11))
+  published_ends text built (h, (asked, (suits, stands))) =
+      judged (λ s. (s ≡ 6) ⊎ ((s ≡ 5) ⊎ (s ≡ 11))) c k text built
+      (λ wrote. let taken = wrote_for text c.step h asked wrote (λ g. Takes g c.step k.header k.files) wrote.taken in
+      absurd (clash k.files (IsNew h c.step) (Stands h c.step) (new_not_stands h c.step) taken.new stands)) (inr (inr refl))
+      (λ fault caused. published text c.step k h asked suits stands fault (late text c.step k h asked fault caused)) cause ends
+
+  pub other_length_ends : (text : List ℕ) → IsBuilt c text → IsFree k.header k.files k.raw HasOtherLength text c.step →
+      (status_of cause ≡ 3) ⊎ ((status_of cause ≡ 4) ⊎ ((status_of cause ≡ 5) ⊎ (status_of cause ≡ 11)))
+  other_length_ends text built (h, (asked, (suits, new, other))) =
+      judged (λ s. (s ≡ 3) ⊎ ((s ≡ 4) ⊎ ((s ≡ 5) ⊎ (s ≡ 11)))) c k text built
+      (λ wrote. let size = wrote_for text c.step h asked wrote (λ g. IfSome k.raw (HasRightLength g)) wrote.size in
+      absurd (clash k.raw (HasRightLength h) (HasOtherLength h) (λ bytes right wrong. wrong right) size other)) (inr (inr (inr refl)))
+      (λ fault caused. other_length text c.step k h asked suits new fault (late text c.step k h asked fault caused)) cause ends
+
+  pub complete_ends : (text : List ℕ) → IsBuilt c text → IsFree k.header k.files k.raw HasRightLength text c.step →
+      ¬ Rose k.raw_before k.raw_after → ¬ Rose k.bay_before k.bay_after → (status_of cause ≡ 0) ⊎ (status_of cause ≡ 11)
+  complete_ends text built (h, (asked, (suits, new, right))) raw_quiet bay_quiet =
+      judged (λ s. (s ≡ 0) ⊎ (s ≡ 11)) c k text built
+      (λ wrote. inl refl) (inr refl)
+      (λ fault caused. complete text c.step k h asked suits new right raw_quiet bay_quiet fault (late text c.step k h asked fault caused)) cause ends
+
+-- the early causes are those of the early faults
+pub early_fault : (step : ℕ) (fault : ConvertFault) → IsEarlyCause (cause_of_fault step fault) → IsEarly fault
+early_fault step (faults.Header line kind) early = early
+early_fault step faults.NoStep early = early
+early_fault step (faults.TooLarge bytes) early = early
+early_fault step faults.OtherHeader early = early
+early_fault step faults.AlreadyPublished early = early
+early_fault step (faults.RawWrongSize want found) early = early
+early_fault step faults.RawFault early = early
+early_fault step faults.StoreFault early = early
+early_fault step faults.NoMemory early = early

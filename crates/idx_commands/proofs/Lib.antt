@@ -1,0 +1,3 @@
+pub mod SummaryLemmas
+pub mod ConvertLemmas
+pub mod RunLemmas

@@ -1,0 +1,11 @@
+pub mod CutOutput
+pub mod KindText
+pub mod Cause
+pub mod Known
+pub mod Summary
+pub mod InfoRun
+pub mod CutRun
+pub mod ConvertRun
+pub mod Due
+pub mod RunEnds
+pub mod Run

@@ -1,0 +1,111 @@
+ghost use Rattle.std.specs.Prelude.{◌≡◌, ◌↔◌, IsTrue};
+ghost use Rattle.std.specs.Process.{exit_status};
+ghost use Rattle.idx_commands.specs.Cause.{status_of};
+
+use crate::kind_text::kind_text;
+use idx_header::HeaderKind;
+use std::fmt;
+use std::process::ExitCode;
+
+/// Why a run ended.
+#[derive(Clone, Copy, Debug, PartialEq, Eq)]
+pub enum Cause {
+    /// All was written.
+    Done,
+    /// The words are not in the grammar. The word at place `at`, counted from 0, is the first after which no list of the
+    /// grammar goes on, or the first that is missing.
+    Usage { at: u64 },
+    /// The header that stands or that is asked for is refused: on this line, counted from 1, stands this fault. The line
+    /// is 0 where the text is too long.
+    Header { line: u64, kind: HeaderKind },
+    /// The raw volume has `found` bytes and not the `want` that are asked for.
+    RawWrongSize { want: u64, found: u64 },
+    /// The raw volume could not be read.
+    RawFault,
+    /// The dataset could not be read or written.
+    StoreFault,
+    /// The step of this number stands already.
+    AlreadyPublished { time: u64 },
+    /// A header stands that does not agree with the one that is asked for.
+    OtherHeader,
+    /// The samples that are asked for take so many bytes, which is too many.
+    TooLarge { bytes: u64 },
+    /// The header that is asked for lacks the step of this number.
+    NoStep { time: u64 },
+    /// The output could not be written.
+    SinkFault,
+    /// There was not enough memory.
+    NoMemory,
+}
+
+impl Cause {
+    /// Whether all was written.
+    pub fn is_done(self) -> bool
+        ensures { IsTrue result ↔ (self ≡ Cause.Done) }
+    {
+        matches!(self, Cause::Done)
+    }
+}
+
+/// How a run ended: the exit status, and why.
+#[derive(Clone, Copy, Debug, PartialEq, Eq)]
+pub struct Done {
+    /// The exit status.
+    pub status: u8,
+    /// Why.
+    pub cause: Cause,
+}
+
+impl Done {
+    /// The end with this cause.
+    pub fn of(cause: Cause) -> Done
+        ensures cause { result.cause ≡ cause }
+        ensures status { result.status ≡ status_of cause }
+    {
+        let status = match cause {
+            Cause::Done => 0,
+            Cause::Usage { .. } => 1,
+            Cause::Header { .. } => 2,
+            Cause::RawWrongSize { .. } => 3,
+            Cause::RawFault => 4,
+            Cause::StoreFault => 5,
+            Cause::AlreadyPublished { .. } | Cause::OtherHeader => 6,
+            Cause::TooLarge { .. } | Cause::NoStep { .. } => 8,
+            Cause::SinkFault => 9,
+            Cause::NoMemory => 11,
+        };
+        Done { status, cause }
+    }
+
+    /// What the program ends with.
+    pub fn exit_code(&self) -> ExitCode
+        ensures { exit_status result ≡ self.now.status }
+    {
+        ExitCode::from(self.status)
+    }
+}
+
+/// The line that the program prints: nothing where all was written.
+impl fmt::Display for Cause {
+    ghost use Rattle.std.specs.Prelude.{Some};
+    ghost use Rattle.idx_commands.specs.Cause.{line_of};
+
+    ghost output = { λ cause. Some (line_of cause) };
+
+    fn fmt<W: fmt::Write>(&self, f: &mut fmt::Formatter<W>) -> fmt::Result {
+        match self {
+            Cause::Done => Ok(()),
+            Cause::Usage { at } => write!(f, "usage at {at}"),
+            Cause::Header { line, kind } => write!(f, "header line {line} {}", kind_text(*kind)),
+            Cause::RawWrongSize { want, found } => write!(f, "raw size want {want} found {found}"),
+            Cause::RawFault => write!(f, "raw fault"),
+            Cause::StoreFault => write!(f, "store fault"),
+            Cause::AlreadyPublished { time } => write!(f, "published {time}"),
+            Cause::OtherHeader => write!(f, "other header"),
+            Cause::TooLarge { bytes } => write!(f, "too large {bytes}"),
+            Cause::NoStep { time } => write!(f, "no step {time}"),
+            Cause::SinkFault => write!(f, "sink fault"),
+            Cause::NoMemory => write!(f, "no memory"),
+        }
+    }
+}

@@ -1,0 +1,87 @@
+ghost use Rattle.std.specs.Prelude.{◌≡◌, ◌<◌, ◌≤◌, Err, IfOk, IfSome, OnOk};
+ghost use Rattle.idx_outside.specs.Cause.{NeverFalls, Rose};
+ghost use Rattle.idx_raw.specs.Reads.{AreSamples, LiesIn};
+ghost use Rattle.idx_commands.specs.CutRun.{EndsWith, HasSize};
+ghost use Rattle.idx_words.specs.CutGrammar.{IsSound};
+ghost use Rattle.idx_commands.specs.CutOutput.{cut_output};
+
+use crate::causes::Cause;
+use idx_outside::{Sink, Source};
+use idx_raw::{ReadFault, read_samples};
+use idx_stride::Strides;
+use idx_walk::walk;
+use idx_words::CutWords;
+use std::alloc::Global;
+
+/// Reads the samples that the words ask for, and then writes them in one piece. It reads nothing of a raw volume of
+/// another size, and writes nothing before all is read.
+pub fn cut_volume<V: Source, K: Sink>(
+    alloc: Global,
+    cut: &CutWords,
+    raw: &mut V,
+    out: &mut K,
+) -> Cause
+    requires { IsSound cut.now }
+    ensures ends { EndsWith K.contents K.faults cut.now (V.contents raw.old)
+        (V.faults raw.old) (V.faults raw.new) out.old out.new result }
+    ensures raw_same { V.contents raw.new ≡ V.contents raw.old }
+    ensures raw_count { NeverFalls (V.faults raw.old) (V.faults raw.new) }
+    ensures raw_answered { V.faults raw.old < V.faults raw.new → result ≡ Cause.RawFault }
+    ensures sink_count { NeverFalls (K.faults out.old) (K.faults out.new) }
+    ensures sink_answered { K.faults out.old < K.faults out.new → result ≡ Cause.SinkFault }
+{
+    let want = cut.volume_bytes();
+    let Ok(found) = raw.len() else {
+        return Cause::RawFault;
+    };
+    if found != want {
+        return Cause::RawWrongSize { want, found };
+    }
+    let samples = match read_answer(alloc, cut, raw) {
+        Ok(samples) => samples,
+        Err(ReadFault::Outage) => return Cause::RawFault,
+        Err(ReadFault::NoMemory) => return Cause::NoMemory,
+    };
+    match out.write(&samples) {
+        Ok(()) => Cause::Done,
+        Err(_) => Cause::SinkFault,
+    }
+}
+
+/// Reads, in row-major order, the samples of the region's points whose level is one of those that are asked for. Their
+/// memory is taken once.
+#[tactic(auto, unfolding(crate::specs::CutOutput::cut_output))]
+fn read_answer<V: Source>(alloc: Global, cut: &CutWords, raw: &mut V) -> Result<Vec<u8>, ReadFault>
+    requires sound { IsSound cut.now }
+    requires size { HasSize cut.now (V.contents raw.old) }
+    ensures read { IfOk result (λ samples.
+        IfSome (V.contents raw.old) (λ bytes. samples.items ≡ cut_output cut.now bytes)) }
+    ensures contents { V.contents raw.new ≡ V.contents raw.old }
+    ensures quiet { OnOk result (V.faults raw.new ≡ V.faults raw.old) }
+    ensures no_memory { result ≡ Err ReadFault.NoMemory → V.faults raw.new ≡ V.faults raw.old }
+    ensures outage { result ≡ Err ReadFault.Outage → Rose (V.faults raw.old) (V.faults raw.new) }
+{
+    let (lo, hi) = cut.levels();
+    match walk(&cut.mask, &cut.extent, &cut.region, lo, hi, cut.size) {
+        None => Ok(Vec::new(alloc)),
+        Some(strides) => read_walk(alloc, &strides, raw),
+    }
+}
+
+/// Reads the samples of a walk.
+fn read_walk<V: Source>(alloc: Global, strides: &Strides, raw: &mut V) -> Result<Vec<u8>, ReadFault>
+    requires within { LiesIn (V.contents raw.old) strides.now }
+    requires few { strides.now.size ≤ 64 }
+    ensures read { IfOk result (λ samples. AreSamples (V.contents raw.old) strides.now samples.items) }
+    ensures contents { V.contents raw.new ≡ V.contents raw.old }
+    ensures quiet { OnOk result (V.faults raw.new ≡ V.faults raw.old) }
+    ensures no_memory { result ≡ Err ReadFault.NoMemory → V.faults raw.new ≡ V.faults raw.old }
+    ensures outage { result ≡ Err ReadFault.Outage → Rose (V.faults raw.old) (V.faults raw.new) }
+{
+    let bytes = (strides.count() * strides.size()) as usize;
+    let Ok(mut samples) = Vec::from_elem(alloc, 0u8, bytes) else {
+        return Err(ReadFault::NoMemory);
+    };
+    read_samples(alloc, strides, raw, &mut samples)?;
+    Ok(samples)
+}

@@ -1,0 +1,30 @@
+//! Worked values of the definitions.
+ghost use Rattle.std.specs.Prelude.{◌≡◌, [], ◌∷◌, ◌++◌, flat_map, codes, None};
+ghost use Rattle.idx_header.specs.Worked.{small_header};
+ghost use Rattle.idx_commands.specs.CutOutput.{cut_output};
+ghost use Rattle.idx_commands.specs.Summary.{summary};
+
+/// What the words of `cut` ask for of the bytes 0 to 15.
+#[tactic(auto, unfolding(crate::specs::CutOutput::cut_output))]
+pub fn worked_cut()
+    ensures output { cut_output (record {
+      size = 1;
+      extent = (0, 3) ∷ (0, 3) ∷ [];
+      mask = 0 ∷ 1 ∷ 0 ∷ 1 ∷ [];
+      region = (1, 2) ∷ (0, 3) ∷ [];
+      lo = 0;
+      hi = 3;
+    }) (0 ∷ 1 ∷ 2 ∷ 3 ∷ 4 ∷ 5 ∷ 6 ∷ 7 ∷ 8 ∷ 9 ∷ 10 ∷ 11 ∷ 12 ∷ 13 ∷ 14 ∷ 15 ∷ []) ≡ 1 ∷ 2 ∷ 9 ∷ 10 ∷ [] }
+{}
+
+/// What `info` writes of a small header.
+pub fn worked_summary()
+    ensures lines { summary small_header ≡ flat_map (λ line. line ++ 10 ∷ []) (
+        codes "version 6" ∷ codes "axes 2" ∷ codes "box 0 3 0 3" ∷ codes "bits V0101" ∷ codes "levels 4"
+        ∷ codes "bitsperblock 2" ∷ codes "blocksperfile 2" ∷ codes "blocks 4" ∷ codes "steps 0 9"
+        ∷ codes "field a uint8 1" ∷ []) }
+    ensures untimed { summary (record small_header { steps = None }) ≡ flat_map (λ line. line ++ 10 ∷ []) (
+        codes "version 6" ∷ codes "axes 2" ∷ codes "box 0 3 0 3" ∷ codes "bits V0101" ∷ codes "levels 4"
+        ∷ codes "bitsperblock 2" ∷ codes "blocksperfile 2" ∷ codes "blocks 4" ∷ codes "steps none"
+        ∷ codes "field a uint8 1" ∷ []) }
+{}

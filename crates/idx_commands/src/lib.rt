@@ -1,0 +1,17 @@
+//! The commands of idxtool: what each does with a raw volume, a dataset and a sink, and how it ends.
+#![tactic(auto)]
+
+mod causes;
+mod convert;
+mod cut;
+mod examples;
+mod info;
+mod kind_text;
+mod running;
+mod summary;
+#[cfg(test)]
+mod tests;
+
+pub use causes::{Cause, Done};
+pub use examples::{worked_cut, worked_summary};
+pub use running::run;

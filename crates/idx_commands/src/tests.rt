@@ -1,0 +1,41 @@
+use crate::{Cause, Done};
+use idx_header::HeaderKind;
+use std::test::Fail;
+
+#[test]
+fn causes_have_statuses_and_lines(rt: HostRuntime) -> Result<(), Fail> {
+    for (cause, status, line) in [
+        (Cause::Done, 0, ""),
+        (Cause::Usage { at: 7 }, 1, "usage at 7"),
+        (
+            Cause::Header {
+                line: 13,
+                kind: HeaderKind::TemplateTooSmall,
+            },
+            2,
+            "header line 13 TemplateTooSmall",
+        ),
+        (
+            Cause::RawWrongSize { want: 16, found: 0 },
+            3,
+            "raw size want 16 found 0",
+        ),
+        (Cause::RawFault, 4, "raw fault"),
+        (Cause::StoreFault, 5, "store fault"),
+        (Cause::AlreadyPublished { time: 3 }, 6, "published 3"),
+        (Cause::OtherHeader, 6, "other header"),
+        (
+            Cause::TooLarge { bytes: 1 << 31 },
+            8,
+            "too large 2147483648",
+        ),
+        (Cause::NoStep { time: 10 }, 8, "no step 10"),
+        (Cause::SinkFault, 9, "sink fault"),
+        (Cause::NoMemory, 11, "no memory"),
+    ] {
+        assert_eq!(rt; Done::of(cause).status, status);
+        let printed = format!(in rt.alloc(); "{cause}")?;
+        assert_eq!(rt; printed.as_str(), line);
+    }
+    Ok(())
+}

@@ -1,0 +1,14 @@
+use idx_words::{given_path, third_word};
+
+/// The path of the dataset that the words name, or none.
+pub fn dataset_path(words: &[String]) -> &str {
+    given_path(words)
+}
+
+/// The path of the raw volume that the words name, or none.
+pub fn raw_path(words: &[String]) -> &str {
+    match words.first() {
+        Some(name) if name.as_str() == "convert" => third_word(words),
+        _ => given_path(words),
+    }
+}
