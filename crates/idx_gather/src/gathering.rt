@@ -17,8 +17,8 @@ use std::alloc::Global;
 /// byte for byte as the format defines them. The first raw volume alone is read, once and whole, before the first file is
 /// begun.
 ///
-/// After a refusal no file stands that did not before, unless the bay's own commit failed: then the step stands whole or
-/// not at all.
+/// After a refusal no file stands that did not before. A store's fault may come of the commit itself: then the step stands
+/// whole or not at all.
 pub fn gather<V: Source, B: Bay, G: Gate>(
     alloc: Global,
     header: &Header,

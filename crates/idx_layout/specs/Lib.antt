@@ -1,4 +1,5 @@
 pub mod Layout
+pub mod Content
 pub mod Files
 pub mod FileNumbers
 pub mod Runs

@@ -14,7 +14,8 @@ use idx_hz::Mask;
 use std::iter::FusedIterator;
 use std::marker::Model;
 
-/// The present blocks of a file, rising, seen as the list of those that are left. Each takes as long as `next_present`.
+/// The blocks of a range that have a point of a box, rising, seen as the list of those that are left; those of a file and
+/// the dataset's box are the file's present blocks. Each takes as long as `next_present`.
 #[derive(Debug, Drop)]
 pub struct FileBlocks {
     mask: Mask,

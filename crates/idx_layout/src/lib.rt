@@ -23,5 +23,5 @@ pub use next_block::next_present;
 pub use places::{
     file_blocks, file_len, files, offset_at, place, present, present_in_file, table_len,
 };
-pub use points::{blocks_with_points, has_point_in};
+pub use points::{blocks_in, blocks_with_points, has_point_in};
 pub use present_files::Files;

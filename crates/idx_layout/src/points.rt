@@ -24,12 +24,21 @@ pub fn has_point_in(mask: &Mask, region: &Region, bits: u32, block: u64) -> bool
     }
 }
 
-/// How many of the blocks from `first` on and before `end` have a point of a box, as `has_point_in` says. Each that has
-/// takes as long as `next_present`.
+/// The blocks from `first` on and before `end` that have a point of a box, as `has_point_in` says, rising. Each that has
+/// takes a few tests for each digit of the number of blocks.
+pub fn blocks_in(mask: &Mask, region: &Region, bits: u32, first: u64, end: u64) -> FileBlocks
+    requires address { HasAddress mask.now (upper_ends region.now) }
+    requires bits { bits ≤ length mask.now }
+    ensures { result ≡ filter (has_point_in mask.now region.now bits) (range_with_len first (end - first)) }
+{
+    FileBlocks::between(mask, region, bits, first, end)
+}
+
+/// How many blocks `blocks_in` gives.
 pub fn blocks_with_points(mask: &Mask, region: &Region, bits: u32, first: u64, end: u64) -> u64
     requires address { HasAddress mask.now (upper_ends region.now) }
     requires bits { bits ≤ length mask.now }
     ensures { result ≡ length (filter (has_point_in mask.now region.now bits) (range_with_len first (end - first))) }
 {
-    FileBlocks::between(mask, region, bits, first, end).count() as u64
+    blocks_in(mask, region, bits, first, end).count() as u64
 }
