@@ -3,18 +3,18 @@ use idx_hz::Mask;
 
 /// Which samples of a row-major volume go into a block of 2^`bits` addresses whose number has `k` + 1 binary digits:
 /// those of the points between the bounds `common`, which are those of the volume's box and of the block.
-#[derive(Clone, Copy)]
-pub(crate) struct Ask {
+#[derive(Clone, Copy, Debug)]
+pub struct Ask {
     /// The dataset's mask.
-    pub(crate) mask: Mask,
+    pub mask: Mask,
     /// How many bits the place of a sample in its block has.
-    pub(crate) bits: u32,
+    pub bits: u32,
     /// How many binary digits the block's number has behind its highest 1.
-    pub(crate) k: u32,
+    pub k: u32,
     /// The box that the volume fills.
-    pub(crate) region: Region,
+    pub region: Region,
     /// What that box and the block's have in common.
-    pub(crate) common: Region,
+    pub common: Region,
     /// How many bytes a sample has.
-    pub(crate) size: u64,
+    pub size: u64,
 }

@@ -22,16 +22,18 @@ const NO_LINE: Line = Line {
 };
 
 /// The lines along which the samples of a block lie, the slowest first, and the byte at which the first sample begins.
-#[derive(Clone, Copy)]
-pub(crate) struct Plan {
+#[derive(Clone, Copy, Debug)]
+pub struct Plan {
     lines: [Line; MAX_AXES],
-    pub(crate) axes: u32,
-    pub(crate) from: usize,
+    /// How many lines there are, one for each axis.
+    pub axes: u32,
+    /// The byte at which the first sample begins.
+    pub from: usize,
 }
 
 impl Plan {
     /// The lines, the slowest first.
-    pub(crate) fn lines(&self) -> &[Line]
+    pub fn lines(&self) -> &[Line]
         requires { self.now.axes ≤ 5 }
         ensures { result.now ≡ drop (5 - self.now.axes) self.now.lines }
     {
@@ -47,7 +49,7 @@ struct Found {
 }
 
 /// The lines of the points on a grid between the bounds that are asked for: `None` exactly where there is no such point.
-pub(crate) fn make_plan(ask: &Ask, grid: &Grid) -> Option<Plan>
+pub fn make_plan(ask: &Ask, grid: &Grid) -> Option<Plan>
     requires mask { IsMask ask.now.mask }
     requires digits { ask.now.bits + ask.now.k < length ask.now.mask }
     requires few_bits { ask.now.bits ≤ 20 }

@@ -46,7 +46,7 @@ pub(crate) fn walk<S: Sample>(
 
 /// The next number whose bits are all among the given ones; behind the greatest one comes 0.
 #[inline(always)]
-pub(crate) fn next_part(bits: usize, part: usize) -> usize
+pub fn next_part(bits: usize, part: usize) -> usize
     ensures { result ≡ next_part bits part }
 {
     part.wrapping_sub(bits) & bits

@@ -1,0 +1,6 @@
+pub mod SideLemmas
+pub mod OrderLemmas
+pub mod MoveLemmas
+pub mod AskedLemmas
+pub mod PointLemmas
+pub mod LevelLemmas

@@ -1,0 +1,35 @@
+-- Moves of samples along lines, each from a place of a block to the place of its point in the answer. The lines are those
+-- of the copies the other way round: they give the places of the points in the region.
+use Rattle.std.specs.Prelude.{◌≡◌, ℕ, ◌+◌, ◌*◌, ◌^◌, ◌<◌, ◌≤◌, List, length}
+use Rattle.idx_geom.specs.Region.{points}
+use Rattle.idx_block.specs.Copies.{EachCopy, IsRight}
+use Rattle.idx_block.specs.Plan.{AreNumbers, byte_at}
+use Rattle.idx_block.specs.declared.ask.Ask.{Ask}
+use Rattle.idx_block.specs.declared.line.Line.{Line}
+use Rattle.idx_scatter.specs.Asked.{Asked, asked_before}
+use Rattle.idx_scatter.specs.Scatter.{sample_of}
+
+-- a point stands at the place `at` of the region, its place in the answer is there, and so is the place in the block
+pub record IsThere (a : Asked) (size : ℕ) (samples into : List ℕ) (at place : ℕ) : Type 0 where
+  pub point : at < length (points a.region)
+  pub few : length (points a.region) ≤ 2 ^ 40
+  pub room : (asked_before a at + 1) * size ≤ length into
+  pub read : (place + 1) * size ≤ length samples
+
+-- the block's sample is what the point's place is to hold
+abbrev pub IsAsked : Asked → (ℕ → List ℕ) → ℕ → List ℕ → ℕ → ℕ → Type 0
+IsAsked a want size samples at place = sample_of size samples place ≡ want (asked_before a at)
+
+-- the place of the point at `at` holds what it is to hold
+abbrev pub IsPut : Asked → (ℕ → List ℕ) → ℕ → List ℕ → ℕ → Type 0
+IsPut a want size into at = IsRight want size into (asked_before a at)
+
+-- the moves along these lines make the places right that they go to, and what was right stays so
+pub record AreMoved (a : Asked) (want : ℕ → List ℕ) (size : ℕ) (lines : List Line) (at place : ℕ) (old new : List ℕ) : Type 0 where
+  pub kept : (o : ℕ) → IsRight want size old o → IsRight want size new o
+  pub placed : EachCopy (λ at place. IsPut a want size new at) lines at place
+
+-- the same by the numbers of the coordinates on each axis
+pub record AreMovedBy (a : Asked) (want : ℕ → List ℕ) (size : ℕ) (ask : Ask) (axes : ℕ) (old new : List ℕ) : Type 0 where
+  pub kept : (o : ℕ) → IsRight want size old o → IsRight want size new o
+  pub placed : (ks : ℕ → ℕ) → AreNumbers ask axes ks → IsPut a want size new (byte_at ask axes ks)

@@ -1,0 +1,14 @@
+//! The samples of a block, put to the places of their points in an answer: the other way round than blocks are made.
+#![tactic(auto)]
+
+mod by_lines;
+mod first_block;
+mod order;
+mod scatter;
+mod side;
+#[cfg(test)]
+mod tests;
+mod walk;
+
+pub use order::Order;
+pub use scatter::scatter_block;
