@@ -1,0 +1,6 @@
+mod OutsideLemmas
+mod ListLemmas
+mod BlockLemmas
+mod NeededLemmas
+pub mod PlanLemmas
+pub mod AnswerLemmas

@@ -1,0 +1,5 @@
+pub mod Needed
+pub mod Answer
+pub mod Answerable
+pub mod Plan
+pub mod Worked

@@ -1,0 +1,21 @@
+//! What a question needs: how large its answer is, and which blocks hold a sample of it.
+#![tactic(auto)]
+
+mod ask;
+mod counting;
+mod examples;
+mod keys;
+mod laws;
+mod outside;
+mod plan_fault;
+mod planning;
+mod query_plan;
+#[cfg(test)]
+mod tests;
+
+pub use ask::Ask;
+pub use examples::{worked_blocks, worked_faults};
+pub use laws::{all_levels_are_all_samples, copied_blocks_are_the_answer};
+pub use plan_fault::PlanFault;
+pub use planning::{MAX_ANSWER, count_samples, plan};
+pub use query_plan::Plan;
