@@ -1,0 +1,11 @@
+pub mod RowLemmas
+pub mod LookupLemmas
+pub mod FrontLemmas
+pub mod LoadLemmas
+pub mod SoFarLemmas
+pub mod AbsentLemmas
+pub mod WrittenLemmas
+pub mod LeavesLemmas
+pub mod BackLemmas
+pub mod HeldLemmas
+pub mod OwnLemmas

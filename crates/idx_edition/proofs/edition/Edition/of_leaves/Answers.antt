@@ -1,0 +1,33 @@
+use Rattle.std.proofs.Common.{◌≡◌, sym, subst}
+use Rattle.std.specs.Option.{ForSome}
+use Rattle.idx_outside.specs.Files.{shown}
+use Rattle.idx_layout.specs.Layout.{is_present}
+use Rattle.idx_layout.specs.OfHeader.{layout_of}
+use Rattle.idx_edition.specs.Stored.{shape_of}
+use Rattle.idx_edition.specs.Tables.{AreTablesOf, TablesValue, has_in_tables, stored_in}
+use Rattle.idx_edition.specs.Loaded.{IsWrittenBlock, OfBlocks}
+use Rattle.idx_edition.proofs.LeavesLemmas.{leaves_fit, leaves_have, leaves_stored}
+use Rattle.idx_edition.proofs.edition.Edition.of_leaves.Goals as goal
+
+pub invariant_of-result : goal.invariant_of-result
+invariant_of-result g c =
+    let h = c.args.header.now in
+    let leaves = shown g.L.Leaf.contents c.args.leaves.items in
+    let written = c.requires.written in
+    record {
+      fits = subst (λ (t : TablesValue). AreTablesOf t.tables leaves) (sym c.in_ok-tables.ensures.tables)
+          (leaves_fit h c.args.time c.in_ok-tables.ensures.valid written.0 leaves written.1);
+    }
+
+pub returns-clause-has : goal.returns-clause-has
+returns-clause-has g c =
+    let h = c.args.header.now in
+    subst (λ (t : TablesValue). OfBlocks (shape_of h) (λ field block. has_in_tables t field block ≡ is_present (layout_of h) block)) (sym c.in_ok-tables.ensures.tables)
+    (leaves_have h c.in_ok-tables.ensures.valid)
+
+pub returns-clause-stored : goal.returns-clause-stored
+returns-clause-stored g c = λ volume written.
+    let h = c.args.header.now in
+    let leaves = shown g.L.Leaf.contents c.args.leaves.items in
+    subst (λ (t : TablesValue). ForSome (stored_in t leaves) (λ stored. OfBlocks (shape_of h) (λ field block. IsWrittenBlock h volume field block (stored field block)))) (sym c.in_ok-tables.ensures.tables)
+    (leaves_stored h c.args.time c.in_ok-tables.ensures.valid volume leaves written)

@@ -1,0 +1,111 @@
+use Rattle.std.proofs.Common.{◌≡◌, ℕ, ◌+◌, ◌%◌, ◌^◌, ◌++◌, ◌∷◌, [], List, Some, length, length-append, refl, sym, ap, subst, ◌∙◌, arith}
+use Rattle.std.specs.Prelude.{IfSome, Option, slice_get}
+use Rattle.std.specs.Option.{ForSome}
+use Rattle.std.proofs.lemmas.List.{map-append}
+use Rattle.idx_outside.specs.Files.{entry_shown, shown}
+use Rattle.idx_table.specs.declared.row.Row.{Row}
+use Rattle.idx_layout.specs.OfHeader.{layout_of}
+use Rattle.idx_edition.specs.Tables.{AreTablesOf, EndWithin, IsTable, RiseFrom, TablesValue, has_in_tables, shape_in, stored_in}
+use Rattle.idx_edition.specs.Loaded.{HoldSoFar, HoldsStored}
+use Rattle.idx_edition.proofs.SoFarLemmas.{files_rise, no_tables, no_leaves, hold_none, hold_skip, hold_more, numbers_skip, numbers_more, tables_more, leaves_more, found_none, found_some, sound_since, reads_more}
+use Rattle.idx_edition.proofs.HeldLemmas.{holds_stored}
+use Rattle.idx_edition.proofs.edition.Edition.open_files.Goals as goal
+
+pub loop-file-init : goal.loop-file-init
+loop-file-init g c =
+    let h = c.args.header.now in
+    let contents = g.L.Leaf.contents in
+    let all = c.into_iter-file-iterator.ensures.into_iter_gives ∙ c.files-file-items.ensures.value in
+    record {
+      rising = subst (RiseFrom 0) (sym (ap (λ xs. xs ++ c.into_iter-file-iterator.result) c.new-numbers.ensures.items ∙ all)) (files_rise (layout_of h));
+      same = ap length c.new-tables.ensures.items ∙ sym (ap length c.new-numbers.ensures.items);
+      each = no_tables c.new-tables.result.items c.in_ok-lengths.lengths.items h.blocks_per_file c.new-tables.ensures.items;
+      fits = no_leaves contents c.new-tables.result.items c.new-leaves.result.items c.new-tables.ensures.items c.new-leaves.ensures.items;
+      holds = hold_none h c.args.time (g.B.Bay.files c.args.bay.now) c.into_iter-file-iterator.result c.new-numbers.result.items c.new-tables.result.items (shown contents c.new-leaves.result.items)
+          all c.new-numbers.ensures.items c.new-tables.ensures.items (ap (shown contents) c.new-leaves.ensures.items);
+      files = refl;
+      header = refl;
+      admits = λ path admitted. admitted;
+      quiet = refl;
+      reader_quiet = refl;
+      reads = omega (arith, ap length c.new-leaves.ensures.items);
+    }
+
+pub loop-file-preserved-in_default : goal.loop-file-preserved-in_default
+loop-file-preserved-in_default g c =
+    let h = c.args.header.now in
+    let contents = g.L.Leaf.contents in
+    let opened = c.in_ok-found.ensures in
+    let before = c.loop-file.invariant in
+    let first = c.in-Some.ensures.steps in
+    let file = c.in-Some.file in
+    let since = g.B.Bay.files c.args.bay.now in
+    let shows : List Row × (List ℕ × g.row.L.Denot) → List Row × (List ℕ × Option (List ℕ)) = λ f. (f.0, entry_shown contents f.1) in
+    let read = opened.no_read c.in_default.is in
+    record {
+      rising = numbers_skip c.loop-file.numbers.items c.loop-file.file-iterator c.next.new.self file first before.rising;
+      same = before.same;
+      each = before.each;
+      fits = before.fits;
+      holds = hold_skip h c.args.time since c.loop-file.file-iterator c.next.new.self c.loop-file.numbers.items file c.loop-file.tables.items (shown contents c.loop-file.leaves.items) first
+          (found_none h c.args.time file shows c.in_ok-found.found (g.B.Bay.files c.loop-file.bay) since c.in_default.is before.files opened.found)
+          (sound_since h c.args.time file (g.B.Bay.files c.loop-file.bay) since before.files opened.sound) before.holds;
+      files = opened.files ∙ before.files;
+      header = opened.header ∙ before.header;
+      admits = λ path admitted. opened.admits path (before.admits path admitted);
+      quiet = opened.quiet ∙ before.quiet;
+      reader_quiet = opened.reader_quiet ∙ before.reader_quiet;
+      reads = ap (λ r. g.R.Reader.reads r % 2 ^ 64) read ∙ before.reads;
+    }
+
+pub loop-file-preserved : goal.loop-file-preserved
+loop-file-preserved g c =
+    let h = c.args.header.now in
+    let contents = g.L.Leaf.contents in
+    let opened = c.in_ok-found.ensures in
+    let before = c.loop-file.invariant in
+    let first = c.in-Some.ensures.steps in
+    let file = c.in-Some.file in
+    let rows : List Row = c.in-Some-found.rows in
+    let leaf : List ℕ × g.row.L.Denot = c.in-Some-found.leaf in
+    let is = c.in-Some-found.is in
+    let since = g.B.Bay.files c.args.bay.now in
+    let shows : List Row × (List ℕ × g.row.L.Denot) → List Row × (List ℕ × Option (List ℕ)) = λ f. (f.0, entry_shown contents f.1) in
+    let found = λ (P : List Row × (List ℕ × g.row.L.Denot) → Type 0) (holds : IfSome c.in_ok-found.found P). subst (λ o. IfSome o P) is holds in
+    let numbers : c.push.new.self.items ≡ c.loop-file.numbers.items ++ file ∷ [] = c.in_ok-push.ensures.items in
+    let tables : c.push-in-loop-file.new.self.items ≡ c.loop-file.tables.items ++ rows ∷ [] = c.in_ok-push-2.ensures.items in
+    let leaves : c.push-in-loop-file-2.new.self.items ≡ c.loop-file.leaves.items ++ leaf ∷ [] = c.in_ok-push-3.ensures.items in
+    record {
+      rising = subst (λ xs. RiseFrom 0 (xs ++ c.next.new.self)) (sym numbers) (numbers_more c.loop-file.numbers.items c.loop-file.file-iterator c.next.new.self file first before.rising);
+      same =
+          ap length tables ∙ length-append c.loop-file.tables.items (rows ∷ []) ∙ ap (λ n. n + 1) before.same
+          ∙ sym (ap length numbers ∙ length-append c.loop-file.numbers.items (file ∷ []));
+      each = subst (λ (ts : List (List Row)). (i : ℕ) (rows : List Row) → slice_get ts i ≡ Some rows → IsTable c.in_ok-lengths.lengths.items h.blocks_per_file rows) (sym tables)
+          (tables_more c.in_ok-lengths.lengths.items h.blocks_per_file c.loop-file.tables.items rows before.each (found (λ f. IsTable c.in_ok-lengths.lengths.items h.blocks_per_file f.0) opened.table));
+      fits = subst (λ ts. AreTablesOf ts (shown contents c.push-in-loop-file-2.new.self.items)) (sym tables)
+          (subst (λ ls. AreTablesOf (c.loop-file.tables.items ++ rows ∷ []) (shown contents ls)) (sym leaves)
+          (leaves_more contents c.loop-file.tables.items c.loop-file.leaves.items rows leaf before.fits
+          (found (λ f. ForSome (contents f.1.1) (λ bytes. EndWithin f.0 (length bytes))) opened.ends)));
+      holds = subst (λ ns. IfSome since (λ files. HoldSoFar h c.args.time files c.next.new.self ns c.push-in-loop-file.new.self.items (shown contents c.push-in-loop-file-2.new.self.items))) (sym numbers)
+          (subst (λ ts. IfSome since (λ files. HoldSoFar h c.args.time files c.next.new.self (c.loop-file.numbers.items ++ file ∷ []) ts (shown contents c.push-in-loop-file-2.new.self.items))) (sym tables)
+          (subst (λ ls. IfSome since (λ files. HoldSoFar h c.args.time files c.next.new.self (c.loop-file.numbers.items ++ file ∷ []) (c.loop-file.tables.items ++ rows ∷ []) ls)) (sym (ap (shown contents) leaves ∙ map-append (entry_shown contents) c.loop-file.leaves.items (leaf ∷ [])))
+          (hold_more h c.args.time since c.loop-file.file-iterator c.next.new.self c.loop-file.numbers.items file c.loop-file.tables.items rows (shown contents c.loop-file.leaves.items) (entry_shown contents leaf) first
+          (found_some h c.args.time file shows c.in_ok-found.found (rows, leaf) (g.B.Bay.files c.loop-file.bay) since is before.files opened.found)
+          (sound_since h c.args.time file (g.B.Bay.files c.loop-file.bay) since before.files opened.sound) before.holds)));
+      files = opened.files ∙ before.files;
+      header = opened.header ∙ before.header;
+      admits = λ path admitted. opened.admits path (before.admits path admitted);
+      quiet = opened.quiet ∙ before.quiet;
+      reader_quiet = opened.reader_quiet ∙ before.reader_quiet;
+      reads = reads_more (g.R.Reader.reads c.args.reader.now) (g.R.Reader.reads c.loop-file.reader) (g.R.Reader.reads c.open_file.new.reader) (length c.loop-file.leaves.items) before.reads
+          (found (λ _. g.R.Reader.reads c.open_file.new.reader ≡ (g.R.Reader.reads c.loop-file.reader + 1) % 2 ^ 64) opened.one_read)
+          ∙ ap (λ n. (g.R.Reader.reads c.args.reader.now + n) % 2 ^ 64) (sym (ap length leaves ∙ length-append c.loop-file.leaves.items (leaf ∷ [])));
+    }
+
+pub returns-clause-holds : goal.returns-clause-holds
+returns-clause-holds g c =
+    let h = c.args.header.now in
+    let contents = g.L.Leaf.contents in
+    subst (λ (t : TablesValue). IfSome (g.B.Bay.files c.args.bay.now) (λ files. HoldsStored h c.args.time files (shape_in t) (has_in_tables t) (stored_in t (shown contents c.loop-file.leaves.items)) (shown contents c.loop-file.leaves.items))) (sym c.of_files.ensures.tables)
+    (holds_stored h c.args.time c.of_files.ensures.valid (g.B.Bay.files c.args.bay.now) c.loop-file.file-iterator c.loop-file.numbers.items c.loop-file.tables.items (shown contents c.loop-file.leaves.items)
+    c.in-None.ensures.steps.0 c.loop-file.invariant.holds)

@@ -1,0 +1,4 @@
+pub mod Stored
+pub mod Tables
+pub mod Loaded
+pub mod Worked

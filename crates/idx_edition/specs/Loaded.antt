@@ -1,0 +1,97 @@
+-- What an edition is, and what loading one promises.
+use Rattle.std.specs.Prelude.{◌≡◌, ◌≢◌, ◌⊎◌, ℕ, Bool, ◌+◌, ◌<◌, ◌%◌, ◌^◌, List, ◌++◌, length, map, slice_get, slice_index, Option, Some, None, IfSome}
+use Rattle.std.specs.Option.{option_map, ForSome}
+use Rattle.std.specs.List.{filter_map}
+use Rattle.idx_geom.specs.Region.{points}
+use Rattle.idx_geom.specs.Volume.{IsVolume}
+use Rattle.idx_outside.specs.Cause.{Rose}
+use Rattle.idx_outside.specs.Files.{known_files, file_at}
+use Rattle.idx_outside.specs.Shape.{Shape}
+use Rattle.idx_outside.specs.declared.mem_file.MemFile.{MemFile}
+use Rattle.idx_table.specs.Table.{rows_of}
+use Rattle.idx_table.specs.declared.row.Row.{Row}
+use Rattle.idx_header.specs.Header.{HeaderValue}
+use Rattle.idx_header.specs.Names.{file_name}
+use Rattle.idx_layout.specs.Layout.{block_of_samples, file_numbers}
+use Rattle.idx_layout.specs.Files.{file_bytes, row_count}
+use Rattle.idx_layout.specs.OfHeader.{layout_of}
+use Rattle.idx_edition.specs.Stored.{fault_of_file, first_bad, found_files, has_block, stored_block}
+use Rattle.idx_edition.specs.declared.load_fault.LoadFault.{LoadFault}
+use Rattle.idx_edition.specs.declared.load_fault.LoadFault.TheVariants.{BadTable, StoreFault, NoMemory}
+
+-- Of each block of each field of a shape, this.
+abbrev pub OfBlocks : Shape → (ℕ → ℕ → Type 0) → Type 0
+OfBlocks shape P = (field block : ℕ) → field < length shape.lengths → block < shape.blocks → P field block
+
+-- An edition of the committed files: it has the blocks that they store, with their bytes, and no row of them is faulty.
+-- `shape`, `has` and `stored` are what the edition tells, and `leaves` its files, each with what is known of its bytes.
+pub record HoldsStored (h : HeaderValue) (step : ℕ) (files : List MemFile) (shape : Shape) (has : ℕ → ℕ → Bool)
+    (stored : Option (ℕ → ℕ → List ℕ)) (leaves : List (List ℕ × Option (List ℕ))) : Type 0 where
+  pub sound : first_bad h step files ≡ None
+  pub has_blocks : OfBlocks shape (λ field block. has field block ≡ has_block h step files field block)
+  pub content : ForSome stored (λ stored. OfBlocks shape (λ field block. stored field block ≡ stored_block h step files field block))
+  pub known : stored ≢ None
+  pub same_files : leaves ≡ known_files (Some files) (found_files h step files)
+
+-- Leaves are the files of a step as the writer lays them out: they have the paths of its files, and the bytes of the files of
+-- one volume, as far as these are known.
+pub record AreWritten (h : HeaderValue) (step : ℕ) (volume : List (List (List ℕ))) (leaves : List (List ℕ × Option (List ℕ))) : Type 0 where
+  pub whole : IsVolume (layout_of h).sizes (length (points h.box)) volume
+  pub paths : map (λ leaf. leaf.0) leaves ≡ map (file_name h step) (file_numbers (layout_of h))
+  pub bytes : (i file : ℕ) (path : List ℕ) (bytes : List ℕ) → slice_get (file_numbers (layout_of h)) i ≡ Some file →
+      slice_get leaves i ≡ Some (path, Some bytes) → bytes ≡ file_bytes (layout_of h) volume file
+
+-- These are the bytes of the block of a field of a volume; an absent block is zeros.
+abbrev pub IsWrittenBlock : HeaderValue → List (List (List ℕ)) → ℕ → ℕ → List ℕ → Type 0
+IsWrittenBlock h volume field block bytes =
+    (samples : List (List ℕ)) → slice_get volume field ≡ Some samples →
+    bytes ≡ block_of_samples (layout_of h) (slice_index (layout_of h).sizes field) samples block
+
+-- What each fault of opening files says, where a faulty table means this, of the counts of the bay and of the reader before
+-- and after.
+abbrev pub IsCause : (LoadFault → Type 0) → ℕ → ℕ → ℕ → ℕ → LoadFault → Type 0
+IsCause IsBad bay_before bay_after before after (BadTable file row kind) =
+    IsBad (BadTable file row kind) × (bay_after ≡ bay_before) × (after ≡ before)
+IsCause IsBad bay_before bay_after before after (StoreFault faults) =
+    (Rose bay_before bay_after × (faults ≡ bay_after) × (after ≡ before))
+    ⊎ (Rose before after × (faults ≡ after) × (bay_after ≡ bay_before))
+IsCause IsBad bay_before bay_after before after NoMemory = (bay_after ≡ bay_before) × (after ≡ before)
+
+-- The same of loading a step, where this is known of the committed files: a faulty table is the first of the step.
+abbrev pub IsLoadCause : HeaderValue → ℕ → Option (List MemFile) → ℕ → ℕ → ℕ → ℕ → LoadFault → Type 0
+IsLoadCause h step known bay_before bay_after before after fault =
+    IsCause (λ bad. IfSome known (λ files. first_bad h step files ≡ Some bad)) bay_before bay_after before after fault
+
+-- so many reads were made, where reads are counted modulo 2^64
+abbrev pub MadeReads : ℕ → ℕ → ℕ → Type 0
+MadeReads before after reads = after % 2 ^ 64 ≡ (before + reads) % 2 ^ 64
+
+-- the rows, the path and the bytes of a file of the step
+abbrev pub found_table : HeaderValue → ℕ → ℕ → List ℕ → List Row × (List ℕ × Option (List ℕ))
+found_table h step file bytes = (rows_of bytes (row_count (layout_of h)), (file_name h step file, Some bytes))
+
+abbrev pub table_at : HeaderValue → ℕ → List MemFile → ℕ → Option (List Row × (List ℕ × Option (List ℕ)))
+table_at h step files file = option_map (found_table h step file) (file_at (file_name h step file) files)
+
+-- the number of a file of the step, the rows, and the path and the bytes, if it is there
+abbrev pub number_at : HeaderValue → ℕ → List MemFile → ℕ → Option ℕ
+number_at h step files file = option_map (λ bytes. file) (file_at (file_name h step file) files)
+
+abbrev pub rows_at : HeaderValue → ℕ → List MemFile → ℕ → Option (List Row)
+rows_at h step files file = option_map (λ bytes. rows_of bytes (row_count (layout_of h))) (file_at (file_name h step file) files)
+
+abbrev pub leaf_at : HeaderValue → ℕ → List MemFile → ℕ → Option (List ℕ × Option (List ℕ))
+leaf_at h step files file = option_map (λ bytes. (file_name h step file, Some bytes)) (file_at (file_name h step file) files)
+
+-- what a function gives of the items that are left completes the list to what it gives of all
+abbrev pub Completes : {X : Type 0} → (ℕ → Option X) → List ℕ → List ℕ → List X → Type 0
+Completes f all left done = done ++ filter_map f left ≡ filter_map f all
+
+-- The numbers, tables and files so far are those of the files of the step before the ones that are left, and none of these
+-- had a faulty row.
+pub record HoldSoFar (h : HeaderValue) (step : ℕ) (files : List MemFile) (left : List ℕ) (numbers : List ℕ)
+    (tables : List (List Row)) (leaves : List (List ℕ × Option (List ℕ))) : Type 0 where
+  pub number : Completes (number_at h step files) (file_numbers (layout_of h)) left numbers
+  pub table : Completes (rows_at h step files) (file_numbers (layout_of h)) left tables
+  pub leaf : Completes (leaf_at h step files) (file_numbers (layout_of h)) left leaves
+  pub sound : slice_get (filter_map (fault_of_file h step files) left) 0 ≡ first_bad h step files

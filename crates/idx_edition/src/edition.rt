@@ -1,0 +1,192 @@
+ghost use Rattle.std.specs.Prelude.{◌≡◌, ◌≢◌, ◌↔◌, ℕ, ◌+◌, ◌*◌, ◌<◌, List, None, Ok, Some, IfErr, IfOk, IfSome, OnOk, length};
+ghost use Rattle.std.specs.Option.{ForSome};
+ghost use Rattle.idx_outside.specs.Cause.{NeverFalls};
+ghost use Rattle.idx_outside.specs.Files.{StillAdmits, shown};
+ghost use Rattle.idx_header.specs.Header.{HasStep};
+ghost use Rattle.idx_header.specs.Names.{step_folder};
+ghost use Rattle.idx_layout.specs.Layout.{is_present};
+ghost use Rattle.idx_layout.specs.OfHeader.{layout_of};
+ghost use Rattle.idx_edition.specs.Stored.{Stands, shape_of};
+ghost use Rattle.idx_edition.specs.Tables.{AreTablesOf, has_in_tables, shape_in, stored_in};
+ghost use Rattle.idx_edition.specs.Loaded.{AreWritten, HoldsStored, IsLoadCause, IsWrittenBlock, MadeReads, OfBlocks};
+
+use crate::LoadFault;
+use crate::lengths::block_lengths;
+use crate::load::{folder_stands, open_file};
+use crate::rows::Rows;
+use crate::tables::Tables;
+use idx_header::Header;
+use idx_layout::files;
+use idx_outside::{Bay, Blocks, Bytes, Fetched, Leaf, NoMemory, Outage, Reader};
+use std::alloc::Global;
+
+/// The files of one step with their tables: the step as blocks.
+#[derive(Drop)]
+pub struct Edition<L: Leaf> {
+    pub(crate) time: u64,
+    pub(crate) tables: Tables,
+    pub(crate) leaves: Vec<(Bytes, L)>,
+    ghost fits: { AreTablesOf tables.tables (shown L.contents leaves.items) },
+}
+
+impl<L: Leaf> Edition<L> {
+    /// The edition of the files of a step as the writer lays them out, with their paths, in the order of their numbers.
+    /// Makes no read.
+    pub fn of_leaves(
+        alloc: Global,
+        header: &Header,
+        time: u64,
+        leaves: Vec<(Bytes, L)>,
+    ) -> Result<Edition<L>, NoMemory>
+        requires time { HasStep header.now time }
+        requires written { (volume : _) × AreWritten header.now time volume (shown L.contents leaves.items) }
+        ensures time { IfOk result (λ edition. edition.time ≡ time) }
+        ensures shape { IfOk result (λ edition. shape_in edition.tables ≡ shape_of header.now) }
+        ensures has { IfOk result (λ edition. OfBlocks (shape_of header.now)
+            (λ field block. has_in_tables edition.tables field block ≡ is_present (layout_of header.now) block)) }
+        ensures stored { IfOk result (λ edition. (volume : _) →
+            AreWritten header.now time volume (shown L.contents leaves.items) →
+            ForSome (stored_in edition.tables (shown L.contents edition.leaves.items)) (λ stored.
+            OfBlocks (shape_of header.now) (λ field block.
+            IsWrittenBlock header.now volume field block (stored field block)))) }
+        ensures leaves { IfOk result (λ edition. edition.leaves.items ≡ leaves.items) }
+    {
+        let tables = Tables::of_header(alloc, header)?;
+        Ok(Edition {
+            time,
+            tables,
+            leaves,
+        })
+    }
+
+    /// Opens a step: asks the bay for each file that the writer would write, and reads the table of each that is there,
+    /// by one read. `None` exactly where the header lacks the step, or has a time and no step of its folder stands. A
+    /// file that is not there, and a row of size 0, mean absent blocks.
+    pub fn load<B: Bay<Leaf = L>, R: Reader<L>>(
+        alloc: Global,
+        header: &Header,
+        time: u64,
+        bay: &mut B,
+        reader: &mut R,
+    ) -> Result<Option<Edition<L>>, LoadFault>
+        ensures time { IfOk result (λ loaded. IfSome loaded (λ edition. edition.time ≡ time)) }
+        ensures shape { IfOk result (λ loaded. IfSome loaded (λ edition.
+            shape_in edition.tables ≡ shape_of header.now)) }
+        ensures holds { IfOk result (λ loaded. IfSome loaded (λ edition. IfSome (B.files bay.old) (λ files.
+            HoldsStored header.now time files (shape_in edition.tables) (has_in_tables edition.tables)
+            (stored_in edition.tables (shown L.contents edition.leaves.items))
+            (shown L.contents edition.leaves.items)))) }
+        ensures none { IfOk result (λ loaded. IfSome (B.files bay.old)
+            (λ files. (loaded ≡ None) ↔ (¬ Stands header.now time files))) }
+        ensures lacks { ¬ HasStep header.now time →
+            (result ≡ Ok None) × (bay.new ≡ bay.old) × (reader.new ≡ reader.old) }
+        ensures untimed { IfOk result (λ loaded.
+            HasStep header.now time → step_folder header.now time ≡ None → loaded ≢ None) }
+        ensures cause { IfErr result (IsLoadCause header.now time (B.files bay.old)
+            (B.faults bay.old) (B.faults bay.new) (R.faults reader.old) (R.faults reader.new)) }
+        ensures reads { IfOk result (λ loaded. IfSome loaded (λ edition.
+            MadeReads (R.reads reader.old) (R.reads reader.new) (length edition.leaves.items))) }
+        ensures no_read { result ≡ Ok None → reader.new ≡ reader.old }
+        ensures quiet { OnOk result (B.faults bay.new ≡ B.faults bay.old) }
+        ensures reader_quiet { OnOk result (R.faults reader.new ≡ R.faults reader.old) }
+        ensures count { NeverFalls (B.faults bay.old) (B.faults bay.new) }
+        ensures reader_count { NeverFalls (R.faults reader.old) (R.faults reader.new) }
+        ensures header { B.header bay.new ≡ B.header bay.old }
+        ensures files { B.files bay.new ≡ B.files bay.old }
+        ensures admits { StillAdmits B.admits bay.old bay.new }
+    {
+        if !header.has_time(time) {
+            return Ok(None);
+        }
+        if !folder_stands(alloc, header, time, bay)? {
+            return Ok(None);
+        }
+        Ok(Some(Edition::open_files(alloc, header, time, bay, reader)?))
+    }
+
+    /// Opens the files of a step that are there.
+    fn open_files<B: Bay<Leaf = L>, R: Reader<L>>(
+        alloc: Global,
+        header: &Header,
+        time: u64,
+        bay: &mut B,
+        reader: &mut R,
+    ) -> Result<Edition<L>, LoadFault>
+        ensures time { IfOk result (λ edition. edition.time ≡ time) }
+        ensures shape { IfOk result (λ edition. shape_in edition.tables ≡ shape_of header.now) }
+        ensures holds { IfOk result (λ edition. IfSome (B.files bay.old) (λ files.
+            HoldsStored header.now time files (shape_in edition.tables) (has_in_tables edition.tables)
+            (stored_in edition.tables (shown L.contents edition.leaves.items))
+            (shown L.contents edition.leaves.items))) }
+        ensures cause { IfErr result (IsLoadCause header.now time (B.files bay.old)
+            (B.faults bay.old) (B.faults bay.new) (R.faults reader.old) (R.faults reader.new)) }
+        ensures reads { IfOk result (λ edition.
+            MadeReads (R.reads reader.old) (R.reads reader.new) (length edition.leaves.items)) }
+        ensures quiet { OnOk result (B.faults bay.new ≡ B.faults bay.old) }
+        ensures reader_quiet { OnOk result (R.faults reader.new ≡ R.faults reader.old) }
+        ensures count { NeverFalls (B.faults bay.old) (B.faults bay.new) }
+        ensures reader_count { NeverFalls (R.faults reader.old) (R.faults reader.new) }
+        ensures header { B.header bay.new ≡ B.header bay.old }
+        ensures files { B.files bay.new ≡ B.files bay.old }
+        ensures admits { StillAdmits B.admits bay.old bay.new }
+    {
+        let lengths = block_lengths(alloc, header)?;
+        let mut front = Vec::new(alloc);
+        let (mut numbers, mut tables) = (Vec::new(alloc), Vec::new(alloc));
+        let mut leaves = Vec::new(alloc);
+        for file in files(header) {
+            let found = open_file(alloc, header, time, file, &lengths, &mut front, bay, reader)?;
+            let Some((rows, leaf)) = found else {
+                continue;
+            };
+            numbers.push(file)?;
+            tables.push(rows)?;
+            leaves.push(leaf)?;
+        }
+        Ok(Edition {
+            time,
+            tables: Tables::of_files(header, lengths, numbers, tables),
+            leaves,
+        })
+    }
+
+    /// The step's files, with their paths, in the order of their numbers. Takes no memory.
+    pub fn leaves(&self) -> &Vec<(Bytes, L)>
+        ensures { result.now.items ≡ self.now.leaves.items }
+    {
+        &self.leaves
+    }
+}
+
+impl<L: Leaf> Blocks for Edition<L> {
+    type Leaf = L;
+
+    ghost time = { λ s. s.time };
+
+    ghost shape = { λ s. shape_in s.tables };
+
+    ghost has = { λ s. has_in_tables s.tables };
+
+    ghost stored = { λ s. stored_in s.tables (shown L.contents s.leaves.items) };
+
+    fn time(&self) -> u64 {
+        self.time
+    }
+
+    /// Finds the block's file by a binary search among the numbers of the files that are there.
+    fn fetch<R: Reader<L>>(
+        &self,
+        reader: &mut R,
+        field: u32,
+        block: u64,
+        into: &mut [u8],
+    ) -> Result<Fetched, Outage> {
+        let Some(place) = self.tables.find(field, block) else {
+            into.fill(0);
+            return Ok(Fetched::Absent);
+        };
+        let (_, leaf) = &self.leaves[place.file];
+        reader.read_at(leaf, place.offset, into)?;
+        Ok(Fetched::Read)
+    }
+}

@@ -1,0 +1,24 @@
+//! Laws of the definitions, each the contract of a function that does nothing.
+ghost use Rattle.std.specs.Prelude.{◌≡◌, ℕ, List, None, length};
+ghost use Rattle.idx_geom.specs.Region.{points};
+ghost use Rattle.idx_geom.specs.Volume.{IsVolume};
+ghost use Rattle.idx_outside.specs.Files.{files_of};
+ghost use Rattle.idx_outside.specs.declared.mem_file.MemFile.{MemFile};
+ghost use Rattle.idx_header.specs.Header.{HasStep, HeaderValue, IsHeader};
+ghost use Rattle.idx_layout.specs.Content.{volume_in};
+ghost use Rattle.idx_layout.specs.OfHeader.{layout_of};
+ghost use Rattle.idx_layout.specs.Step.{step_files};
+ghost use Rattle.idx_edition.specs.Stored.{HasFiles, first_bad, stored_block};
+
+/// Where the files of a step that was written stand, whatever else does, no table is faulty, and the stored blocks are
+/// the volume. They stand where they alone were committed.
+pub fn written_steps_read_back()
+    ensures sound { (h : HeaderValue) (step : ℕ) (volume : List (List (List ℕ))) (files : List MemFile) → IsHeader h →
+        IsVolume (layout_of h).sizes (length (points h.box)) volume → HasFiles h step volume files →
+        first_bad h step files ≡ None }
+    ensures volume { (h : HeaderValue) (step : ℕ) (volume : List (List (List ℕ))) (files : List MemFile) → IsHeader h →
+        IsVolume (layout_of h).sizes (length (points h.box)) volume → HasFiles h step volume files →
+        volume_in (layout_of h) (stored_block h step files) ≡ volume }
+    ensures own { (h : HeaderValue) (step : ℕ) (volume : List (List (List ℕ))) (folder : List ℕ) → IsHeader h →
+        HasStep h step → HasFiles h step volume (files_of folder (step_files h volume step)) }
+{}

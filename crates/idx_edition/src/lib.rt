@@ -1,0 +1,18 @@
+//! One step's files as blocks: which blocks the files have, and where in them each stands.
+#![tactic(auto)]
+
+mod edition;
+mod examples;
+mod laws;
+mod lengths;
+mod load;
+mod load_fault;
+mod rows;
+mod tables;
+#[cfg(test)]
+mod tests;
+
+pub use edition::Edition;
+pub use examples::worked_blocks;
+pub use laws::written_steps_read_back;
+pub use load_fault::LoadFault;
