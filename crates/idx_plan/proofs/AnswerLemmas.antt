@@ -1,5 +1,5 @@
 -- The answer by its samples, and the blocks of its points.
-use Rattle.std.proofs.Common.{◌≡◌, ℕ, zero, suc, ◌+◌, ◌-◌, ◌*◌, ◌/◌, ◌^◌, ◌<◌, Bool, true, false, cond, ◌&&◌, eqb, leb, List, [], ◌∷◌, ◌++◌, length, take, drop, get_or, filter, Some, None, refl, sym, ap, ◌∙◌, subst, zero-add, arith}
+use Rattle.std.proofs.Common.{◌≡◌, ℕ, zero, suc, ◌+◌, ◌-◌, ◌*◌, ◌/◌, ◌^◌, ◌<◌, ◌≤◌, Bool, true, false, cond, ◌&&◌, eqb, leb, List, [], ◌∷◌, ◌++◌, length, take, drop, get_or, filter, Some, None, refl, sym, ap, ◌∙◌, subst, zero-add, arith}
 use Rattle.std.specs.Prelude.{Contains, Option, slice_get}
 use Rattle.std.specs.List.{flat_map, range_with_len}
 use Rattle.std.proofs.lemmas.Bool.{eq-eqb, le-leb}
@@ -13,7 +13,7 @@ use Rattle.idx_geom.proofs.PointsLemmas.{slice_get-place_of}
 use Rattle.idx_hz.specs.Address.{hz_address, level}
 use Rattle.idx_hz.specs.Answer.{answer, has_level}
 use Rattle.idx_hz.proofs.AddressLaws.{hz_address-lt}
-use Rattle.idx_header.specs.Header.{HeaderValue, IsHeader, block_count, sample_bytes_of}
+use Rattle.idx_header.specs.Header.{HeaderValue, block_count, sample_bytes_of}
 use Rattle.idx_layout.specs.Content.{field_in, sample_in}
 use Rattle.idx_layout.specs.Layout.{Layout}
 use Rattle.idx_layout.specs.OfHeader.{layout_of}
@@ -74,9 +74,9 @@ no_axis : (h : HeaderValue) (ask : Ask) (axis : Option ℕ) → fault_by_axis h 
 no_axis h ask None e = refl
 no_axis h ask (Some axis) e = cc
 
-pub copied : (h : HeaderValue) (ask : Ask) (content : ℕ → ℕ → List ℕ) (out : List ℕ) → IsHeader h → ask.field < length h.fields → length ask.region ≡ length h.box → plan_fault h ask ≡ None → length out ≡ answer_bytes h ask →
+pub copied : (h : HeaderValue) (ask : Ask) (content : ℕ → ℕ → List ℕ) (out : List ℕ) → length ask.region ≡ length h.box → plan_fault h ask ≡ None → length out ≡ answer_bytes h ask →
     ((place : ℕ) (p : List ℕ) → slice_get (asked_points (asked_of h ask)) place ≡ Some p → sample_of (sample_bytes_of h ask.field) out place ≡ sample_in (layout_of h) content ask.field p) → out ≡ answer_of h ask content
-copied h ask content out valid field axes sound whole each =
+copied h ask content out axes sound whole each =
     pieces (sample_bytes_of h ask.field) (sample_at h.box (field_in (layout_of h) content ask.field)) (asked_points (asked_of h ask)) out whole
     (λ place p at.
     let inside : LiesIn h.box p = inside-box 0 ask.region h.box p axes (no_axis h ask (outside_axis 0 ask.region h.box) sound) (asked-from (asked_of h ask) place p at).inside in
@@ -97,9 +97,9 @@ Contains-filter f (y ∷ ys) (suc k) x within at passes = by_test (f y) (Contain
     by_test true has = one_more y x (filter f ys) has
     by_test false has = has
 
-block_exists : (h : HeaderValue) (p : List ℕ) → IsHeader h → hz_address h.mask p / 2 ^ h.block_bits < block_count h
-block_exists h p valid =
-    let digits : length h.mask ≡ length h.mask - h.block_bits + h.block_bits = omega (arith, valid.bits_within) in
+block_exists : (h : HeaderValue) (p : List ℕ) → h.block_bits ≤ length h.mask → hz_address h.mask p / 2 ^ h.block_bits < block_count h
+block_exists h p within =
+    let digits : length h.mask ≡ length h.mask - h.block_bits + h.block_bits = omega arith in
     let whole : 2 ^ length h.mask ≡ 2 ^ (length h.mask - h.block_bits) * 2 ^ h.block_bits =
     ap (λ n. 2 ^ n) digits ∙ pow-add 2 (length h.mask - h.block_bits) h.block_bits in
     div_below (hz_address h.mask p) (2 ^ h.block_bits) (block_count h) (pow_pos h.block_bits)
@@ -109,11 +109,11 @@ both : (a b : Bool) → a ≡ true → b ≡ true → (a && b) ≡ true
 both true b x y = y
 both false b x y = x
 
-pub needed-block : (h : HeaderValue) (ask : Ask) (place : ℕ) (p : List ℕ) → IsHeader h → slice_get (asked_points (asked_of h ask)) place ≡ Some p → Contains (needed h ask) (hz_address h.mask p / 2 ^ h.block_bits)
-needed-block h ask place p valid at =
+pub needed-block : (h : HeaderValue) (ask : Ask) (place : ℕ) (p : List ℕ) → h.block_bits ≤ length h.mask → slice_get (asked_points (asked_of h ask)) place ≡ Some p → Contains (needed h ask) (hz_address h.mask p / 2 ^ h.block_bits)
+needed-block h ask place p within at =
     let block : ℕ = hz_address h.mask p / 2 ^ h.block_bits in
     let from = asked-from (asked_of h ask) place p at in
-    let below : block < block_count h = block_exists h p valid in
+    let below : block < block_count h = block_exists h p within in
     let is : is_needed h ask block ≡ true =
     any_point ask.region _ p from.inside
     (both (has_level h.mask ask.lo ask.hi p) (eqb block block) from.asked (eq-eqb block block refl)) in
