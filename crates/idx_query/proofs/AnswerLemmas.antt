@@ -1,8 +1,7 @@
 -- The answer of a plan whose blocks are copied.
-use Rattle.std.proofs.Common.{◌≡◌, ℕ, ◌+◌, ◌-◌, ◌*◌, ◌/◌, ◌%◌, ◌^◌, ◌<◌, ◌≤◌, Bool, List, [], ◌∷◌, ◌++◌, length, map, take, drop, Some, None, refl, sym, ap, ◌∙◌, subst, zero-add, arith}
-use Rattle.std.specs.Prelude.{All, Contains, IfSome, Option, slice_get, slice_index}
-use Rattle.std.specs.List.{range_with_len}
-use Rattle.std.proofs.lemmas.List.{get_or-map, length-map, take_all}
+use Rattle.std.proofs.Common.{◌≡◌, ℕ, ◌-◌, ◌*◌, ◌/◌, ◌%◌, ◌^◌, ◌<◌, ◌≤◌, Bool, List, [], ◌∷◌, ◌++◌, length, map, take, drop, Some, None, refl, sym, ap, ◌∙◌, subst, zero-add, arith}
+use Rattle.std.specs.Prelude.{All, Contains, IfSome, Option, slice_index}
+use Rattle.std.proofs.lemmas.List.{get_or-map, length-map}
 use Rattle.std.proofs.lemmas.List.FromFn.{get_or-map-range_with_len, length-map-range_with_len}
 use Rattle.std.proofs.Math.Nat.{mul_comm}
 use Rattle.idx_outside.specs.Shape.{Shape}
@@ -12,7 +11,7 @@ use Rattle.idx_header.specs.Header.{HeaderValue, sample_bytes_of}
 use Rattle.idx_header.specs.Header.{block_bytes as header_block_bytes}
 use Rattle.idx_hz.specs.Address.{hz_address}
 use Rattle.idx_layout.specs.Content.{sample_in}
-use Rattle.idx_layout.specs.Layout.{block_bytes, block_count}
+use Rattle.idx_layout.specs.Layout.{block_bytes}
 use Rattle.idx_layout.specs.OfHeader.{layout_of}
 use Rattle.idx_layout.proofs.HeaderLemmas.{same_bytes}
 use Rattle.idx_scatter.specs.Asked.{Asked}

@@ -1,8 +1,7 @@
 -- The shape of a dataset of one field.
-use Rattle.std.proofs.Common.{◌≡◌, ℕ, ◌^◌, ◌<◌, List, [], ◌∷◌, length, map, sym, ap, ◌∙◌, arith}
+use Rattle.std.proofs.Common.{◌≡◌, ℕ, [], ◌∷◌, length, map, sym, ap, ◌∙◌, arith}
 use Rattle.std.specs.List.{range_with_len}
 use Rattle.std.proofs.lemmas.List.{length-map}
-use Rattle.idx_outside.specs.Shape.{Shape}
 use Rattle.idx_fields.specs.Field.{sample_bytes}
 use Rattle.idx_header.specs.Header.{HeaderValue, block_count}
 use Rattle.idx_header.specs.Header.{block_bytes as header_block_bytes}
