@@ -32,7 +32,8 @@ use Rattle.idx_layout.proofs.FileLemmas.{length-file_bytes, rows_of-file_bytes}
 use Rattle.idx_layout.proofs.HeaderLemmas.{fits_rows}
 use Rattle.idx_layout.proofs.ListLemmas.{passing}
 use Rattle.idx_layout.proofs.RightLemmas.{no_fault, rows_fit}
-use Rattle.idx_edition.specs.Stored.{HasFiles, bad_table, block_lengths, fault_of_bytes, fault_of_file, file_of_block, first_bad, stored_block}
+use Rattle.idx_layout.specs.Shape.{block_lengths}
+use Rattle.idx_edition.specs.Stored.{HasFiles, bad_table, fault_of_bytes, fault_of_file, file_of_block, first_bad, stored_block}
 use Rattle.idx_edition.specs.Tables.{bytes_by, row_among, value_at}
 use Rattle.idx_edition.specs.declared.load_fault.LoadFault.{LoadFault}
 use Rattle.idx_edition.proofs.HeldLemmas.{bytes_same}

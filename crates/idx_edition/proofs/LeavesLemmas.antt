@@ -14,7 +14,7 @@ use Rattle.idx_layout.specs.Layout.{Layout, block_bytes, file_numbers, is_presen
 use Rattle.idx_layout.specs.Files.{file_bytes, rows_of_file}
 use Rattle.idx_layout.specs.OfHeader.{layout_of}
 use Rattle.idx_layout.proofs.FileLemmas.{length-file_bytes}
-use Rattle.idx_edition.specs.Stored.{block_lengths, shape_of}
+use Rattle.idx_layout.specs.Shape.{block_lengths, shape_of}
 use Rattle.idx_edition.specs.Tables.{AreTablesOf, EndWithin, all_known, bytes_in, has_in_tables, stored_in, written_tables}
 use Rattle.idx_edition.specs.Loaded.{AreWritten, IsWrittenBlock, OfBlocks}
 use Rattle.idx_edition.proofs.LookupLemmas.{known_each}

@@ -14,7 +14,8 @@ use Rattle.idx_table.specs.declared.table_fault.TableKind.{TableKind}
 use Rattle.idx_table.specs.declared.table_fault.TableKind.TheVariants as kinds
 use Rattle.idx_layout.specs.Layout.{Layout, block_bytes}
 use Rattle.idx_layout.specs.Files.{row_count}
-use Rattle.idx_edition.specs.Stored.{bad_table, block_lengths, fault_of_bytes}
+use Rattle.idx_layout.specs.Shape.{block_lengths}
+use Rattle.idx_edition.specs.Stored.{bad_table, fault_of_bytes}
 use Rattle.idx_edition.specs.Tables.{EndWithin, IsTable}
 use Rattle.idx_edition.specs.Loaded.{IsCause}
 use Rattle.idx_edition.specs.declared.load_fault.LoadFault.{LoadFault}

@@ -18,7 +18,7 @@ use Rattle.idx_layout.specs.OfHeader.{layout_of}
 use Rattle.idx_layout.proofs.FileLemmas.{block_at_offset, length-rows_of_file, rows_of-file_bytes}
 use Rattle.idx_layout.proofs.HeaderLemmas.{fits_rows}
 use Rattle.idx_layout.proofs.RightLemmas.{no_fault, row_at_place, rows_fit}
-use Rattle.idx_edition.specs.Stored.{block_lengths}
+use Rattle.idx_layout.specs.Shape.{block_lengths}
 use Rattle.idx_edition.specs.Tables.{EndWithin, IsTable, bytes_by, bytes_in, has_in_tables, is_there, row_among, value_at, written_tables}
 use Rattle.idx_edition.proofs.AbsentLemmas.{absent_zeros, file_listed, some_block}
 use Rattle.idx_edition.proofs.FrontLemmas.{rows-right}

@@ -1,5 +1,5 @@
 -- What an edition is, and what loading one promises.
-use Rattle.std.specs.Prelude.{◌≡◌, ◌≢◌, ◌⊎◌, ℕ, Bool, ◌+◌, ◌<◌, ◌%◌, ◌^◌, List, ◌++◌, length, map, slice_get, slice_index, Option, Some, None, IfSome}
+use Rattle.std.specs.Prelude.{◌≡◌, ◌≢◌, ◌⊎◌, ℕ, Bool, ◌<◌, List, ◌++◌, length, map, slice_get, slice_index, Option, Some, None, IfSome}
 use Rattle.std.specs.Option.{option_map, ForSome}
 use Rattle.std.specs.List.{filter_map}
 use Rattle.idx_geom.specs.Region.{points}
@@ -61,10 +61,6 @@ IsCause IsBad bay_before bay_after before after NoMemory = (bay_after ≡ bay_be
 abbrev pub IsLoadCause : HeaderValue → ℕ → Option (List MemFile) → ℕ → ℕ → ℕ → ℕ → LoadFault → Type 0
 IsLoadCause h step known bay_before bay_after before after fault =
     IsCause (λ bad. IfSome known (λ files. first_bad h step files ≡ Some bad)) bay_before bay_after before after fault
-
--- so many reads were made, where reads are counted modulo 2^64
-abbrev pub MadeReads : ℕ → ℕ → ℕ → Type 0
-MadeReads before after reads = after % 2 ^ 64 ≡ (before + reads) % 2 ^ 64
 
 -- the rows, the path and the bytes of a file of the step
 abbrev pub found_table : HeaderValue → ℕ → ℕ → List ℕ → List Row × (List ℕ × Option (List ℕ))

@@ -1,28 +1,20 @@
 -- What a step stores, by the header and the committed files: the first faulty row of its files, and the bytes of each block.
-use Rattle.std.specs.Prelude.{◌≡◌, ℕ, Bool, false, ◌+◌, ◌-◌, ◌*◌, ◌==◌, nat_lt, if◌then◌else◌, List, length, map, take, drop, replicate, slice_get, Option, Some, None}
+use Rattle.std.specs.Prelude.{◌≡◌, ℕ, Bool, false, ◌+◌, ◌-◌, ◌*◌, ◌==◌, nat_lt, if◌then◌else◌, List, length, take, drop, replicate, slice_get, Option, Some, None}
 use Rattle.std.specs.Option.{option_map, IfSome}
-use Rattle.std.specs.List.{filter_map, list_any, range_with_len}
+use Rattle.std.specs.List.{filter_map, list_any}
 use Rattle.idx_outside.specs.Files.{file_at, HasStep as HasCommitted}
-use Rattle.idx_outside.specs.Shape.{Shape}
 use Rattle.idx_outside.specs.declared.mem_file.MemFile.{MemFile}
 use Rattle.idx_table.specs.Table.{first_fault, row_at}
 use Rattle.idx_table.specs.declared.row.Row.{Row}
 use Rattle.idx_table.specs.declared.table_fault.TableFault.{TableFault}
 use Rattle.idx_header.specs.Header.{HeaderValue, HasStep}
 use Rattle.idx_header.specs.Names.{file_name, step_folder}
-use Rattle.idx_layout.specs.Layout.{Layout, block_bytes, block_count, file_numbers, file_of}
+use Rattle.idx_layout.specs.Layout.{Layout, block_bytes, file_numbers, file_of}
 use Rattle.idx_layout.specs.Files.{file_bytes, row_count}
 use Rattle.idx_layout.specs.OfHeader.{layout_of}
+use Rattle.idx_layout.specs.Shape.{block_lengths}
 use Rattle.idx_edition.specs.declared.load_fault.LoadFault.{LoadFault}
 use Rattle.idx_edition.specs.declared.load_fault.LoadFault.TheVariants.{BadTable}
-
--- the bytes of a block of each field
-abbrev pub block_lengths : Layout → List ℕ
-block_lengths l = map (block_bytes l) (range_with_len 0 (length l.sizes))
-
--- how many blocks each step of a dataset has, present or not, and how many bytes a block of each field
-abbrev pub shape_of : HeaderValue → Shape
-shape_of h = record { blocks = block_count (layout_of h); lengths = block_lengths (layout_of h) }
 
 -- The step stands: the header has it, and where the header has a time, some committed file is of its folder.
 abbrev pub Stands : HeaderValue → ℕ → List MemFile → Type 0

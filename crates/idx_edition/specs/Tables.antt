@@ -6,7 +6,7 @@ use Rattle.idx_header.specs.Header.{HeaderValue}
 use Rattle.idx_layout.specs.Layout.{block_count, file_numbers}
 use Rattle.idx_layout.specs.Files.{rows_of_file}
 use Rattle.idx_layout.specs.OfHeader.{layout_of}
-use Rattle.idx_edition.specs.Stored.{block_lengths}
+use Rattle.idx_layout.specs.Shape.{block_lengths}
 use Rattle.idx_table.specs.declared.row.Row.{Row}
 
 -- how many blocks there are, and how many places for blocks in a file; the bytes of a block of each field; and the numbers of

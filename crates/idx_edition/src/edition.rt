@@ -1,14 +1,15 @@
 ghost use Rattle.std.specs.Prelude.{◌≡◌, ◌≢◌, ◌↔◌, ℕ, ◌+◌, ◌*◌, ◌<◌, List, None, Ok, Some, IfErr, IfOk, IfSome, OnOk, length};
 ghost use Rattle.std.specs.Option.{ForSome};
-ghost use Rattle.idx_outside.specs.Cause.{NeverFalls};
+ghost use Rattle.idx_outside.specs.Cause.{MadeReads, NeverFalls};
 ghost use Rattle.idx_outside.specs.Files.{StillAdmits, shown};
 ghost use Rattle.idx_header.specs.Header.{HasStep};
 ghost use Rattle.idx_header.specs.Names.{step_folder};
 ghost use Rattle.idx_layout.specs.Layout.{is_present};
 ghost use Rattle.idx_layout.specs.OfHeader.{layout_of};
-ghost use Rattle.idx_edition.specs.Stored.{Stands, shape_of};
+ghost use Rattle.idx_layout.specs.Shape.{shape_of};
+ghost use Rattle.idx_edition.specs.Stored.{Stands};
 ghost use Rattle.idx_edition.specs.Tables.{AreTablesOf, has_in_tables, shape_in, stored_in};
-ghost use Rattle.idx_edition.specs.Loaded.{AreWritten, HoldsStored, IsLoadCause, IsWrittenBlock, MadeReads, OfBlocks};
+ghost use Rattle.idx_edition.specs.Loaded.{AreWritten, HoldsStored, IsLoadCause, IsWrittenBlock, OfBlocks};
 
 use crate::LoadFault;
 use crate::lengths::block_lengths;

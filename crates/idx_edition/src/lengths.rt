@@ -1,6 +1,6 @@
 ghost use Rattle.std.specs.Prelude.{◌≡◌, ◌*◌, ◌≤◌, ◌^◌, IfOk, length};
 ghost use Rattle.idx_layout.specs.OfHeader.{layout_of};
-ghost use Rattle.idx_edition.specs.Stored.{block_lengths};
+ghost use Rattle.idx_layout.specs.Shape.{block_lengths};
 
 use idx_header::Header;
 use idx_outside::NoMemory;

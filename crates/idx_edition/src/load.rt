@@ -1,15 +1,16 @@
 ghost use Rattle.std.specs.Prelude.{◌≡◌, ◌≢◌, ◌↔◌, ◌⊎◌, ◌+◌, ◌*◌, ◌%◌, ◌^◌, ◌<◌, ◌≤◌, min, None, Some, Err, IfErr, IfOk, IfSome, IsTrue, OnErr, OnOk, length, take};
 ghost use Rattle.std.specs.Option.{ForSome, option_map};
-ghost use Rattle.idx_outside.specs.Cause.{NeverFalls, Rose};
+ghost use Rattle.idx_outside.specs.Cause.{MadeReads, NeverFalls, Rose};
 ghost use Rattle.idx_outside.specs.Files.{HasStep as HasCommitted, StillAdmits, entry_shown, file_at, stored_at};
 ghost use Rattle.idx_table.specs.Table.{first_fault, rows_of, table_bytes};
 ghost use Rattle.idx_header.specs.Header.{IsHeader};
 ghost use Rattle.idx_header.specs.Names.{file_name, step_folder};
 ghost use Rattle.idx_layout.specs.Files.{row_count};
 ghost use Rattle.idx_layout.specs.OfHeader.{layout_of};
-ghost use Rattle.idx_edition.specs.Stored.{block_lengths, fault_of_bytes, fault_of_file};
+ghost use Rattle.idx_layout.specs.Shape.{block_lengths};
+ghost use Rattle.idx_edition.specs.Stored.{fault_of_bytes, fault_of_file};
 ghost use Rattle.idx_edition.specs.Tables.{EndWithin, IsTable};
-ghost use Rattle.idx_edition.specs.Loaded.{IsCause, MadeReads, table_at};
+ghost use Rattle.idx_edition.specs.Loaded.{IsCause, table_at};
 
 use crate::LoadFault;
 use crate::lengths::row_count;

@@ -2,7 +2,7 @@ ghost use Rattle.std.specs.Prelude.{◌≡◌, ℕ, ◌*◌, ◌+◌, ◌/◌, �
 ghost use Rattle.idx_header.specs.Header.{IsHeader};
 ghost use Rattle.idx_table.specs.declared.row.Row.{Row};
 ghost use Rattle.idx_layout.specs.OfHeader.{layout_of};
-ghost use Rattle.idx_edition.specs.Stored.{block_lengths};
+ghost use Rattle.idx_layout.specs.Shape.{block_lengths};
 ghost use Rattle.idx_edition.specs.Tables.{AreTables, IsTable, RiseFrom, StandsAt, has_in_tables, tables_of, written_tables};
 
 use crate::lengths::block_lengths;

@@ -1,5 +1,5 @@
 ghost use Rattle.std.specs.Prelude.{◌≡◌, IfOk};
-ghost use Rattle.idx_edition.specs.Stored.{shape_of};
+ghost use Rattle.idx_layout.specs.Shape.{shape_of};
 ghost use Rattle.idx_edition.specs.Tables.{shape_in};
 
 use crate::{Edition, LoadFault};

@@ -4,6 +4,7 @@ pub mod Files
 pub mod FileNumbers
 pub mod Runs
 pub mod OfHeader
+pub mod Shape
 pub mod Step
 pub mod Worked
 pub use Rattle.idx_hz.specs.Mask

@@ -21,7 +21,8 @@ use Rattle.idx_plan.specs.Needed.{answer_bytes, key_of, needed, needed_keys, pla
 use Rattle.idx_plan.specs.Plan.{PlanValue, asked_of}
 use Rattle.idx_plan.specs.declared.ask.Ask.{Ask}
 use Rattle.idx_plan.proofs.AnswerLemmas.{copied, needed-block}
-use Rattle.idx_query.specs.Blocks.{AreCopied, IsPlanOf, blocks_of, lacking, shape_of}
+use Rattle.idx_layout.specs.Shape.{shape_of}
+use Rattle.idx_query.specs.Blocks.{AreCopied, IsPlanOf, blocks_of, lacking}
 use Rattle.idx_query.proofs.CopyLemmas.{KnownCopied}
 
 -- ---- what a plan says, by its question

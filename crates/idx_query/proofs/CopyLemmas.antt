@@ -12,7 +12,8 @@ use Rattle.idx_hall.specs.declared.key.Key.{Key}
 use Rattle.idx_hz.specs.Address.{hz_address}
 use Rattle.idx_scatter.specs.Scatter.{IsScattered, sample_of}
 use Rattle.idx_plan.specs.Plan.{PlanValue}
-use Rattle.idx_query.specs.Blocks.{AreCopied, MadeReads, blocks_of, lacking}
+use Rattle.idx_outside.specs.Cause.{MadeReads}
+use Rattle.idx_query.specs.Blocks.{AreCopied, blocks_of, lacking}
 use Rattle.idx_query.specs.declared.once.Once.{Once}
 
 -- the key at a place

@@ -8,7 +8,7 @@ use Rattle.idx_header.specs.Header.{block_bytes as header_block_bytes}
 use Rattle.idx_layout.specs.Layout.{block_bytes}
 use Rattle.idx_layout.specs.OfHeader.{layout_of}
 use Rattle.idx_layout.proofs.HeaderLemmas.{same_bytes}
-use Rattle.idx_query.specs.Blocks.{shape_of}
+use Rattle.idx_layout.specs.Shape.{shape_of}
 
 pub shape_one : (h : HeaderValue) (blocks bytes : ℕ) → length h.fields ≡ 1 → block_count h ≡ blocks → header_block_bytes h 0 ≡ bytes → record { blocks = blocks; lengths = bytes ∷ [] } ≡ shape_of h
 shape_one h blocks bytes one count each =

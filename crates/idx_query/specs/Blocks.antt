@@ -1,31 +1,17 @@
 -- The blocks that an answer is copied from.
-use Rattle.std.specs.Prelude.{◌≡◌, ℕ, Bool, ◌+◌, ◌/◌, ◌%◌, ◌^◌, not, List, length, map, filter, Contains, slice_get, Some}
-use Rattle.std.specs.List.{range_with_len}
-use Rattle.idx_outside.specs.Shape.{Shape}
+use Rattle.std.specs.Prelude.{◌≡◌, ℕ, Bool, ◌/◌, ◌%◌, ◌^◌, not, List, length, map, filter, Contains, slice_get, Some}
 use Rattle.idx_hall.specs.declared.key.Key.{Key}
 use Rattle.idx_hz.specs.Address.{hz_address}
 use Rattle.idx_header.specs.Header.{HeaderValue, sample_bytes_of}
-use Rattle.idx_layout.specs.Layout.{block_bytes, block_count}
-use Rattle.idx_layout.specs.OfHeader.{layout_of}
 use Rattle.idx_scatter.specs.Asked.{asked_points}
 use Rattle.idx_scatter.specs.Scatter.{sample_of}
 use Rattle.idx_plan.specs.Needed.{answer_bytes, needed_keys}
 use Rattle.idx_plan.specs.Plan.{PlanValue, asked_of}
 use Rattle.idx_plan.specs.declared.ask.Ask.{Ask}
 
--- how many blocks each step of a dataset has, present or not, and how many bytes a block of each field
-abbrev pub shape_of : HeaderValue → Shape
-shape_of h =
-    let l = layout_of h in
-    record { blocks = block_count l; lengths = map (block_bytes l) (range_with_len 0 (length l.sizes)) }
-
 -- how many of some blocks are lacking, by a test of which are there
 abbrev pub lacking : (ℕ → Bool) → List ℕ → ℕ
 lacking has blocks = length (filter (λ block. not (has block)) blocks)
-
--- so many reads were made, where reads are counted modulo 2^64
-abbrev pub MadeReads : ℕ → ℕ → ℕ → Type 0
-MadeReads before after reads = after % 2 ^ 64 ≡ (before + reads) % 2 ^ 64
 
 -- what is true of the plan of a question
 pub record IsPlanOf (h : HeaderValue) (ask : Ask) (plan : PlanValue) : Type 0 where

@@ -1,10 +1,11 @@
 ghost use Rattle.std.specs.Prelude.{◌≡◌, ◌⊎◌, ◌+◌, ◌<◌, ◌++◌, Err, IfErr, IfOk, IfSome, None, OnErr, OnOk, Some, length, take};
-ghost use Rattle.idx_outside.specs.Cause.{NeverFalls};
+ghost use Rattle.idx_outside.specs.Cause.{MadeReads, NeverFalls};
 ghost use Rattle.idx_header.specs.Header.{block_bytes};
 ghost use Rattle.idx_plan.specs.Answer.{answer_of};
 ghost use Rattle.idx_plan.specs.Needed.{answer_bytes, needed, plan_fault};
 ghost use Rattle.idx_plan.specs.declared.plan_fault.PlanFault.{PlanFault};
-ghost use Rattle.idx_query.specs.Blocks.{IsPlanOf, MadeReads, lacking, shape_of};
+ghost use Rattle.idx_layout.specs.Shape.{shape_of};
+ghost use Rattle.idx_query.specs.Blocks.{IsPlanOf, lacking};
 ghost use Rattle.idx_query.specs.Fault.{IsCaused};
 
 use crate::copying::copy_blocks;

@@ -1,7 +1,7 @@
 ghost use Rattle.std.specs.Prelude.{◌≡◌, ◌↔◌, ◌+◌, ◌*◌, ◌^◌, ◌<◌, All, IfOk, IfSome, OnErr, OnOk, Some, false, length, slice_get, slice_index};
-ghost use Rattle.idx_outside.specs.Cause.{NeverFalls, Rose};
+ghost use Rattle.idx_outside.specs.Cause.{MadeReads, NeverFalls, Rose};
 ghost use Rattle.idx_scatter.specs.Scatter.{IsScattered};
-ghost use Rattle.idx_query.specs.Blocks.{AreCopied, MadeReads, blocks_of, lacking};
+ghost use Rattle.idx_query.specs.Blocks.{AreCopied, blocks_of, lacking};
 
 use crate::Once;
 use idx_hall::Key;

@@ -3,7 +3,7 @@ use Rattle.std.specs.Option.{ForSome}
 use Rattle.idx_outside.specs.Files.{shown}
 use Rattle.idx_layout.specs.Layout.{is_present}
 use Rattle.idx_layout.specs.OfHeader.{layout_of}
-use Rattle.idx_edition.specs.Stored.{shape_of}
+use Rattle.idx_layout.specs.Shape.{shape_of}
 use Rattle.idx_edition.specs.Tables.{AreTablesOf, TablesValue, has_in_tables, stored_in}
 use Rattle.idx_edition.specs.Loaded.{IsWrittenBlock, OfBlocks}
 use Rattle.idx_edition.proofs.LeavesLemmas.{leaves_fit, leaves_have, leaves_stored}

@@ -2,8 +2,9 @@ use Rattle.std.proofs.Common.{◌≡◌, ℕ, ◌++◌, List, Some, length}
 use Rattle.std.specs.Prelude.{IfSome, slice_get}
 use Rattle.idx_outside.specs.Files.{StillAdmits, shown}
 use Rattle.idx_table.specs.declared.row.Row.{Row}
+use Rattle.idx_outside.specs.Cause.{MadeReads}
 use Rattle.idx_edition.specs.Tables.{AreTablesOf, IsTable, RiseFrom}
-use Rattle.idx_edition.specs.Loaded.{HoldSoFar, MadeReads}
+use Rattle.idx_edition.specs.Loaded.{HoldSoFar}
 use Rattle.idx_edition.proofs.edition.Edition.open_files.Given as goal
 
 -- the numbers, tables and files so far are those of the files before the ones that are left
