@@ -5,6 +5,7 @@ pub mod HasMaskLemmas
 pub mod WitnessLemmas
 pub mod CutLemmas
 pub mod InfoLemmas
+pub mod RightLemmas
 pub mod ConvertLemmas
 pub mod BuiltLemmas
 pub mod WordsLemmas

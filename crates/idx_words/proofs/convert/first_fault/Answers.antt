@@ -1,17 +1,19 @@
 use Rattle.std.proofs.Common.{◌≡◌, ℕ, ◌<◌, List, map, string_bytes, sym, ap, ◌∙◌, subst, arith, below_more}
 use Rattle.std.proofs.lemmas.Bool.{false≢true}
 use Rattle.std.proofs.lemmas.List.{length-map}
+use Rattle.idx_words.specs.declared.convert_word.ConvertWord.TheVariants as words
 use Rattle.idx_words.specs.ConvertWord.{place_of, is_right_at}
 use Rattle.idx_words.specs.WordAt.{word_at}
 use Rattle.idx_words.specs.Place.{IsPlace}
 use Rattle.idx_words.specs.Words.{AreSomeConvertWords}
-use Rattle.idx_words.proofs.ConvertLemmas.{order, nth, Fault, place_is, convert_wrong, convert_right}
+use Rattle.idx_words.proofs.RightLemmas.{nth, Fault}
+use Rattle.idx_words.proofs.ConvertLemmas.{order, place_is, convert_wrong, convert_right}
 use Rattle.idx_words.proofs.convert.first_fault.Goals as goal
 
 -- the word at the place is right or wrong as the test says
-tested : (ws : List (List ℕ)) (k place : ℕ) → k < 10 → (word : List ℕ) → place ≡ place_of (nth order k) → word ≡ word_at ws place →
-    is_right_at (nth order k) word ≡ is_right_at (nth order k) (word_at ws k)
-tested ws k place less word at is = ap (is_right_at (nth order k)) (is ∙ ap (word_at ws) (at ∙ place_is k less))
+tested : (ws : List (List ℕ)) (k place : ℕ) → k < 10 → (word : List ℕ) → place ≡ place_of (nth words.Dataset order k) → word ≡ word_at ws place →
+    is_right_at (nth words.Dataset order k) word ≡ is_right_at (nth words.Dataset order k) (word_at ws k)
+tested ws k place less word at is = ap (is_right_at (nth words.Dataset order k)) (is ∙ ap (word_at ws) (at ∙ place_is k less))
 
 -- a word that is wrong
 wrong_word : (c : goal.Then-not-accepts) → Fault AreSomeConvertWords (map string_bytes c.args.words.now) c.loop-word.word-index
