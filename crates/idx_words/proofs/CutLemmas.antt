@@ -75,12 +75,12 @@ present ws k some = ⊎_elim
     (λ (past : length ws ≤ k). absurd (some (get_or_past ws k [] past)))
     (cases_lt k (length ws))
 
-number_some : (word : List ℕ) (n : ℕ) → number_of word ≡ Some n → word ≡ [] → ⊥
+pub number_some : (word : List ℕ) (n : ℕ) → number_of word ≡ Some n → word ≡ [] → ⊥
 unfolding number_of
 number_some [] n h e = cc
 number_some (b ∷ bs) n h e = cc
 
-box_some : (word : List ℕ) (r : List (ℕ × ℕ)) → SpellsRegion word r → word ≡ [] → ⊥
+pub box_some : (word : List ℕ) (r : List (ℕ × ℕ)) → SpellsRegion word r → word ≡ [] → ⊥
 unfolding numbers_of
 box_some [] [] h e = absurd (omega (arith, h.lower.axes.0))
 box_some [] (b ∷ bs) h e = let none = h.numbers in cc

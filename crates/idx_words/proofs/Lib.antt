@@ -7,5 +7,6 @@ pub mod CutLemmas
 pub mod InfoLemmas
 pub mod RightLemmas
 pub mod ConvertLemmas
+pub mod QueryLemmas
 pub mod BuiltLemmas
 pub mod WordsLemmas

@@ -1,5 +1,5 @@
 -- Words that are right or wrong by their places alone: the place of a fault is that of the first wrong one.
-use Rattle.std.proofs.Common.{◌≡◌, ℕ, zero, suc, ◌+◌, ◌<◌, ◌≤◌, List, [], ◌∷◌, length, Option, Some, None, IsTrue, refl, subst, arith}
+use Rattle.std.proofs.Common.{◌≡◌, ◌↔◌, ℕ, zero, suc, ◌+◌, ◌<◌, ◌≤◌, List, [], ◌∷◌, length, Option, Some, None, IsTrue, refl, ap, subst, arith}
 use Rattle.std.specs.List.{slice_index_or}
 use Rattle.std.specs.Option.{is_some}
 use Rattle.std.proofs.lemmas.Bool.{false≢true}
@@ -108,9 +108,16 @@ placed place_of other [] from follow k less = absurd (omega arith)
 placed place_of other (p ∷ places) from follow zero less = omega (arith, follow.0)
 placed place_of other (p ∷ places) from follow (suc k) less = omega (arith, placed place_of other places (from + 1) follow.1 k (omega arith))
 
--- ---- numbers
+-- ---- values that may be there
 
 -- a value that is there
 pub there : {T : Type 0} (found : Option T) → IsTrue (is_some found) → (n : T) × (found ≡ Some n)
 there None h = absurd (false≢true h)
 there (Some n) h = (n, refl)
+
+-- a reader finds a value exactly where there is one to be found
+pub there_is : {T : Type 0} (found : Option T) (P : T → Type 0) → ((v : T) → (found ≡ Some v) ↔ P v) → IsTrue (is_some found) ↔ ((v : T) × P v)
+there_is found P h = (
+  (λ is. let v = there found is in (v.0, (h v.0).0 v.1)),
+  (λ has. ap is_some ((h has.0).1 has.1)),
+)

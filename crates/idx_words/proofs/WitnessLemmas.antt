@@ -21,12 +21,12 @@ number_1 : number_of (codes "1") ≡ Some 1
 unfolding number_of
 number_1 = refl
 
-number_0 : number_of (codes "0") ≡ Some 0
+pub number_0 : number_of (codes "0") ≡ Some 0
 unfolding number_of
 number_0 = refl
 
 -- the box of one point, the origin
-origin : List (ℕ × ℕ)
+pub origin : List (ℕ × ℕ)
 origin = (0, 0) ∷ (0, 0) ∷ []
 
 numbers_0000 : numbers_of (codes "0 0 0 0") ≡ Some (both_ends origin)
@@ -39,7 +39,7 @@ zeros = record {
   small = All-cons (λ x. x < 2 ^ 40) 0 (0 ∷ []) (lit< tt) (All-cons (λ x. x < 2 ^ 40) 0 [] (lit< tt) (All-nil (λ x. x < 2 ^ 40)));
 }
 
-spells_origin : SpellsRegion (codes "0 0 0 0") origin
+pub spells_origin : SpellsRegion (codes "0 0 0 0") origin
 unfolding origin
 spells_origin =
     record {

@@ -6,6 +6,9 @@ pub mod CutSteps
 pub mod ConvertValue
 pub mod ConvertGrammar
 pub mod ConvertWord
+pub mod QueryValue
+pub mod QueryGrammar
+pub mod QueryWord
 pub mod Built
 pub mod Place
 pub mod Words

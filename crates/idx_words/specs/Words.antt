@@ -1,12 +1,14 @@
 -- What a list of words stands for: a command with its values.
 use Rattle.std.specs.Prelude.{◌≡◌, ℕ, List, [], ◌∷◌, IsTrue, codes}
 use Rattle.idx_words.specs.declared.command.Command.{Command}
-use Rattle.idx_words.specs.declared.command.Command.TheVariants.{Cut, Info, Convert}
+use Rattle.idx_words.specs.declared.command.Command.TheVariants.{Cut, Info, Convert, Query}
 use Rattle.idx_words.specs.PathWord.{is_path}
 use Rattle.idx_words.specs.declared.cut_words.CutWords.{CutWords}
 use Rattle.idx_words.specs.CutGrammar.{AreCutWords, IsSound}
 use Rattle.idx_words.specs.ConvertValue.{ConvertValue}
 use Rattle.idx_words.specs.ConvertGrammar.{AreConvertWords}
+use Rattle.idx_words.specs.QueryValue.{QueryValue}
+use Rattle.idx_words.specs.QueryGrammar.{AreQueryWords}
 use Rattle.idx_words.specs.Place.{IsPlace}
 
 -- the words behind the command are those of `info`: DATASET alone
@@ -20,6 +22,7 @@ Give [] command = ⊥
 Give (name ∷ words) (Cut c) = (name ≡ codes "cut") × AreCutWords words c
 Give (name ∷ words) Info = (name ≡ codes "info") × AreInfoWords words
 Give (name ∷ words) (Convert c) = (name ≡ codes "convert") × AreConvertWords words c
+Give (name ∷ words) (Query c) = (name ≡ codes "query") × AreQueryWords words c
 
 -- the words are in the grammar
 abbrev pub GiveCommand : List (List ℕ) → Type 0
@@ -37,27 +40,41 @@ GiveInfo words = Give words Info
 abbrev pub GiveConvert : List (List ℕ) → Type 0
 GiveConvert words = (c : ConvertValue) × Give words (Convert c)
 
+-- the words are those of `query`
+abbrev pub GiveQuery : List (List ℕ) → Type 0
+GiveQuery words = (c : QueryValue) × Give words (Query c)
+
 -- what is so of the values of a command
 abbrev pub IsSoundCommand : Command → Type 0
 IsSoundCommand (Cut c) = IsSound c
 IsSoundCommand Info = Unit {0}
 IsSoundCommand (Convert c) = Unit {0}
+IsSoundCommand (Query c) = Unit {0}
 
 -- which command it is
 abbrev pub IsCut : Command → Type 0
 IsCut (Cut c) = Unit {0}
 IsCut Info = ⊥
 IsCut (Convert c) = ⊥
+IsCut (Query c) = ⊥
 
 abbrev pub IsInfo : Command → Type 0
 IsInfo (Cut c) = ⊥
 IsInfo Info = Unit {0}
 IsInfo (Convert c) = ⊥
+IsInfo (Query c) = ⊥
 
 abbrev pub IsConvert : Command → Type 0
 IsConvert (Cut c) = ⊥
 IsConvert Info = ⊥
 IsConvert (Convert c) = Unit {0}
+IsConvert (Query c) = ⊥
+
+abbrev pub IsQuery : Command → Type 0
+IsQuery (Cut c) = ⊥
+IsQuery Info = ⊥
+IsQuery (Convert c) = ⊥
+IsQuery (Query c) = Unit {0}
 
 -- the words behind the command are those of `cut`
 abbrev pub AreSomeCutWords : List (List ℕ) → Type 0
@@ -66,6 +83,10 @@ AreSomeCutWords words = (c : CutWords) × AreCutWords words c
 -- the words behind the command are those of `convert`
 abbrev pub AreSomeConvertWords : List (List ℕ) → Type 0
 AreSomeConvertWords words = (c : ConvertValue) × AreConvertWords words c
+
+-- the words behind the command are those of `query`
+abbrev pub AreSomeQueryWords : List (List ℕ) → Type 0
+AreSomeQueryWords words = (c : QueryValue) × AreQueryWords words c
 
 -- the place of a usage fault: that of the first word that is wrong or missing
 abbrev pub IsUsagePlace : List (List ℕ) → ℕ → Type 0

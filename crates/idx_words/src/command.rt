@@ -1,5 +1,6 @@
 use crate::convert_words::ConvertWords;
 use crate::cut_words::CutWords;
+use crate::query_words::QueryWords;
 
 /// A command with the values that its words stand for.
 #[derive(Debug, Drop)]
@@ -10,4 +11,6 @@ pub enum Command<'w> {
     Info,
     /// `convert DATASET RAW BOX FIELDS MASK BITS PERFILE TEMPLATE TIME STEP`
     Convert(ConvertWords<'w>),
+    /// `query DATASET TIME FIELD REGION LO HI`
+    Query(QueryWords<'w>),
 }

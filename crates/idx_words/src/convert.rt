@@ -5,6 +5,7 @@ ghost use Rattle.idx_words.specs.ConvertGrammar.{AreConvertWords};
 ghost use Rattle.idx_words.specs.ConvertValue.{ConvertValue};
 ghost use Rattle.idx_words.specs.ConvertWord.{place_of};
 ghost use Rattle.idx_words.specs.Place.{IsPlace, IsPlaceBehind};
+ghost use Rattle.idx_words.specs.QueryValue.{QueryValue};
 ghost use Rattle.idx_words.specs.Words.{AreSomeConvertWords, IsSoundCommand};
 
 use crate::command::Command;
@@ -35,6 +36,7 @@ pub fn convert_command(words: &[String]) -> Result<Command<'_>, Misread>
         (result ≡ Ok (Command.Convert c)) ↔ AreConvertWords (map string_bytes words.now) c }
     ensures no_info { result ≢ Ok Command.Info }
     ensures no_cut { (c : CutWords) → result ≢ Ok (Command.Cut c) }
+    ensures no_query { (c : QueryValue) → result ≢ Ok (Command.Query c) }
     ensures sound { IfOk result IsSoundCommand }
     ensures place { IfErr result (λ misread.
         IsPlaceBehind AreSomeConvertWords (map string_bytes words.now) misread.at) }

@@ -7,10 +7,11 @@ use crate::convert::convert_command;
 use crate::cut::cut_command;
 use crate::info::info_command;
 use crate::misread::Misread;
+use crate::query::query_command;
 
 const NO_COMMAND: Misread = Misread {
     at: 0,
-    expected: "a command: cut, info or convert",
+    expected: "a command: cut, info, convert or query",
 };
 
 /// The command that the words give. Where they are not in the grammar, the first word that is wrong or missing: no list
@@ -32,6 +33,9 @@ pub fn read_words(words: &[String]) -> Result<Command<'_>, Misread>
     if is_convert(name.as_bytes()) {
         return convert_command(words);
     }
+    if is_query(name.as_bytes()) {
+        return query_command(words);
+    }
     Err(NO_COMMAND)
 }
 
@@ -51,4 +55,10 @@ fn is_convert(word: &[u8]) -> bool
     ensures { IsTrue result ↔ (word.now ≡ codes "convert") }
 {
     word == b"convert".as_slice()
+}
+
+fn is_query(word: &[u8]) -> bool
+    ensures { IsTrue result ↔ (word.now ≡ codes "query") }
+{
+    word == b"query".as_slice()
 }

@@ -1,0 +1,10 @@
+-- The values that the words of the command `query` stand for.
+use Rattle.std.specs.Prelude.{ℕ, List}
+
+-- the number of the step, the field's name as it was given, the region, and the coarsest and the finest level
+pub record QueryValue : Type 0 where
+  pub time : ℕ
+  pub field : List ℕ
+  pub region : List (ℕ × ℕ)
+  pub lo : ℕ
+  pub hi : ℕ
