@@ -1,5 +1,5 @@
 -- The words of `query`: each is right or wrong by its place alone.
-use Rattle.std.proofs.Common.{◌≡◌, ◌↔◌, ℕ, ◌+◌, ◌<◌, ◌≤◌, List, [], ◌∷◌, length, map, Option, Some, None, IsTrue, codes, refl, sym, ap, ◌∙◌, subst, arith, lit<}
+use Rattle.std.proofs.Common.{◌≡◌, ◌↔◌, ℕ, ◌<◌, ◌≤◌, List, [], ◌∷◌, length, map, Option, Some, None, codes, refl, sym, ap, ◌∙◌, subst, arith, lit<}
 use Rattle.std.specs.List.{slice_index_or}
 use Rattle.std.specs.Option.{is_some}
 use Rattle.std.proofs.lemmas.Bool.{false≢true}
@@ -7,8 +7,7 @@ use Rattle.std.proofs.lemmas.Option.{same_Some}
 use Rattle.idx_text.specs.Number.{number_of}
 use Rattle.idx_words.specs.declared.query_word.QueryWord.{QueryWord}
 use Rattle.idx_words.specs.declared.query_word.QueryWord.TheVariants as words
-use Rattle.idx_words.specs.PathWord.{is_path}
-use Rattle.idx_words.specs.Place.{Begins, IsPlace}
+use Rattle.idx_words.specs.Place.{Begins}
 use Rattle.idx_words.specs.QueryGrammar.{AreQueryWords, SpellsLevel}
 use Rattle.idx_words.specs.QueryValue.{QueryValue}
 use Rattle.idx_words.specs.QueryWord.{place_of, IsRightAt}

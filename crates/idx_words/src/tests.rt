@@ -100,6 +100,85 @@ fn each_word_of_convert_has_its_place(rt: HostRuntime) -> Result<(), Fail> {
 }
 
 #[test]
+fn each_word_of_query_has_its_place(rt: HostRuntime) -> Result<(), Fail> {
+    for (line, place) in [
+        ("Query|v.idx|0|a|0 3 0 3|0|2", 0),
+        ("query", 1),
+        ("query|-v.idx|0", 1),
+        ("query||0|a|0 3 0 3|0|2", 1),
+        ("query|v.idx", 2),
+        ("query|v.idx|-1", 2),
+        ("query|v.idx|first|a|0 3 0 3|0|2", 2),
+        ("query|v.idx|00000000000000000000|a", 2),
+        ("query|v.idx|0", 3),
+        ("query|v.idx|0|-a|0 3 0 3|0|2", 3),
+        ("query|v.idx|0|a\tb|0 3 0 3|0|2", 3),
+        ("query|v.idx|0||0 3|0|2", 3),
+        ("query|v.idx|0|a", 4),
+        ("query|v.idx|0|a|0 3|0|2", 4),
+        ("query|v.idx|0|a|0 3 3 0|0|2", 4),
+        ("query|v.idx|0|a|0 3 0 3 0|x", 4),
+        ("query|v.idx|0|a|0 0 0 0 0 0 0 0 0 0 0 0|0|2", 4),
+        ("query|v.idx|0|a|0 3 0 3", 5),
+        ("query|v.idx|0|a|0 3 0 3|4294967296|2", 5),
+        ("query|v.idx|0|a|0 3 0 3|+0|2", 5),
+        ("query|v.idx|0|a|0 3 0 3|0", 6),
+        ("query|v.idx|0|a|0 3 0 3|0|4294967296", 6),
+        ("query|v.idx|0|a|0 3 0 3|0|", 6),
+        ("query|v.idx|0|a|0 3 0 3|0|2|3", 7),
+        ("query|v.idx|0|a|0 3 0 3|0|2|", 7),
+        ("query|v.idx|0|a|0 3 0 3|0|2|--cache|64", 7),
+    ] {
+        let words = words_in(rt.alloc(), line)?;
+        assert_eq!(rt; wrong_place(&words), Some(place), "{line}");
+    }
+    Ok(())
+}
+
+#[test]
+fn words_of_query_are_read(rt: HostRuntime) -> Result<(), Fail> {
+    for (line, time, field, points, lo, hi) in [
+        ("query|v.idx|0|a|0 3 0 3|0|4", 0, "a", 16, 0, 4),
+        (
+            "query|v.idx|0000000000000000009|pressure (mean)| 1\t2  01 03\t|00|02",
+            9,
+            "pressure (mean)",
+            6,
+            0,
+            2,
+        ),
+        (
+            "query|v|9999999999999999999|(a)|1 1 2 2 3 3 4 4 5 5|4294967295|0",
+            9_999_999_999_999_999_999,
+            "(a)",
+            1,
+            u32::MAX,
+            0,
+        ),
+        (
+            "query|v|0|a|0 0 0 0|0|0000000004294967295",
+            0,
+            "a",
+            1,
+            0,
+            u32::MAX,
+        ),
+    ] {
+        let words = words_in(rt.alloc(), line)?;
+        let Ok(Command::Query(query)) = read_words(&words) else {
+            assert!(rt; false, "{line}");
+            return Ok(());
+        };
+        assert_eq!(rt; query.time, time, "{line}");
+        assert_eq!(rt; query.field, field.as_bytes(), "{line}");
+        assert_eq!(rt; query.region.count(), points, "{line}");
+        assert_eq!(rt; query.lo, lo, "{line}");
+        assert_eq!(rt; query.hi, hi, "{line}");
+    }
+    Ok(())
+}
+
+#[test]
 fn words_of_convert_ask_for_a_header(rt: HostRuntime) -> Result<(), Fail> {
     for (extent, mask, bits) in [
         ("0 3 0 3", "V0101", "V0101"),

@@ -1,6 +1,5 @@
-use Rattle.std.proofs.Common.{◌≡◌, ◌↔◌, ℕ, ◌<◌, ◌≤◌, List, length, map, string_bytes, sym, ap, ◌∙◌, subst, arith, below_more, ⊎_elim}
+use Rattle.std.proofs.Common.{◌≡◌, ℕ, ◌<◌, ◌≤◌, List, length, map, string_bytes, sym, ap, ◌∙◌, subst, arith, below_more, ⊎_elim}
 use Rattle.std.proofs.lemmas.Bool.{cases_lt, false≢true}
-use Rattle.std.proofs.lemmas.List.{length-map}
 use Rattle.idx_words.specs.declared.query_word.QueryWord.TheVariants as words
 use Rattle.idx_words.specs.QueryWord.{place_of, IsRightAt}
 use Rattle.idx_words.specs.WordAt.{word_at}

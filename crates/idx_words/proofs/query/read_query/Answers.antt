@@ -1,4 +1,4 @@
-use Rattle.std.proofs.Common.{◌≡◌, ℕ, List, [], ◌∷◌, map, Some, None, string_bytes, refl, sym, ap, ◌∙◌, subst}
+use Rattle.std.proofs.Common.{ℕ, List, map, string_bytes, sym, ap, ◌∙◌, subst}
 use Rattle.idx_text.specs.BoxText.{SpellsRegion}
 use Rattle.idx_text.specs.Number.{number_of}
 use Rattle.idx_words.specs.PathWord.{is_path}
@@ -11,40 +11,40 @@ pub returns-in_err-read_box : goal.returns-in_err-read_box
 returns-in_err-read_box c =
     let ws : List (List ℕ) = map string_bytes c.args.words.now in
     let six = six_words string_bytes c.args.words.now _ _ _ _ _ _ c.in-len6.len_at_least c.in-len6.len_below
-        c.dataset-item.is c.time-item.is c.field-item.is c.region-item.is c.lo-item.is c.hi-item.is in
+    c.dataset-item.is c.time-item.is c.field-item.is c.region-item.is c.lo-item.is c.hi-item.is in
     query_refused c.from_residual-in_err-read_box.result ws c.from_residual-in_err-read_box.ensures (λ value are.
-        let spelled = subst (λ t. AreQueryWords t value) six are in
-        let found = (c.read_box.ensures value.region).1 (subst (λ w. SpellsRegion w value.region) (sym c.as_bytes-4.ensures.value) spelled.1.region_word) in
-        let none = c.in_err-read_box.was in
-        cc)
+    let spelled = subst (λ t. AreQueryWords t value) six are in
+    let found = (c.read_box.ensures value.region).1 (subst (λ w. SpellsRegion w value.region) (sym c.as_bytes-4.ensures.value) spelled.1.region_word) in
+    let none = c.in_err-read_box.was in
+    cc)
 
 pub returns-in_err-read_level : goal.returns-in_err-read_level
 returns-in_err-read_level c =
     let ws : List (List ℕ) = map string_bytes c.args.words.now in
     let six = six_words string_bytes c.args.words.now _ _ _ _ _ _ c.in-len6.len_at_least c.in-len6.len_below
-        c.dataset-item.is c.time-item.is c.field-item.is c.region-item.is c.lo-item.is c.hi-item.is in
+    c.dataset-item.is c.time-item.is c.field-item.is c.region-item.is c.lo-item.is c.hi-item.is in
     query_refused c.from_residual-in_err-read_level.result ws c.from_residual-in_err-read_level.ensures (λ value are.
-        let spelled = subst (λ t. AreQueryWords t value) six are in
-        let found = (c.read_level.ensures value.lo).1 (subst (λ w. SpellsLevel w value.lo) (sym c.as_bytes-5.ensures.value) spelled.1.lo_word) in
-        let none = c.in_err-read_level.was in
-        cc)
+    let spelled = subst (λ t. AreQueryWords t value) six are in
+    let found = (c.read_level.ensures value.lo).1 (subst (λ w. SpellsLevel w value.lo) (sym c.as_bytes-5.ensures.value) spelled.1.lo_word) in
+    let none = c.in_err-read_level.was in
+    cc)
 
 pub returns-in_err-read_level-2 : goal.returns-in_err-read_level-2
 returns-in_err-read_level-2 c =
     let ws : List (List ℕ) = map string_bytes c.args.words.now in
     let six = six_words string_bytes c.args.words.now _ _ _ _ _ _ c.in-len6.len_at_least c.in-len6.len_below
-        c.dataset-item.is c.time-item.is c.field-item.is c.region-item.is c.lo-item.is c.hi-item.is in
+    c.dataset-item.is c.time-item.is c.field-item.is c.region-item.is c.lo-item.is c.hi-item.is in
     query_refused c.from_residual-in_err-read_level-2.result ws c.from_residual-in_err-read_level-2.ensures (λ value are.
-        let spelled = subst (λ t. AreQueryWords t value) six are in
-        let found = (c.read_level-2.ensures value.hi).1 (subst (λ w. SpellsLevel w value.hi) (sym c.as_bytes-6.ensures.value) spelled.1.hi_word) in
-        let none = c.in_err-read_level-2.was in
-        cc)
+    let spelled = subst (λ t. AreQueryWords t value) six are in
+    let found = (c.read_level-2.ensures value.hi).1 (subst (λ w. SpellsLevel w value.hi) (sym c.as_bytes-6.ensures.value) spelled.1.hi_word) in
+    let none = c.in_err-read_level-2.was in
+    cc)
 
 pub returns : goal.returns
 returns c =
     let ws : List (List ℕ) = map string_bytes c.args.words.now in
     let six = six_words string_bytes c.args.words.now _ _ _ _ _ _ c.in-len6.len_at_least c.in-len6.len_below
-        c.dataset-item.is c.time-item.is c.field-item.is c.region-item.is c.lo-item.is c.hi-item.is in
+    c.dataset-item.is c.time-item.is c.field-item.is c.region-item.is c.lo-item.is c.hi-item.is in
     let value : QueryValue = record {
       time = c.in_ok-read_number.field-0;
       field = c.as_bytes-3.result.now;
@@ -60,5 +60,5 @@ returns c =
         region_word = subst (λ w. SpellsRegion w c.in_ok-read_box.field-0) c.as_bytes-4.ensures.value ((c.read_box.ensures c.in_ok-read_box.field-0).0 c.in_ok-read_box.was);
         lo_word = subst (λ w. SpellsLevel w c.in_ok-read_level.field-0) c.as_bytes-5.ensures.value ((c.read_level.ensures c.in_ok-read_level.field-0).0 c.in_ok-read_level.was);
         hi_word = subst (λ w. SpellsLevel w c.in_ok-read_level-2.field-0) c.as_bytes-6.ensures.value ((c.read_level-2.ensures c.in_ok-read_level-2.field-0).0 c.in_ok-read_level-2.was);
-      }
+      },
     ))
