@@ -15,7 +15,7 @@ use Rattle.idx_header.specs.Names.{file_name}
 use Rattle.idx_layout.specs.Layout.{block_of_samples, file_numbers}
 use Rattle.idx_layout.specs.Files.{file_bytes, row_count}
 use Rattle.idx_layout.specs.OfHeader.{layout_of}
-use Rattle.idx_edition.specs.Stored.{fault_of_file, first_bad, found_files, has_block, stored_block}
+use Rattle.idx_edition.specs.Stored.{Stands, fault_of_file, first_bad, found_files, has_block, stored_block}
 use Rattle.idx_edition.specs.declared.load_fault.LoadFault.{LoadFault}
 use Rattle.idx_edition.specs.declared.load_fault.LoadFault.TheVariants.{BadTable, StoreFault, NoMemory}
 
@@ -57,10 +57,16 @@ IsCause IsBad bay_before bay_after before after (StoreFault faults) =
     ⊎ (Rose before after × (faults ≡ after) × (bay_after ≡ bay_before))
 IsCause IsBad bay_before bay_after before after NoMemory = (bay_after ≡ bay_before) × (after ≡ before)
 
--- The same of loading a step, where this is known of the committed files: a faulty table is the first of the step.
+-- The same of opening the files of a step, where this is known of the committed files: a faulty table is the first of the step.
+abbrev pub IsOpenCause : HeaderValue → ℕ → Option (List MemFile) → ℕ → ℕ → ℕ → ℕ → LoadFault → Type 0
+IsOpenCause h step known bay_before bay_after before after fault =
+    IsCause (λ bad. IfSome known (λ files. first_bad h step files ≡ Some bad)) bay_before bay_after before after fault
+
+-- The same of loading the step: it stands.
 abbrev pub IsLoadCause : HeaderValue → ℕ → Option (List MemFile) → ℕ → ℕ → ℕ → ℕ → LoadFault → Type 0
 IsLoadCause h step known bay_before bay_after before after fault =
-    IsCause (λ bad. IfSome known (λ files. first_bad h step files ≡ Some bad)) bay_before bay_after before after fault
+    IsCause (λ bad. IfSome known (λ files. Stands h step files × (first_bad h step files ≡ Some bad)))
+    bay_before bay_after before after fault
 
 -- the rows, the path and the bytes of a file of the step
 abbrev pub found_table : HeaderValue → ℕ → ℕ → List ℕ → List Row × (List ℕ × Option (List ℕ))

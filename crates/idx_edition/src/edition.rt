@@ -9,7 +9,7 @@ ghost use Rattle.idx_layout.specs.OfHeader.{layout_of};
 ghost use Rattle.idx_layout.specs.Shape.{shape_of};
 ghost use Rattle.idx_edition.specs.Stored.{Stands};
 ghost use Rattle.idx_edition.specs.Tables.{AreTablesOf, has_in_tables, shape_in, stored_in};
-ghost use Rattle.idx_edition.specs.Loaded.{AreWritten, HoldsStored, IsLoadCause, IsWrittenBlock, OfBlocks};
+ghost use Rattle.idx_edition.specs.Loaded.{AreWritten, HoldsStored, IsLoadCause, IsOpenCause, IsWrittenBlock, OfBlocks};
 
 use crate::LoadFault;
 use crate::lengths::block_lengths;
@@ -79,6 +79,8 @@ impl<L: Leaf> Edition<L> {
             (shown L.contents edition.leaves.items)))) }
         ensures none { IfOk result (λ loaded. IfSome (B.files bay.old)
             (λ files. (loaded ≡ None) ↔ (¬ Stands header.now time files))) }
+        ensures stands { IfOk result (λ loaded.
+            loaded ≢ None → IfSome (B.files bay.old) (Stands header.now time)) }
         ensures lacks { ¬ HasStep header.now time →
             (result ≡ Ok None) × (bay.new ≡ bay.old) × (reader.new ≡ reader.old) }
         ensures untimed { IfOk result (λ loaded.
@@ -119,7 +121,7 @@ impl<L: Leaf> Edition<L> {
             HoldsStored header.now time files (shape_in edition.tables) (has_in_tables edition.tables)
             (stored_in edition.tables (shown L.contents edition.leaves.items))
             (shown L.contents edition.leaves.items))) }
-        ensures cause { IfErr result (IsLoadCause header.now time (B.files bay.old)
+        ensures cause { IfErr result (IsOpenCause header.now time (B.files bay.old)
             (B.faults bay.old) (B.faults bay.new) (R.faults reader.old) (R.faults reader.new)) }
         ensures reads { IfOk result (λ edition.
             MadeReads (R.reads reader.old) (R.reads reader.new) (length edition.leaves.items)) }
