@@ -253,6 +253,12 @@ judged P c k text built done starved failed = end
     end causes.StoreFault (other, (is, f)) = at causes.StoreFault other is f
     end (causes.AlreadyPublished time) (other, (is, f)) = at (causes.AlreadyPublished time) other is f
     end causes.OtherHeader (other, (is, f)) = at causes.OtherHeader other is f
+    end (causes.NotPublished time) (other, (is, f)) = at (causes.NotPublished time) other is f
+    end causes.OtherAxes (other, (is, f)) = at causes.OtherAxes other is f
+    end causes.UnknownField (other, (is, f)) = at causes.UnknownField other is f
+    end (causes.OutsideVolume axis) (other, (is, f)) = at (causes.OutsideVolume axis) other is f
+    end (causes.BadLevels lo hi max) (other, (is, f)) = at (causes.BadLevels lo hi max) other is f
+    end (causes.BadTable file row kind) (other, (is, f)) = at (causes.BadTable file row kind) other is f
     end (causes.TooLarge bytes) (other, (is, f)) = at (causes.TooLarge bytes) other is f
     end (causes.NoStep time) (other, (is, f)) = at (causes.NoStep time) other is f
 

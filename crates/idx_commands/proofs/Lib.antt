@@ -1,3 +1,4 @@
 pub mod SummaryLemmas
 pub mod ConvertLemmas
+pub mod QueryLemmas
 pub mod RunLemmas

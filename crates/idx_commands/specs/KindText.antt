@@ -1,7 +1,9 @@
--- The kinds of faults of a header by their names, as they are printed.
+-- The kinds of faults of a header, and of a file's table, by their names, as they are printed.
 use Rattle.std.specs.Prelude.{ℕ, List, codes}
 use Rattle.idx_header.specs.declared.header_kind.HeaderKind.{HeaderKind}
 use Rattle.idx_header.specs.declared.header_kind.HeaderKind.TheVariants as kinds
+use Rattle.idx_table.specs.declared.table_fault.TableKind.{TableKind}
+use Rattle.idx_table.specs.declared.table_fault.TableKind.TheVariants as tables
 
 abbrev pub kind_text : HeaderKind → List ℕ
 kind_text kinds.NotText = codes "NotText"
@@ -18,3 +20,11 @@ kind_text kinds.TemplateTooSmall = codes "TemplateTooSmall"
 kind_text kinds.BadTime = codes "BadTime"
 kind_text kinds.OverLimit = codes "OverLimit"
 kind_text kinds.NoMemory = codes "NoMemory"
+
+abbrev pub table_kind_text : TableKind → List ℕ
+table_kind_text tables.CutShort = codes "CutShort"
+table_kind_text tables.Compressed = codes "Compressed"
+table_kind_text tables.RowMajor = codes "RowMajor"
+table_kind_text tables.WrongSize = codes "WrongSize"
+table_kind_text tables.OutsideFile = codes "OutsideFile"
+table_kind_text tables.NoMemory = codes "NoMemory"

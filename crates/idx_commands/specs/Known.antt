@@ -16,6 +16,13 @@ pub record Known : Type 0 where
   pub bay_before : ℕ
   pub bay_after : ℕ
 
+-- The counts of the first reader before and after the run: of its faults, and of its reads.
+pub record ReaderCounts : Type 0 where
+  pub faults_before : ℕ
+  pub faults_after : ℕ
+  pub reads_before : ℕ
+  pub reads_after : ℕ
+
 -- the same of these objects, by their ghost members
 module _ {V B : Type 0} (contents : V → Option (List ℕ)) (faults : V → ℕ) (header : B → Option (List ℕ)) (files : B → Option (List MemFile)) (bay_faults : B → ℕ) where
   abbrev pub known : List V → List V → B → B → Known
@@ -30,4 +37,14 @@ module _ {V B : Type 0} (contents : V → Option (List ℕ)) (faults : V → ℕ
         files_after = files bay_after;
         bay_before = bay_faults bay;
         bay_after = bay_faults bay_after;
+      }
+
+module _ {R : Type 0} (faults reads : R → ℕ) where
+  abbrev pub reader_counts : List R → List R → ReaderCounts
+  reader_counts readers readers_after =
+      record {
+        faults_before = faults_at faults readers 0;
+        faults_after = faults_at faults readers_after 0;
+        reads_before = faults_at reads readers 0;
+        reads_after = faults_at reads readers_after 0;
       }

@@ -6,6 +6,7 @@ pub mod Summary
 pub mod InfoRun
 pub mod CutRun
 pub mod ConvertRun
+pub mod QueryRun
 pub mod Due
 pub mod RunEnds
 pub mod Run

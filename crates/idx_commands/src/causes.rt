@@ -2,8 +2,9 @@ ghost use Rattle.std.specs.Prelude.{◌≡◌, ◌↔◌, IsTrue};
 ghost use Rattle.std.specs.Process.{exit_status};
 ghost use Rattle.idx_commands.specs.Cause.{status_of};
 
-use crate::kind_text::kind_text;
+use crate::kind_text::{kind_text, table_kind_text};
 use idx_header::HeaderKind;
+use idx_table::TableKind;
 use std::fmt;
 use std::process::ExitCode;
 
@@ -28,12 +29,29 @@ pub enum Cause {
     AlreadyPublished { time: u64 },
     /// A header stands that does not agree with the one that is asked for.
     OtherHeader,
+    /// The step of this number does not stand, or the header lacks it.
+    NotPublished { time: u64 },
+    /// The region has another number of axes than the dataset.
+    OtherAxes,
+    /// No field has the name.
+    UnknownField,
+    /// The region leaves the dataset's box on this axis, the least such.
+    OutsideVolume { axis: u32 },
+    /// `lo` passes `hi`, or `hi` passes the finest level, `max`.
+    BadLevels { lo: u32, hi: u32, max: u32 },
     /// The samples that are asked for take so many bytes, which is too many.
     TooLarge { bytes: u64 },
     /// The header that is asked for lacks the step of this number.
     NoStep { time: u64 },
     /// The output could not be written.
     SinkFault,
+    /// A row of the table of a file is faulty: the first one, in the order of files and then of rows. The file's number is
+    /// that of its first block, and rows are counted from 0.
+    BadTable {
+        file: u64,
+        row: u64,
+        kind: TableKind,
+    },
     /// There was not enough memory.
     NoMemory,
 }
@@ -70,8 +88,15 @@ impl Done {
             Cause::RawFault => 4,
             Cause::StoreFault => 5,
             Cause::AlreadyPublished { .. } | Cause::OtherHeader => 6,
-            Cause::TooLarge { .. } | Cause::NoStep { .. } => 8,
+            Cause::NotPublished { .. } => 7,
+            Cause::OtherAxes
+            | Cause::UnknownField
+            | Cause::OutsideVolume { .. }
+            | Cause::BadLevels { .. }
+            | Cause::TooLarge { .. }
+            | Cause::NoStep { .. } => 8,
             Cause::SinkFault => 9,
+            Cause::BadTable { .. } => 10,
             Cause::NoMemory => 11,
         };
         Done { status, cause }
@@ -102,9 +127,17 @@ impl fmt::Display for Cause {
             Cause::StoreFault => write!(f, "store fault"),
             Cause::AlreadyPublished { time } => write!(f, "published {time}"),
             Cause::OtherHeader => write!(f, "other header"),
+            Cause::NotPublished { time } => write!(f, "not published {time}"),
+            Cause::OtherAxes => write!(f, "other axes"),
+            Cause::UnknownField => write!(f, "unknown field"),
+            Cause::OutsideVolume { axis } => write!(f, "outside axis {axis}"),
+            Cause::BadLevels { lo, hi, max } => write!(f, "levels {lo} {hi} {max}"),
             Cause::TooLarge { bytes } => write!(f, "too large {bytes}"),
             Cause::NoStep { time } => write!(f, "no step {time}"),
             Cause::SinkFault => write!(f, "sink fault"),
+            Cause::BadTable { file, row, kind } => {
+                write!(f, "table file {file} row {row} {}", table_kind_text(*kind))
+            }
             Cause::NoMemory => write!(f, "no memory"),
         }
     }

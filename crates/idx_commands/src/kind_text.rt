@@ -1,9 +1,10 @@
 ghost use Rattle.std.specs.Prelude.{◌≡◌};
-ghost use Rattle.idx_commands.specs.KindText.{kind_text};
+ghost use Rattle.idx_commands.specs.KindText.{kind_text, table_kind_text};
 
 use idx_header::HeaderKind;
+use idx_table::TableKind;
 
-/// The name of a kind of fault.
+/// The name of a kind of fault of a header.
 pub fn kind_text(kind: HeaderKind) -> &'static str
     ensures { result.now ≡ kind_text kind }
 {
@@ -22,5 +23,19 @@ pub fn kind_text(kind: HeaderKind) -> &'static str
         HeaderKind::BadTime => "BadTime",
         HeaderKind::OverLimit => "OverLimit",
         HeaderKind::NoMemory => "NoMemory",
+    }
+}
+
+/// The name of a kind of fault of a file's table.
+pub fn table_kind_text(kind: TableKind) -> &'static str
+    ensures { result.now ≡ table_kind_text kind }
+{
+    match kind {
+        TableKind::CutShort => "CutShort",
+        TableKind::Compressed => "Compressed",
+        TableKind::RowMajor => "RowMajor",
+        TableKind::WrongSize => "WrongSize",
+        TableKind::OutsideFile => "OutsideFile",
+        TableKind::NoMemory => "NoMemory",
     }
 }

@@ -1,5 +1,6 @@
 use crate::{Cause, Done};
 use idx_header::HeaderKind;
+use idx_table::TableKind;
 use std::test::Fail;
 
 #[test]
@@ -24,6 +25,19 @@ fn causes_have_statuses_and_lines(rt: HostRuntime) -> Result<(), Fail> {
         (Cause::StoreFault, 5, "store fault"),
         (Cause::AlreadyPublished { time: 3 }, 6, "published 3"),
         (Cause::OtherHeader, 6, "other header"),
+        (Cause::NotPublished { time: 5 }, 7, "not published 5"),
+        (Cause::OtherAxes, 8, "other axes"),
+        (Cause::UnknownField, 8, "unknown field"),
+        (Cause::OutsideVolume { axis: 1 }, 8, "outside axis 1"),
+        (
+            Cause::BadLevels {
+                lo: 3,
+                hi: 2,
+                max: 4,
+            },
+            8,
+            "levels 3 2 4",
+        ),
         (
             Cause::TooLarge { bytes: 1 << 31 },
             8,
@@ -31,6 +45,15 @@ fn causes_have_statuses_and_lines(rt: HostRuntime) -> Result<(), Fail> {
         ),
         (Cause::NoStep { time: 10 }, 8, "no step 10"),
         (Cause::SinkFault, 9, "sink fault"),
+        (
+            Cause::BadTable {
+                file: 2,
+                row: 1,
+                kind: TableKind::RowMajor,
+            },
+            10,
+            "table file 2 row 1 RowMajor",
+        ),
         (Cause::NoMemory, 11, "no memory"),
     ] {
         assert_eq!(rt; Done::of(cause).status, status);

@@ -1,0 +1,318 @@
+-- What a run of `query` comes to where what it meets is known.
+use Rattle.std.proofs.Common.{◌≡◌, ◌≢◌, ◌⊎◌, ℕ, ◌<◌, List, length, Option, Some, None, Ok, Err, IsErr, IfSome, IsSomeAnd, inl, inr, refl, sym, ◌∙◌, ap, subst}
+use Rattle.std.proofs.lemmas.Bool.{false≢true}
+use Rattle.idx_outside.specs.Cause.{Rose}
+use Rattle.idx_outside.specs.Contents.{appended, AppendsPrefix}
+use Rattle.idx_outside.specs.declared.mem_file.MemFile.{MemFile}
+use Rattle.idx_header.specs.declared.header_fault.HeaderFault.{HeaderFault}
+use Rattle.idx_header.specs.Header.{HeaderValue}
+use Rattle.idx_header.specs.HeaderOf.{header_of}
+use Rattle.idx_plan.specs.Answer.{answer_of}
+use Rattle.idx_plan.specs.Needed.{plan_fault}
+use Rattle.idx_plan.specs.declared.ask.Ask.{Ask}
+use Rattle.idx_plan.specs.declared.plan_fault.PlanFault.{PlanFault}
+use Rattle.idx_plan.specs.declared.plan_fault.PlanFault.TheVariants as plans
+use Rattle.idx_edition.specs.Stored.{Stands, first_bad, stored_block}
+use Rattle.idx_edition.specs.declared.load_fault.LoadFault.{LoadFault}
+use Rattle.idx_edition.specs.declared.load_fault.LoadFault.TheVariants as loads
+use Rattle.idx_table.specs.declared.table_fault.TableKind.{TableKind}
+use Rattle.idx_words.specs.QueryValue.{QueryValue}
+use Rattle.idx_extract.specs.declared.extract_fault.ExtractFault.{ExtractFault}
+use Rattle.idx_extract.specs.declared.extract_fault.ExtractFault.TheVariants as faults
+use Rattle.idx_extract.specs.Extract.{Asks, Extracted, HasPlan, IsAnswer, IsAsk, IsCause, IsExtracted, IsStop, LacksField, Under}
+use Rattle.idx_extract.specs.Stages.{fault_of_load}
+use Rattle.idx_commands.specs.declared.causes.Cause.{Cause}
+use Rattle.idx_commands.specs.declared.causes.Cause.TheVariants as causes
+use Rattle.idx_commands.specs.Cause.{status_of}
+use Rattle.idx_commands.specs.Known.{ReaderCounts}
+use Rattle.idx_commands.specs.InfoRun.{KnownReads}
+use Rattle.idx_commands.specs.QueryRun.{HasSoundStep, IsDue, QueryEnds, ReadsAs, cause_of_extract}
+
+-- ---- what is known
+
+-- of what is known both things hold
+agree : {T R : Type 0} (o : Option T) (P Q : T → Type 0) → ((x : T) → P x → Q x → R) → IfSome o P → IsSomeAnd o Q → R
+agree None P Q make p q = absurd q
+agree (Some x) P Q make p q = make x p q
+
+-- a text has one header
+one_header : (text : List ℕ) (g h : HeaderValue) → header_of text ≡ Ok g → header_of text ≡ Ok h → g ≡ h
+one_header text g h first second = let same = sym first ∙ second in cc
+
+not_refused : (text : List ℕ) (h : HeaderValue) (fault : HeaderFault) → header_of text ≡ Ok h → header_of text ≡ Err fault → ⊥
+not_refused text h fault reads refused = let same = sym reads ∙ refused in cc
+
+-- the header that is known and the one that was read are one
+both_of : {T : Type 0} (known : Option (List ℕ)) (P Q : HeaderValue → Type 0) → ReadsAs known P → Under known Q → ((h : HeaderValue) → P h → Q h → T) → T
+both_of None P Q reads under make = absurd reads
+both_of (Some text) P Q (g, (reads, p)) (h, (too, q)) make = make h (subst P (one_header text g h reads too) p) q
+
+-- a text that is refused is not one that was read
+not_bad : (known : Option (List ℕ)) (Q : HeaderValue → Type 0) → Under known Q → IsSomeAnd known (λ text. IsErr (header_of text)) → ⊥
+not_bad None Q under bad = bad
+not_bad (Some text) Q (h, (reads, q)) bad = false≢true (subst IsErr reads bad)
+
+not_read : (known : Option (List ℕ)) (P : HeaderValue → Type 0) (fault : HeaderFault) → ReadsAs known P → IfSome known (λ text. header_of text ≡ Err fault) → ⊥
+not_read None P fault reads refused = reads
+not_read (Some text) P fault (h, (reads, p)) refused = not_refused text h fault reads refused
+
+-- ---- one refusal alone
+
+abbrev plan_in : Option PlanFault → PlanFault
+plan_in (Some fault) = fault
+plan_in None = plans.NoMemory
+
+abbrev load_in : Option LoadFault → LoadFault
+load_in (Some fault) = fault
+load_in None = loads.NoMemory
+
+some_not_none : {X : Type 0} (x : X) (o : Option X) → o ≡ Some x → o ≡ None → ⊥
+some_not_none x o some none = let same = sym some ∙ none in cc
+
+module _ (h : HeaderValue) (q : QueryValue) (files : Option (List MemFile)) where
+  -- the words ask one thing
+  one_ask : (a b : Ask) → IsAsk h q a → IsAsk h q b → a ≡ b
+  one_ask a b first second =
+      let field : a.field ≡ b.field = sym (first.only b.field second.field second.named) in
+      first.same ∙ (λ i. record { time = q.time; field = field i; region = q.region; lo = q.lo; hi = q.hi }) ∙ sym second.same
+
+  same_plan : (a b : Ask) → IsAsk h q a → IsAsk h q b → plan_fault h a ≡ plan_fault h b
+  same_plan a b first second = ap (plan_fault h) (one_ask a b first second)
+
+  other_axes : length q.region ≢ length h.box → (g : ExtractFault) → IsStop h q files g → g ≡ faults.OtherAxes
+  other_axes d (faults.Header line kind) c = absurd c
+  other_axes d faults.OtherAxes c = refl
+  other_axes d faults.UnknownField c = absurd (d c.0)
+  other_axes d (faults.Plan fault) c = absurd (d c.1.0.axes)
+  other_axes d faults.NotPublished c = absurd (d c.0.1.0.axes)
+  other_axes d (faults.BadTable file row kind) c = absurd (d c.0.1.0.axes)
+  other_axes d faults.StoreFault c = absurd c
+  other_axes d faults.NoMemory c = absurd c
+
+  lacks_none : (ask : Ask) → IsAsk h q ask → LacksField h q → ⊥
+  lacks_none ask asked lacks = lacks ask.field asked.field asked.named
+
+  unknown_field : length q.region ≡ length h.box → LacksField h q → (g : ExtractFault) → IsStop h q files g → g ≡ faults.UnknownField
+  unknown_field axes lacks (faults.Header line kind) c = absurd c
+  unknown_field axes lacks faults.OtherAxes c = absurd (c axes)
+  unknown_field axes lacks faults.UnknownField c = refl
+  unknown_field axes lacks (faults.Plan fault) c = absurd (lacks_none c.0 c.1.0 lacks)
+  unknown_field axes lacks faults.NotPublished c = absurd (lacks_none c.0.0 c.0.1.0 lacks)
+  unknown_field axes lacks (faults.BadTable file row kind) c = absurd (lacks_none c.0.0 c.0.1.0 lacks)
+  unknown_field axes lacks faults.StoreFault c = absurd c
+  unknown_field axes lacks faults.NoMemory c = absurd c
+
+  no_plan : (ask : Ask) → IsAsk h q ask → (fault : PlanFault) → plan_fault h ask ≡ Some fault → (g : ExtractFault) → IsStop h q files g → g ≡ faults.Plan fault
+  no_plan ask asked fault is (faults.Header line kind) c = absurd c
+  no_plan ask asked fault is faults.OtherAxes c = absurd (c asked.axes)
+  no_plan ask asked fault is faults.UnknownField c = absurd (lacks_none ask asked c.1)
+  no_plan ask asked fault is (faults.Plan other) c =
+      ap (λ o. faults.Plan (plan_in o)) (sym c.1.1 ∙ same_plan c.0 ask c.1.0 asked ∙ is)
+  no_plan ask asked fault is faults.NotPublished c =
+      absurd (some_not_none fault (plan_fault h ask) is (same_plan ask c.0.0 asked c.0.1.0 ∙ c.0.1.1))
+  no_plan ask asked fault is (faults.BadTable file row kind) c =
+      absurd (some_not_none fault (plan_fault h ask) is (same_plan ask c.0.0 asked c.0.1.0 ∙ c.0.1.1))
+  no_plan ask asked fault is faults.StoreFault c = absurd c
+  no_plan ask asked fault is faults.NoMemory c = absurd c
+
+  -- a question that has a plan is stopped by the step alone
+  module _ (ask : Ask) (asked : IsAsk h q ask) (sound : plan_fault h ask ≡ None) where
+    never_stopped : (fault : PlanFault) → (other : Ask) → IsAsk h q other → plan_fault h other ≡ Some fault → ⊥
+    never_stopped fault other too is = some_not_none fault (plan_fault h other) is (same_plan other ask too asked ∙ sound)
+
+    not_published : IsSomeAnd files (λ files. ¬ Stands h q.time files) → (g : ExtractFault) → IsStop h q files g → g ≡ faults.NotPublished
+    not_published lacks (faults.Header line kind) c = absurd c
+    not_published lacks faults.OtherAxes c = absurd (c asked.axes)
+    not_published lacks faults.UnknownField c = absurd (lacks_none ask asked c.1)
+    not_published lacks (faults.Plan fault) c = absurd (never_stopped fault c.0 c.1.0 c.1.1)
+    not_published lacks faults.NotPublished c = refl
+    not_published lacks (faults.BadTable file row kind) c =
+        absurd (agree files _ (λ files. ¬ Stands h q.time files) (λ files both not. not both.0) c.1 lacks)
+    not_published lacks faults.StoreFault c = absurd c
+    not_published lacks faults.NoMemory c = absurd c
+
+    bad_table : (file row : ℕ) (kind : TableKind) →
+        IsSomeAnd files (λ files. Stands h q.time files × (first_bad h q.time files ≡ Some (loads.BadTable file row kind))) →
+        (g : ExtractFault) → IsStop h q files g → g ≡ faults.BadTable file row kind
+    bad_table file row kind bad (faults.Header line which) c = absurd c
+    bad_table file row kind bad faults.OtherAxes c = absurd (c asked.axes)
+    bad_table file row kind bad faults.UnknownField c = absurd (lacks_none ask asked c.1)
+    bad_table file row kind bad (faults.Plan fault) c = absurd (never_stopped fault c.0 c.1.0 c.1.1)
+    bad_table file row kind bad faults.NotPublished c =
+        absurd (agree files (λ files. ¬ Stands h q.time files) _ (λ files not both. not both.0) c.1 bad)
+    bad_table file row kind bad (faults.BadTable f r k) c =
+        agree files (λ files. Stands h q.time files × (first_bad h q.time files ≡ Some (loads.BadTable f r k))) _
+        (λ files mine yours. ap (λ o. fault_of_load (load_in o)) (sym mine.1 ∙ yours.1)) c.1 bad
+    bad_table file row kind bad faults.StoreFault c = absurd c
+    bad_table file row kind bad faults.NoMemory c = absurd c
+
+    never : IsSomeAnd files (λ files. Stands h q.time files × (first_bad h q.time files ≡ None)) → (g : ExtractFault) → IsStop h q files g → ⊥
+    never good (faults.Header line kind) c = c
+    never good faults.OtherAxes c = c asked.axes
+    never good faults.UnknownField c = lacks_none ask asked c.1
+    never good (faults.Plan fault) c = never_stopped fault c.0 c.1.0 c.1.1
+    never good faults.NotPublished c = agree files (λ files. ¬ Stands h q.time files) _ (λ files not both. not both.0) c.1 good
+    never good (faults.BadTable file row kind) c =
+        agree files (λ files. Stands h q.time files × (first_bad h q.time files ≡ Some (loads.BadTable file row kind))) _
+        (λ files bad right. some_not_none (loads.BadTable file row kind) (first_bad h q.time files) bad.1 right.1) c.1 good
+    never good faults.StoreFault c = c
+    never good faults.NoMemory c = c
+
+-- ---- what is written
+
+-- the bytes of an answer are those that the committed files store, where these and the header are known
+pub query_writes : (P : List ℕ → Type 0) (q : QueryValue) (header : Option (List ℕ)) (files : Option (List MemFile)) (before after : ℕ) (bytes : List ℕ) →
+    Extracted q header files before after bytes → P bytes →
+    KnownReads header (λ h. Asks q h (λ ask. IfSome files (λ files. P (answer_of h ask (stored_block h q.time files)))))
+query_writes P q None files before after bytes u holds = tt
+query_writes P q (Some text) files before after bytes (h, (reads, e)) holds = (h, (reads, (e.ask, (e.asked, at files e.stored))))
+  where
+    time : e.ask.time ≡ q.time
+    time = ap (λ (a : Ask). a.time) e.asked.same
+
+    at : (known : Option (List MemFile)) → IfSome known (λ files. IsAnswer h e.ask files before after bytes) →
+        IfSome known (λ files. P (answer_of h e.ask (stored_block h q.time files)))
+    at None is = tt
+    at (Some files) is = subst P (is.answer ∙ ap (λ t. answer_of h e.ask (stored_block h t files)) time) holds
+
+-- ---- the run
+
+module _ {K : Type 0} (contents : K → Option (List ℕ)) (faults_of : K → ℕ) (q : QueryValue) (header : Option (List ℕ)) (files : Option (List MemFile))
+    (before after : ℕ) (r : ReaderCounts) (old new : K) where
+  abbrev C : ExtractFault → Type 0
+  C fault = IsCause q header files before after r.faults_before r.faults_after fault
+
+  abbrev Answered : List ℕ → Type 0
+  Answered bytes = Extracted q header files r.reads_before r.reads_after bytes
+
+  abbrev Ends : Cause → Type 0
+  Ends cause = QueryEnds contents faults_of q header files before after r old new cause
+
+  -- this is so of the cause where it is so of an answer, of want of memory, and of each fault
+  judged : (P : Cause → Type 0) → ((bytes : List ℕ) → Answered bytes → P causes.Done) →
+      ((bytes : List ℕ) → Answered bytes → Rose (faults_of old) (faults_of new) → P causes.SinkFault) → P causes.NoMemory →
+      ((fault : ExtractFault) → C fault → P (cause_of_extract q.time fault)) → (cause : Cause) → Ends cause → P cause
+  judged P done sink starved failed causes.Done ends = done ends.0 ends.1.0
+  judged P done sink starved failed causes.SinkFault ends = sink ends.1.0 ends.1.1.0 ends.0
+  judged P done sink starved failed (causes.Header line kind) ends = failed (faults.Header line kind) ends.0
+  judged P done sink starved failed causes.OtherAxes ends = failed faults.OtherAxes ends.0
+  judged P done sink starved failed causes.UnknownField ends = failed faults.UnknownField ends.0
+  judged P done sink starved failed (causes.OutsideVolume axis) ends = failed (faults.Plan (plans.OutsideVolume axis)) ends.0
+  judged P done sink starved failed (causes.BadLevels lo hi max) ends = failed (faults.Plan (plans.BadLevels lo hi max)) ends.0
+  judged P done sink starved failed (causes.TooLarge bytes) ends = failed (faults.Plan (plans.TooLarge bytes)) ends.0
+  judged P done sink starved failed (causes.NotPublished time) (is, c, same) =
+      subst (λ t. P (causes.NotPublished t)) (sym is) (failed faults.NotPublished c)
+  judged P done sink starved failed (causes.BadTable file row kind) ends = failed (faults.BadTable file row kind) ends.0
+  judged P done sink starved failed causes.StoreFault ends = failed faults.StoreFault ends.0
+  judged P done sink starved failed causes.NoMemory ends = starved
+  judged P done sink starved failed (causes.Usage at) ends = absurd ends
+  judged P done sink starved failed (causes.RawWrongSize want found) ends = absurd ends
+  judged P done sink starved failed causes.RawFault ends = absurd ends
+  judged P done sink starved failed (causes.AlreadyPublished time) ends = absurd ends
+  judged P done sink starved failed causes.OtherHeader ends = absurd ends
+  judged P done sink starved failed (causes.NoStep time) ends = absurd ends
+
+  -- a header that reads is not refused
+  due_reads : (fault : ExtractFault) → IsDue q header files fault → (wrong : HeaderFault) → IfSome header (λ text. header_of text ≡ Err wrong) → ⊥
+  due_reads (faults.Header line kind) d wrong refused = not_read header _ wrong d refused
+  due_reads faults.OtherAxes d wrong refused = not_read header _ wrong d refused
+  due_reads faults.UnknownField d wrong refused = not_read header _ wrong d refused
+  due_reads (faults.Plan fault) d wrong refused = not_read header _ wrong d refused
+  due_reads faults.NotPublished d wrong refused = not_read header _ wrong d refused
+  due_reads (faults.BadTable file row kind) d wrong refused = not_read header _ wrong d refused
+  due_reads faults.StoreFault d wrong refused = not_read header _ wrong d refused
+  due_reads faults.NoMemory d wrong refused = not_read header _ wrong d refused
+
+  -- what is due is what stops
+  due_stops : (fault : ExtractFault) → IsDue q header files fault → (g : ExtractFault) → Under header (λ h. IsStop h q files g) → g ≡ fault
+  due_stops (faults.Header line kind) d g u = both_of header _ _ d u (λ h p c. absurd p)
+  due_stops faults.OtherAxes d g u = both_of header _ _ d u (λ h p c. other_axes h q files p g c)
+  due_stops faults.UnknownField d g u = both_of header _ _ d u (λ h p c. unknown_field h q files p.0 p.1 g c)
+  due_stops (faults.Plan fault) d g u = both_of header _ _ d u (λ h p c. no_plan h q files p.0 p.1.0 fault p.1.1 g c)
+  due_stops faults.NotPublished d g u = both_of header _ _ d u (λ h p c. not_published h q files p.0.0 p.0.1.0 p.0.1.1 p.1 g c)
+  due_stops (faults.BadTable file row kind) d g u =
+      both_of header _ _ d u (λ h p c. bad_table h q files p.0.0 p.0.1.0 p.0.1.1 file row kind p.1 g c)
+  due_stops faults.StoreFault d g u = both_of header _ _ d u (λ h p c. absurd p)
+  due_stops faults.NoMemory d g u = both_of header _ _ d u (λ h p c. absurd p)
+
+  -- where a refusal is due there is no answer
+  time_of : (h : HeaderValue) (bytes : List ℕ) → (e : IsExtracted h q files r.reads_before r.reads_after bytes) → e.ask.time ≡ q.time
+  time_of h bytes e = ap (λ (a : Ask). a.time) e.asked.same
+
+  due_unanswered : (fault : ExtractFault) → IsDue q header files fault → (bytes : List ℕ) → Answered bytes → ⊥
+  due_unanswered (faults.Header line kind) d bytes u = both_of header _ _ d u (λ h p e. p)
+  due_unanswered faults.OtherAxes d bytes u = both_of header _ _ d u (λ h p e. p e.asked.axes)
+  due_unanswered faults.UnknownField d bytes u = both_of header _ _ d u (λ h p e. lacks_none h q files e.ask e.asked p.1)
+  due_unanswered (faults.Plan fault) d bytes u =
+      both_of header _ _ d u (λ h p e. some_not_none fault (plan_fault h p.0) p.1.1 (same_plan h q files p.0 e.ask p.1.0 e.asked ∙ e.sound))
+  due_unanswered faults.NotPublished d bytes u =
+      both_of header _ _ d u (λ h p e. agree files (λ files. IsAnswer h e.ask files r.reads_before r.reads_after bytes) _
+      (λ files answer not. not (subst (λ t. Stands h t files) (time_of h bytes e) answer.stands)) e.stored p.1)
+  due_unanswered (faults.BadTable file row kind) d bytes u =
+      both_of header _ _ d u (λ h p e. agree files (λ files. IsAnswer h e.ask files r.reads_before r.reads_after bytes) _
+      (λ files answer bad. some_not_none (loads.BadTable file row kind) (first_bad h q.time files) bad.1
+      (subst (λ t. first_bad h t files ≡ None) (time_of h bytes e) answer.tables)) e.stored p.1)
+  due_unanswered faults.StoreFault d bytes u = both_of header _ _ d u (λ h p e. p)
+  due_unanswered faults.NoMemory d bytes u = both_of header _ _ d u (λ h p e. p)
+
+  abbrev Comes : ExtractFault → Cause → Type 0
+  Comes fault cause = (cause ≡ cause_of_extract q.time fault) ⊎ ((status_of cause ≡ 5) ⊎ (status_of cause ≡ 11))
+
+  module _ (fault : ExtractFault) (d : IsDue q header files fault) where
+    comes : (g : ExtractFault) → C g → Comes fault (cause_of_extract q.time g)
+    comes (faults.Header line kind) c = absurd (due_reads fault d (record { line = line; kind = kind }) c.1)
+    comes faults.OtherAxes c = inl (ap (cause_of_extract q.time) (due_stops fault d faults.OtherAxes c))
+    comes faults.UnknownField c = inl (ap (cause_of_extract q.time) (due_stops fault d faults.UnknownField c))
+    comes (faults.Plan other) c = inl (ap (cause_of_extract q.time) (due_stops fault d (faults.Plan other) c))
+    comes faults.NotPublished c = inl (ap (cause_of_extract q.time) (due_stops fault d faults.NotPublished c))
+    comes (faults.BadTable file row kind) c = inl (ap (cause_of_extract q.time) (due_stops fault d (faults.BadTable file row kind) c))
+    comes faults.StoreFault c = inr (inl refl)
+    comes faults.NoMemory c = inr (inr refl)
+
+    pub due_ends : (cause : Cause) → Ends cause → Comes fault cause
+    due_ends =
+        judged (Comes fault) (λ bytes u. absurd (due_unanswered fault d bytes u)) (λ bytes u rose. absurd (due_unanswered fault d bytes u)) (inr (inr refl)) comes
+
+  -- a header that is refused
+  module _ (bad : IsSomeAnd header (λ text. IsErr (header_of text))) where
+    abbrev Bad : Cause → Type 0
+    Bad cause = (status_of cause ≡ 2) ⊎ ((status_of cause ≡ 5) ⊎ (status_of cause ≡ 11))
+
+    refused : (g : ExtractFault) → C g → Bad (cause_of_extract q.time g)
+    refused (faults.Header line kind) c = inl refl
+    refused faults.OtherAxes c = absurd (not_bad header _ c bad)
+    refused faults.UnknownField c = absurd (not_bad header _ c bad)
+    refused (faults.Plan other) c = absurd (not_bad header _ c bad)
+    refused faults.NotPublished c = absurd (not_bad header _ c bad)
+    refused (faults.BadTable file row kind) c = absurd (not_bad header _ c bad)
+    refused faults.StoreFault c = inr (inl refl)
+    refused faults.NoMemory c = inr (inr refl)
+
+    pub bad_question : (cause : Cause) → Ends cause → Bad cause
+    bad_question =
+        judged Bad (λ bytes u. absurd (not_bad header _ u bad)) (λ bytes u rose. absurd (not_bad header _ u bad)) (inr (inr refl)) refused
+
+  -- nothing is due, and no fault was counted
+  module _ (sound : HasSoundStep q header files) (bay_quiet : ¬ Rose before after) (quiet : ¬ Rose r.faults_before r.faults_after) (taken : ¬ Rose (faults_of old) (faults_of new)) where
+    abbrev Whole : Cause → Type 0
+    Whole cause = (status_of cause ≡ 0) ⊎ (status_of cause ≡ 11)
+
+    goes_on : (g : ExtractFault) → Under header (λ h. IsStop h q files g) → ⊥
+    goes_on g u = both_of header _ _ sound u (λ h p c. never h q files p.0.0 p.0.1.0 p.0.1.1 p.1 g c)
+
+    no_outage : C faults.StoreFault → ⊥
+    no_outage (inl rose) = bay_quiet rose
+    no_outage (inr both) = quiet both.0
+
+    completes : (g : ExtractFault) → C g → Whole (cause_of_extract q.time g)
+    completes (faults.Header line kind) c = absurd (not_read header _ (record { line = line; kind = kind }) sound c.1)
+    completes faults.OtherAxes c = absurd (goes_on faults.OtherAxes c)
+    completes faults.UnknownField c = absurd (goes_on faults.UnknownField c)
+    completes (faults.Plan other) c = absurd (goes_on (faults.Plan other) c)
+    completes faults.NotPublished c = absurd (goes_on faults.NotPublished c)
+    completes (faults.BadTable file row kind) c = absurd (goes_on (faults.BadTable file row kind) c)
+    completes faults.StoreFault c = absurd (no_outage c)
+    completes faults.NoMemory c = inr refl
+
+    pub sound_ends : (cause : Cause) → Ends cause → Whole cause
+    sound_ends = judged Whole (λ bytes u. inl refl) (λ bytes u rose. absurd (taken rose)) (inr refl) completes
