@@ -125,7 +125,7 @@ fn bytes_apart(weight: u64, step: u64, count: u64) -> u64
 }
 
 /// The first number from `lo` on that is `first` more than a multiple of a step.
-fn first_from(lo: u64, first: u64, step: u64) -> u64
+pub fn first_from(lo: u64, first: u64, step: u64) -> u64
     requires lo { lo ≤ 2 ^ 40 }
     requires first { first < step }
     requires step { step ≤ 2 ^ 40 }

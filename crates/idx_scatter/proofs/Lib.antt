@@ -4,3 +4,4 @@ pub mod MoveLemmas
 pub mod AskedLemmas
 pub mod PointLemmas
 pub mod LevelLemmas
+pub mod PlanLemmas

@@ -1,27 +1,35 @@
 -- Moves make places right, and keep right what is.
-use Rattle.std.proofs.Common.{◌≡◌, ℕ, ◌+◌, ◌*◌, ◌^◌, ◌<◌, ◌≤◌, List, [], ◌∷◌, length, take, drop, refl, ap, ◌∙◌, subst, inl, inr, arith, length-drop}
+use Rattle.std.proofs.Common.{◌≡◌, ℕ, ◌+◌, ◌*◌, ◌<◌, ◌≤◌, List, [], ◌∷◌, length, take, drop, sym, ap, ◌∙◌, subst, inl, inr, arith, length-drop}
 use Rattle.std.specs.Prelude.{All}
 use Rattle.std.proofs.lemmas.Bool.{cases_lt}
 use Rattle.std.proofs.lemmas.List.{length-take-le}
+use Rattle.std.proofs.lemmas.List.Elements.{All-head, All-tail}
 use Rattle.std.proofs.Math.Nat.{mul-le-mul_left}
-use Rattle.idx_geom.specs.Region.{points}
 use Rattle.idx_stride.specs.Written.{written}
 use Rattle.idx_block.specs.Spread.{part_after}
-use Rattle.idx_block.specs.declared.ask.Ask.{Ask}
 use Rattle.idx_block.specs.declared.line.Line.{Line}
-use Rattle.idx_block.specs.Copies.{EachCopy, HasCoordinate, IsRight}
-use Rattle.idx_block.specs.Plan.{IsPlan, byte_at, count_on, line_on, place_at, sum_to}
-use Rattle.idx_block.proofs.CopyLemmas.{each-implied, kept-written, placed-written, some_copy}
-use Rattle.idx_block.proofs.EachLemmas.{each-elim}
-use Rattle.idx_scatter.specs.Asked.{Asked, asked_before}
+use Rattle.idx_block.specs.Copies.{HasCoordinate, IsRight}
+use Rattle.idx_block.proofs.CopyLemmas.{faster_of, kept-written, lines-are, placed-written, slowest_of}
+use Rattle.idx_scatter.specs.Legs.{AllFit, EachMove, Fits, leg_of, place_by, tally_at}
 use Rattle.idx_scatter.specs.Scatter.{sample_of}
-use Rattle.idx_scatter.specs.Moves.{AreMoved, AreMovedBy, IsAsked, IsPut, IsThere}
+use Rattle.idx_scatter.specs.Moves.{AreMoved, IsRoom, IsWanted}
+use Rattle.idx_scatter.specs.declared.leg.Leg.{Leg}
+use Rattle.idx_scatter.specs.declared.tally.Tally.{Tally}
+
+-- a sample has a byte
+pub one_is : (n size : ℕ) → 1 ≤ size → n + 1 ≤ (n + 1) * size
+one_is n size some =
+    let wide : (n + 1) * 1 ≤ (n + 1) * size = mul-le-mul_left (n + 1) some in
+    omega (arith, wide)
+
+pub add_one : (n size : ℕ) → (n + 1) * size ≡ n * size + size
+add_one n size = grind arith
 
 -- one sample is moved
-pub move-made : (a : Asked) (want : ℕ → List ℕ) (size at place from to : ℕ) (samples old new : List ℕ) → (asked_before a at + 1) * size ≤ length old → (place + 1) * size ≤ length samples → from ≡ place * size → to ≡ asked_before a at * size →
-    new ≡ written to (take size (drop from samples)) old → IsAsked a want size samples at place → AreMoved a want size [] at place old new
-move-made a want size at place from to samples old new room there from_is to_is is right =
-    let o : ℕ = asked_before a at in
+pub move-made : (want : ℕ → List ℕ) (size place from to : ℕ) (legs : List Leg) (tally : Tally) (samples old new : List ℕ) → (place_by tally + 1) * size ≤ length old → (place + 1) * size ≤ length samples → from ≡ place * size → to ≡ place_by tally * size →
+    new ≡ written to (take size (drop from samples)) old → IsWanted want size samples place tally → AreMoved want size legs [] place tally old new
+move-made want size place from to legs tally samples old new room there from_is to_is is right =
+    let o : ℕ = place_by tally in
     let piece : List ℕ = sample_of size samples place in
     let more : (place + 1) * size ≡ place * size + size = grind arith in
     let long : length piece ≡ size = length-take-le size (drop (place * size) samples) (omega (arith, there, more, length-drop (place * size) samples)) in
@@ -32,64 +40,74 @@ move-made a want size at place from to samples old new room there from_is to_is 
       placed = ap (λ t. take size (drop (o * size) t)) here ∙ placed-written want size o piece old long room right;
     }
 
--- ---- moves along a line, one coordinate after another
+-- ---- moves along lines
+
+-- of each move, what follows from what holds of each
+pub moves-implied : (P Q : ℕ → Tally → Type 0) → ((o : ℕ) (t : Tally) → P o t → Q o t) → (legs : List Leg) (lines : List Line) (place : ℕ) (rows : Tally) → EachMove P legs lines place rows → EachMove Q legs lines place rows
+moves-implied P Q implies legs [] place rows h = implies place rows h
+moves-implied P Q implies legs (line ∷ faster) place rows h =
+    λ k lt. moves-implied P Q implies legs faster (place + part_after line.bits line.first k) (tally_at (leg_of legs faster) rows k) (h k lt)
+
+-- lines that have coordinates have a move, which comes from no lower place
+some_move : (P : ℕ → Tally → Type 0) (legs : List Leg) (lines : List Line) (place : ℕ) (rows : Tally) → All HasCoordinate lines → EachMove P legs lines place rows → (o : ℕ) × (t : Tally) × P o t × (place ≤ o)
+some_move P legs [] place rows some h = (place, rows, h, omega arith)
+some_move P legs (line ∷ faster) place rows some h =
+    let first : 0 < line.count = All-head HasCoordinate line faster some in
+    let found = some_move P legs faster (place + part_after line.bits line.first 0) (tally_at (leg_of legs faster) rows 0) (All-tail HasCoordinate line faster some) (h 0 first) in
+    (found.0, found.1, found.2, omega (arith, found.3))
+
+-- where each move is there, so is the place that the first one begins at
+pub begins_there : (size : ℕ) (samples into : List ℕ) (legs : List Leg) (lines : List Line) (place : ℕ) (rows : Tally) → 1 ≤ size → All HasCoordinate lines → EachMove (IsRoom size samples into) legs lines place rows → place < length samples
+begins_there size samples into legs lines place rows some counts within =
+    let found = some_move (IsRoom size samples into) legs lines place rows counts within in
+    omega (arith, found.2.read, found.3, one_is found.0 size some)
+
+-- the moves along the other lines, at one coordinate of the slowest
+pub moves-faster : (P : ℕ → Tally → Type 0) (legs : List Leg) (lines : List Line) (place k part : ℕ) (rows : Tally) → 1 ≤ length lines → k < (slowest_of lines).count → part ≡ part_after (slowest_of lines).bits (slowest_of lines).first k →
+    EachMove P legs lines place rows → EachMove P legs (faster_of lines) (place + part) (tally_at (leg_of legs (faster_of lines)) rows k)
+moves-faster P legs lines place k part rows some within at each =
+    let whole : EachMove P legs (slowest_of lines ∷ faster_of lines) place rows = subst (λ (ls : List Line). EachMove P legs ls place rows) (sym (lines-are lines some)) each in
+    subst (λ (n : ℕ). EachMove P legs (faster_of lines) (place + n) (tally_at (leg_of legs (faster_of lines)) rows k)) (sym at) (whole k within)
+
+pub fits-faster : (legs : List Leg) (lines : List Line) (k : ℕ) (rows : Tally) → 1 ≤ length lines → k < (slowest_of lines).count → AllFit legs lines rows → Fits (leg_of legs (faster_of lines)) rows k × AllFit legs (faster_of lines) (tally_at (leg_of legs (faster_of lines)) rows k)
+fits-faster legs lines k rows some within fits =
+    let whole : AllFit legs (slowest_of lines ∷ faster_of lines) rows = subst (λ (ls : List Line). AllFit legs ls rows) (sym (lines-are lines some)) fits in
+    whole k within
+
+-- the place in the answer of a coordinate of a row of equal steps
+pub spot : (legs : List Leg) (rows at : Tally) (first k more : ℕ) → at ≡ tally_at (leg_of legs []) rows 0 → first ≡ place_by at → place_by (tally_at (leg_of legs []) rows k) ≡ place_by (tally_at (leg_of legs []) rows 0) + k * more →
+    first + k * more ≡ place_by (tally_at (leg_of legs []) rows k)
+spot legs rows at first k more at_is first_is even = ap (λ n. n + k * more) (first_is ∙ ap place_by at_is) ∙ sym even
 
 -- the moves at the first coordinates of a line are made, and what was right stays so
-pub record AreSoFar (a : Asked) (want : ℕ → List ℕ) (size : ℕ) (line : Line) (faster : List Line) (at place count : ℕ) (old new : List ℕ) : Type 0 where
+pub record AreSoFar (want : ℕ → List ℕ) (size : ℕ) (legs : List Leg) (line : Line) (faster : List Line) (place : ℕ) (rows : Tally) (count : ℕ) (old new : List ℕ) : Type 0 where
   pub kept : (o : ℕ) → IsRight want size old o → IsRight want size new o
-  pub placed : (k : ℕ) → k < count → EachCopy (λ at place. IsPut a want size new at) faster (at + k * line.step) (place + part_after line.bits line.first k)
+  pub placed : (k : ℕ) → k < count → EachMove (λ place tally. IsRight want size new (place_by tally)) legs faster (place + part_after line.bits line.first k) (tally_at (leg_of legs faster) rows k)
 
-pub so_far-none : (a : Asked) (want : ℕ → List ℕ) (size : ℕ) (line : Line) (faster : List Line) (at place : ℕ) (old : List ℕ) → AreSoFar a want size line faster at place 0 old old
-so_far-none a want size line faster at place old = record { kept = λ o h. h; placed = λ k lt. absurd (omega arith) }
+pub so_far-none : (want : ℕ → List ℕ) (size : ℕ) (legs : List Leg) (line : Line) (faster : List Line) (place : ℕ) (rows : Tally) (old : List ℕ) → AreSoFar want size legs line faster place rows 0 old old
+so_far-none want size legs line faster place rows old = record { kept = λ o h. h; placed = λ k lt. absurd (omega arith) }
 
 -- those at one coordinate more
-pub so_far-more : (a : Asked) (want : ℕ → List ℕ) (size : ℕ) (line : Line) (faster : List Line) (at place count : ℕ) (old mid new : List ℕ) →
-    AreSoFar a want size line faster at place count old mid →
-    AreMoved a want size faster (at + count * line.step) (place + part_after line.bits line.first count) mid new →
-    AreSoFar a want size line faster at place (count + 1) old new
-so_far-more a want size line faster at place count old mid new before one = record {
+pub so_far-more : (want : ℕ → List ℕ) (size : ℕ) (legs : List Leg) (line : Line) (faster : List Line) (place : ℕ) (rows : Tally) (count : ℕ) (old mid new : List ℕ) →
+    AreSoFar want size legs line faster place rows count old mid →
+    AreMoved want size legs faster (place + part_after line.bits line.first count) (tally_at (leg_of legs faster) rows count) mid new →
+    AreSoFar want size legs line faster place rows (count + 1) old new
+so_far-more want size legs line faster place rows count old mid new before one = record {
   kept = λ o h. one.kept o (before.kept o h);
   placed = λ k lt. elim (cases_lt k count) [
-    | inl less ↦ each-implied (λ at place. IsPut a want size mid at) (λ at place. IsPut a want size new at) (λ at place. one.kept (asked_before a at)) faster (at + k * line.step) (place + part_after line.bits line.first k) (before.placed k less)
+    | inl less ↦
+        moves-implied (λ place tally. IsRight want size mid (place_by tally)) (λ place tally. IsRight want size new (place_by tally)) (λ place tally. one.kept (place_by tally)) legs faster
+        (place + part_after line.bits line.first k) (tally_at (leg_of legs faster) rows k) (before.placed k less)
     | inr ge ↦
         let last : count ≡ k = omega (arith, lt) in
-        subst (λ (n : ℕ). EachCopy (λ at place. IsPut a want size new at) faster (at + n * line.step) (place + part_after line.bits line.first n)) last one.placed
+        subst (λ (n : ℕ). EachMove (λ place tally. IsRight want size new (place_by tally)) legs faster (place + part_after line.bits line.first n) (tally_at (leg_of legs faster) rows n)) last one.placed
   ];
 }
 
 -- those at all of them
-pub so_far-all : (a : Asked) (want : ℕ → List ℕ) (size : ℕ) (line : Line) (faster : List Line) (at place count : ℕ) (old new : List ℕ) → line.count ≤ count →
-    AreSoFar a want size line faster at place count old new → AreMoved a want size (line ∷ faster) at place old new
-so_far-all a want size line faster at place count old new all made = record {
+pub so_far-all : (want : ℕ → List ℕ) (size : ℕ) (legs : List Leg) (line : Line) (faster : List Line) (place : ℕ) (rows : Tally) (count : ℕ) (old new : List ℕ) → line.count ≤ count →
+    AreSoFar want size legs line faster place rows count old new → AreMoved want size legs (line ∷ faster) place rows old new
+so_far-all want size legs line faster place rows count old new all made = record {
   kept = made.kept;
   placed = λ k lt. made.placed k (omega (arith, lt));
-}
-
--- where each move is there, so are the places that it begins at
-pub begins_there : (a : Asked) (size : ℕ) (samples into : List ℕ) (lines : List Line) (at place : ℕ) → 1 ≤ size → All HasCoordinate lines → EachCopy (IsThere a size samples into) lines at place → (at < length (points a.region)) × (at < 2 ^ 40) × (place < length samples)
-begins_there a size samples into lines at place some counts within =
-    let found = some_copy (IsThere a size samples into) lines at place counts within in
-    let wide : (found.1 + 1) * 1 ≤ (found.1 + 1) * size = mul-le-mul_left (found.1 + 1) some in
-    (omega (arith, found.2.point, found.3), omega (arith, found.2.point, found.2.few, found.3), omega (arith, found.2.read, found.4, wide))
-
--- ---- a plan
-
-abbrev step_at : Ask → (ℕ → ℕ) → ℕ → ℕ
-step_at ask ks axis = ks axis * (line_on ask axis).step
-
-pub plan-moved : (a : Asked) (want : ℕ → List ℕ) (size : ℕ) (ask : Ask) (axes at : ℕ) (lines : List Line) (old new : List ℕ) → IsPlan ask axes at lines → AreMoved a want size lines at 0 old new → AreMovedBy a want size ask axes old new
-plan-moved a want size ask axes at lines old new is made = record {
-  kept = made.kept;
-  placed = λ ks are.
-      let byte : at + sum_to (step_at ask ks) axes ≡ byte_at ask axes ks = omega (arith, is.begins) in
-      subst (λ (o : ℕ). IsPut a want size new o) byte
-      (each-elim (λ at place. IsPut a want size new at) ask axes at 0 (subst (λ (ls : List Line). EachCopy (λ at place. IsPut a want size new at) ls at 0) is.along made.placed) ks are
-      (at + sum_to (step_at ask ks) axes) (place_at ask axes ks) refl (omega arith));
-}
-
--- where an axis has no coordinate there are no moves
-pub none-moved : (a : Asked) (want : ℕ → List ℕ) (size : ℕ) (ask : Ask) (axes : ℕ) (old : List ℕ) → (axis : ℕ) × (axis < axes) × (count_on ask axis ≡ 0) → AreMovedBy a want size ask axes old old
-none-moved a want size ask axes old none = record {
-  kept = λ o h. h;
-  placed = λ ks are. absurd (omega (arith, are none.0 none.1, none.2));
 }

@@ -1,15 +1,16 @@
 -- How many points that are asked for come before a place: those on the strides of the finest level, without those on the
 -- strides of the levels before the coarsest one.
-use Rattle.std.proofs.Common.{◌≡◌, ℕ, suc, ◌+◌, ◌-◌, ◌*◌, ◌/◌, ◌%◌, ◌<◌, ◌≤◌, Bool, true, false, cond, ◌&&◌, leb, List, [], ◌∷◌, length, filter, take, get_or, refl, sym, ap, ◌∙◌, subst, arith}
+use Rattle.std.proofs.Common.{◌≡◌, ℕ, zero, suc, ◌+◌, ◌-◌, ◌*◌, ◌^◌, ◌<◌, ◌≤◌, Bool, true, false, cond, ◌&&◌, leb, List, [], ◌∷◌, length, filter, take, get_or, refl, sym, ap, ◌∙◌, subst, inl, inr, arith}
 use Rattle.std.specs.Prelude.{All}
+use Rattle.std.proofs.lemmas.Bool.{cases_lt}
 use Rattle.std.proofs.lemmas.Bool.Decides.{nat_tests}
+use Rattle.std.specs.Int.Count.{count_trailing_zeros}
+use Rattle.idx_hz.proofs.ShiftLemmas.{count_trailing_zeros-in_word}
 use Rattle.std.proofs.lemmas.List.Elements.{All-cons, All-nil, All-take}
-use Rattle.std.proofs.lemmas.Nat.{div-add-mod', div_below}
-use Rattle.std.proofs.Math.Nat.{mul_comm}
+use Rattle.std.proofs.Math.Nat.{pow-le-pow_right}
 use Rattle.std.proofs.Math.Seq.{take-length}
-use Rattle.idx_geom.specs.Region.{LiesIn, extent, points}
+use Rattle.idx_geom.specs.Region.{LiesIn, points}
 use Rattle.idx_geom.proofs.LiesInLemmas.{length_from_LiesIn}
-use Rattle.idx_geom.proofs.PointsLemmas.{length-points, size}
 use Rattle.idx_hz.specs.Mask.{NamesAxes}
 use Rattle.idx_hz.specs.Address.{level}
 use Rattle.idx_hz.specs.Answer.{has_level}
@@ -42,6 +43,29 @@ sides-from s k (b ∷ bs) (side ∷ sides) long each =
           let next : k + suc a ≡ k + 1 + a = omega arith in
           subst (λ (n : ℕ). IsSide (s n) (get_or bs a (0, 0)) (get_or sides a no_side)) next (each (suc a) (omega (arith, within)))),
     )
+
+-- the side of each axis
+pub sides-at : (s : ℕ → ℕ) (k : ℕ) (bs : List (ℕ × ℕ)) (sides : List Side) → AreSides s k bs sides → (a : ℕ) → a < length bs → IsSide (s (k + a)) (get_or bs a (0, 0)) (get_or sides a no_side)
+sides-at s k [] sides are a within = absurd (omega (arith, within))
+sides-at s k (b ∷ bs) [] are a within = absurd are
+sides-at s k (b ∷ bs) (side ∷ sides) are zero within =
+    let first : k ≡ k + 0 = omega arith in
+    subst (λ (n : ℕ). IsSide (s n) b side) first are.0
+sides-at s k (b ∷ bs) (side ∷ sides) are (suc a) within =
+    let next : k + 1 + a ≡ k + suc a = omega arith in
+    subst (λ (n : ℕ). IsSide (s n) (get_or bs a (0, 0)) (get_or sides a no_side)) next (sides-at s (k + 1) bs sides are.1 a (omega (arith, within)))
+
+-- the zeros that a power of two ends with
+pub trailing-power : (n bits : ℕ) → n ≡ 2 ^ bits → n ≤ 2 ^ 40 → (count_trailing_zeros 64 n ≡ bits) × (bits ≤ 40)
+trailing-power n bits is small =
+    let few : bits ≤ 40 = elim (cases_lt 40 bits) [
+      | inl more ↦
+          let up : 2 ^ 41 ≤ 2 ^ bits = pow-le-pow_right {n = 2} (omega arith) {i = 41} {j = bits} (omega (arith, more)) in
+          absurd (omega (arith, up, is, small))
+      | inr le ↦ le
+    ] in
+    let one : (2 * 0 + 1) * 2 ^ bits ≡ 2 ^ bits = omega arith in
+    (ap (count_trailing_zeros 64) (is ∙ sym one) ∙ count_trailing_zeros-in_word 64 bits 0 (omega (arith, few)), few)
 
 -- ---- levels
 
@@ -95,45 +119,3 @@ before-split a place named some le =
 -- before the end of the region come all that are asked for
 pub all-before : (a : Asked) → asked_before a (length (points a.region)) ≡ length (asked_points a)
 all-before a = ap (λ t. length (filter (has_level a.mask a.lo a.hi) t)) (take-length (points a.region))
-
--- ---- along a row
-
--- a place by its row
-pub record IsInRow (b : ℕ × ℕ) (bs : List (ℕ × ℕ)) (place row here : ℕ) : Type 0 where
-  pub some : 1 ≤ extent b
-  pub at : row * extent b + here ≡ place
-  pub within : row < length (points bs)
-
-pub in-row : (b : ℕ × ℕ) (bs : List (ℕ × ℕ)) (place e : ℕ) → e ≡ extent b → 1 ≤ e → place < length (points (b ∷ bs)) → IsInRow b bs place (place / e) (place % e)
-in-row b bs place e is some within = record {
-  some = omega (arith, is, some);
-  at = ap (λ n. place / e * n + place % e) (sym is) ∙ div-add-mod' place e;
-  within = omega (arith, length-points bs, div_below place e (size bs) some (omega (arith, within, length-points (b ∷ bs), mul_comm (size bs) (extent b), ap (λ n. size bs * n) is)));
-}
-
--- the same number more at each step, of points on two strides
-pub more-split : (near_a near_c near_f far_a far_c far_f k df dc : ℕ) → near_a + near_c ≡ near_f → far_a + far_c ≡ far_f → far_f ≡ near_f + k * df → far_c ≡ near_c + k * dc → dc ≤ df → far_a ≡ near_a + k * (df - dc)
-more-split near_a near_c near_f far_a far_c far_f k df dc near far fine coarse le =
-    let split : df ≡ dc + (df - dc) = omega (arith, le) in
-    let both : k * df ≡ k * dc + k * (df - dc) = ap (λ n. k * n) split ∙ grind arith in
-    omega (arith, near, far, fine, coarse, both)
-
--- the extent of the first axis
-pub first-extent : (s : ℕ → ℕ) (k : ℕ) (bs : List (ℕ × ℕ)) (sides : List Side) → AreSides s k bs sides → 1 ≤ length bs → (get_or sides 0 no_side).extent ≡ extent (get_or bs 0 (0, 0))
-first-extent s k [] sides are some = absurd (omega (arith, some))
-first-extent s k (b ∷ bs) [] are some = absurd are
-first-extent s k (b ∷ bs) (side ∷ sides) are some = are.0.wide
-
--- the same number more at each step along the row of a place
-pub row-more : (s : ℕ → ℕ) (region : List (ℕ × ℕ)) (sides : List Side) (place step k e more : ℕ) → 1 ≤ length region → AreSides s 0 region sides → e ≡ extent (get_or region 0 (0, 0)) →
-    place < length (points region) → place % e + k * step < e →
-    ((s : ℕ → ℕ) (k : ℕ) (b : ℕ × ℕ) (bs : List (ℕ × ℕ)) → AreSides s k (b ∷ bs) sides → place / e < length (points bs) → (i j : ℕ) → i + j * step < extent b →
-    count_before s k (b ∷ bs) (place / e * extent b + (i + j * step)) ≡ count_before s k (b ∷ bs) (place / e * extent b + i) + j * more) →
-    count_before s 0 region (place + k * step) ≡ count_before s 0 region place + k * more
-row-more s [] sides place step k e more some are is within fits given = absurd (omega (arith, some))
-row-more s (b ∷ bs) sides place step k e more some are is within fits given =
-    let at = in-row b bs place e is (omega (arith, fits)) within in
-    let far : place / e * extent b + (place % e + k * step) ≡ place + k * step = omega (arith, at.at) in
-    ap (count_before s 0 (b ∷ bs)) (sym far)
-    ∙ given s 0 b bs are at.within (place % e) k (omega (arith, fits, is))
-    ∙ ap (λ n. count_before s 0 (b ∷ bs) n + k * more) at.at

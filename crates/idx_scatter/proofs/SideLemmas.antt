@@ -1,16 +1,16 @@
 -- How many multiples come before a place of a region's points, axis by axis.
-use Rattle.std.proofs.Common.{◌≡◌, ℕ, zero, suc, ◌+◌, ◌-◌, ◌*◌, ◌/◌, ◌%◌, ◌<◌, ◌≤◌, Bool, true, false, cond, ◌&&◌, eqb, List, [], ◌∷◌, ◌++◌, length, map, filter, take, drop, get_or, Some, refl, sym, ap, ◌∙◌, subst, inl, inr, arith, append_assoc, length-append}
+use Rattle.std.proofs.Common.{◌≡◌, ℕ, zero, suc, ◌+◌, ◌-◌, ◌*◌, ◌/◌, ◌%◌, ◌^◌, ◌<◌, ◌≤◌, Bool, true, false, cond, ◌&&◌, eqb, List, [], ◌∷◌, ◌++◌, length, map, filter, take, drop, get_or, Some, refl, sym, ap, ◌∙◌, subst, inl, inr, arith, append_assoc, length-append}
 use Rattle.std.specs.Prelude.{min}
 use Rattle.std.specs.List.{flat_map, range_with_len, slice_get}
 use Rattle.std.proofs.lemmas.Bool.{cases_lt}
 use Rattle.std.proofs.lemmas.List.{length-map}
 use Rattle.std.proofs.lemmas.List.Elements.{filter-append}
 use Rattle.std.proofs.lemmas.List.FromFn.{length-map-range_with_len}
-use Rattle.std.proofs.lemmas.Nat.{div-add-mod', div-mul-add}
+use Rattle.std.proofs.lemmas.Nat.{div-add-mod', div-mul-add, mod-mul-add}
 use Rattle.std.proofs.lemmas.List.{take-append-le}
 use Rattle.std.proofs.lemmas.List.FromFn.{take-map-range_with_len}
-use Rattle.std.proofs.lemmas.Nat.{div_below, le-div}
-use Rattle.std.proofs.Math.Nat.{add-mul-div_right, div-mul-le_self, mod-lt, mul-le-mul_right, mul_comm}
+use Rattle.std.proofs.lemmas.Nat.{div_below, le-div, pow_pos}
+use Rattle.std.proofs.Math.Nat.{add-mul-div_right, div-mul-le_self, mod-eq_of_lt, mod-lt, mul-le-mul_right, mul_comm}
 use Rattle.std.proofs.Math.Seq.{take-append-add, take-length, take-suc}
 use Rattle.std.proofs.lemmas.Option.{get_or_from_slice_get}
 use Rattle.idx_geom.specs.Region.{extent, points}
@@ -21,6 +21,9 @@ use Rattle.idx_walk.proofs.ListLemmas.{filter-map, map-filter_and}
 use Rattle.idx_walk.specs.Progression.{count_of}
 use Rattle.idx_scatter.specs.declared.side.Earlier.{Earlier}
 use Rattle.idx_scatter.specs.declared.side.Side.{Side}
+use Rattle.idx_scatter.specs.declared.leg.Leg.{Leg}
+use Rattle.idx_scatter.specs.declared.tally.Tally.{Tally}
+use Rattle.idx_scatter.specs.Legs.{place_by, tally_at}
 use Rattle.idx_scatter.specs.Sides.{AreSides, IsBefore, IsSane, IsSide, count_before, in_row, multiples_in}
 
 -- ---- one axis
@@ -80,6 +83,13 @@ multiples-on s lo i j step some whole =
     ap (λ t. t / s) at ∙ add-mul-div_right (lo + i + s - 1) (j * (step / s)) some in
     let less : lo + s - 1 ≤ lo + i + s - 1 = omega arith in
     omega (arith, more, div-mono s (lo + s - 1) (lo + i + s - 1) some less)
+
+-- the multiples from 0 on below a place of a side
+pub shifted : (side : Side) (n : ℕ) → IsSane side → (side.lo + n + (side.stride - 1)) / 2 ^ side.shift ≡ (side.lo + n + side.stride - 1) / side.stride
+shifted side n sane =
+    let some = sane.paced in
+    let same : side.lo + n + (side.stride - 1) ≡ side.lo + n + side.stride - 1 = omega arith in
+    λ i. same i / sym sane.power i
 
 -- ---- rows
 
@@ -180,16 +190,12 @@ before-none s k [] place are within =
     record { count = sym (ap (λ n. length (filter (on s k) (take n ([] ∷ [])))) first); lies = refl }
 before-none s k (b ∷ bs) place are within = absurd are
 
--- one axis more
-pub before-some : (s : ℕ → ℕ) (k : ℕ) (bs : List (ℕ × ℕ)) (side : Side) (slower : List Side) (place : ℕ) (rows : Earlier) → AreSides s k bs (side ∷ slower) → place < length (points bs) →
-    ((s : ℕ → ℕ) (k : ℕ) (bs : List (ℕ × ℕ)) → AreSides s k bs slower → place / side.extent < length (points bs) → IsBefore s k bs (place / side.extent) rows.count rows.lies) →
-    IsBefore s k bs place (in_row side rows (place % side.extent)).count (in_row side rows (place % side.extent)).lies
-before-some s k [] side slower place rows are within given = absurd are
-before-some s k (b ∷ bs) side slower place rows are within given = by_test rows.lies refl
+-- one axis more: before a place of a row come the multiples of the rows before it, and those before it in the row
+pub before-one : (s : ℕ → ℕ) (k : ℕ) (b : ℕ × ℕ) (bs : List (ℕ × ℕ)) (side : Side) (place : ℕ) (rows : Earlier) → IsSide (s k) b side → place < length (points (b ∷ bs)) →
+    IsBefore s (k + 1) bs (place / side.extent) rows.count rows.lies →
+    IsBefore s k (b ∷ bs) place (in_row side rows (place % side.extent)).count (in_row side rows (place % side.extent)).lies
+before-one s k b bs side place rows is within below = by_test rows.lies refl
   where
-    is : IsSide (s k) b side
-    is = are.0
-
     e : ℕ
     e = extent b
 
@@ -213,9 +219,6 @@ before-some s k (b ∷ bs) side slower place rows are within given = by_test row
 
     fewer : place / e < length (points bs)
     fewer = omega (arith, length-points bs, div_below place e (size bs) some (omega (arith, within, length-points (b ∷ bs), mul_comm (size bs) e)))
-
-    below : IsBefore s (k + 1) bs (place / side.extent) rows.count rows.lies
-    below = given s (k + 1) bs are.1 (omega (arith, quotient, fewer))
 
     step : count_before s k (b ∷ bs) place ≡ multiples_in (s k) b.0 e * count_before s (k + 1) bs (place / e) + cond (on s (k + 1) (point_of bs (place / e))) (multiples_in (s k) b.0 (place % e)) 0
     step = ap (count_before s k (b ∷ bs)) parts ∙ count-step s k b bs (place / e) (place % e) stride_some fewer (omega (arith, small))
@@ -262,33 +265,81 @@ before-some s k (b ∷ bs) side slower place rows are within given = by_test row
               ∙ sym (ap (λ (t : Bool). t && eqb ((b.0 + place % e) % s k) 0) off);
         }
 
+pub before-some : (s : ℕ → ℕ) (k : ℕ) (bs : List (ℕ × ℕ)) (side : Side) (slower : List Side) (place : ℕ) (rows : Earlier) → AreSides s k bs (side ∷ slower) → place < length (points bs) →
+    ((s : ℕ → ℕ) (k : ℕ) (bs : List (ℕ × ℕ)) → AreSides s k bs slower → place / side.extent < length (points bs) → IsBefore s k bs (place / side.extent) rows.count rows.lies) →
+    IsBefore s k bs place (in_row side rows (place % side.extent)).count (in_row side rows (place % side.extent)).lies
+before-some s k [] side slower place rows are within given = absurd are
+before-some s k (b ∷ bs) side slower place rows are within given =
+    let some : 1 ≤ side.extent = are.0.sane.some in
+    let wide : size bs * side.extent ≡ extent b * size bs = ap (λ n. size bs * n) are.0.wide ∙ mul_comm (size bs) (extent b) in
+    let fewer : place / side.extent < length (points bs) = omega (arith, length-points bs, div_below place side.extent (size bs) some (omega (arith, within, length-points (b ∷ bs), wide))) in
+    before-one s k b bs side place rows are.0 within (given s (k + 1) bs are.1 fewer)
+
+-- the same by the row
+pub before-row : (s : ℕ → ℕ) (k : ℕ) (b : ℕ × ℕ) (bs : List (ℕ × ℕ)) (side : Side) (rows : Earlier) (r here : ℕ) → IsSide (s k) b side → IsBefore s (suc k) bs r rows.count rows.lies →
+    r < length (points bs) → here < extent b → IsBefore s k (b ∷ bs) (r * extent b + here) (in_row side rows here).count (in_row side rows here).lies
+before-row s k b bs side rows r here is below within small =
+    let place : ℕ = r * side.extent + here in
+    let fits : here < side.extent = omega (arith, small, is.wide) in
+    let next : suc k ≡ k + 1 = omega arith in
+    let row : r ≡ place / side.extent = sym (div-mul-add r side.extent here fits) in
+    let rest : place % side.extent ≡ here = mod-mul-add r side.extent here fits in
+    let same : place ≡ r * extent b + here = ap (λ n. r * n + here) is.wide in
+    let le : r + 1 ≤ size bs = omega (arith, within, length-points bs) in
+    let more : (r + 1) * extent b ≡ r * extent b + extent b = grind arith in
+    let room : place < length (points (b ∷ bs)) = omega (arith, same, small, length-points (b ∷ bs), mul-le-mul_right (extent b) le, more, mul_comm (size bs) (extent b)) in
+    subst (λ (n : ℕ). IsBefore s k (b ∷ bs) n (in_row side rows here).count (in_row side rows here).lies) same
+    (subst (λ (n : ℕ). IsBefore s k (b ∷ bs) place (in_row side rows n).count (in_row side rows n).lies) rest
+    (before-one s k b bs side place rows is room (subst (λ (n : ℕ). IsBefore s n bs (place / side.extent) rows.count rows.lies) next (subst (λ (n : ℕ). IsBefore s (suc k) bs n rows.count rows.lies) row below))))
+
+-- a row that lies on no strides
+pub off-row : (side : Side) (rows : Earlier) (here : ℕ) → rows.lies ≡ false → ((in_row side rows here).count ≡ side.whole * rows.count) × ((in_row side rows here).lies ≡ false)
+off-row side rows here apart = (
+  ap (λ (t : Bool). (cond {A = Earlier} t (record { count = side.whole * rows.count + multiples_in side.stride side.lo here; lies = eqb ((side.lo + here) % side.stride) 0 })
+      (record { count = side.whole * rows.count; lies = false })).count) apart,
+  ap (λ (t : Bool). (cond {A = Earlier} t (record { count = side.whole * rows.count + multiples_in side.stride side.lo here; lies = eqb ((side.lo + here) % side.stride) 0 })
+      (record { count = side.whole * rows.count; lies = false })).lies) apart,
+)
+
+-- and one that does
+pub on-row : (side : Side) (rows : Earlier) (here : ℕ) → rows.lies ≡ true → (in_row side rows here).count ≡ side.whole * rows.count + multiples_in side.stride side.lo here
+on-row side rows here stands =
+    ap (λ (t : Bool). (cond {A = Earlier} t (record { count = side.whole * rows.count + multiples_in side.stride side.lo here; lies = eqb ((side.lo + here) % side.stride) 0 })
+    (record { count = side.whole * rows.count; lies = false })).count) stands
+
+-- where none comes before a row, and it lies on no strides, none comes before its places
+pub in_row-none : (side : Side) (rows : Earlier) (here : ℕ) → rows.count ≡ 0 → rows.lies ≡ false → ((in_row side rows here).count ≡ 0) × ((in_row side rows here).lies ≡ false)
+in_row-none side rows here none apart =
+    let is = off-row side rows here apart in
+    (omega (arith, is.0, ap (λ n. side.whole * n) none), is.1)
+
 -- ---- along a row
 
--- the same number more at each step: none where the row has no multiple, and else the strides of a step
-pub more-none : (s : ℕ → ℕ) (k : ℕ) (b : ℕ × ℕ) (bs : List (ℕ × ℕ)) (row i j step : ℕ) → 0 < s k → row < length (points bs) → on s (k + 1) (point_of bs row) ≡ false → i + j * step < extent b →
-    count_before s k (b ∷ bs) (row * extent b + (i + j * step)) ≡ count_before s k (b ∷ bs) (row * extent b + i) + j * 0
-more-none s k b bs row i j step some within off fits =
-    let all : ℕ = multiples_in (s k) b.0 (extent b) * count_before s (k + 1) bs row in
-    let far = count-step s k b bs row (i + j * step) some within (omega (arith, fits)) in
-    let near = count-step s k b bs row i some within (omega (arith, fits)) in
-    let far_is : count_before s k (b ∷ bs) (row * extent b + (i + j * step)) ≡ all + 0 = far ∙ ap (λ (t : Bool). all + cond t (multiples_in (s k) b.0 (i + j * step)) 0) off in
-    let near_is : count_before s k (b ∷ bs) (row * extent b + i) ≡ all + 0 = near ∙ ap (λ (t : Bool). all + cond t (multiples_in (s k) b.0 i) 0) off in
-    omega (arith, far_is, near_is)
+-- a number of whole strides
+pub whole-steps : (step s shift : ℕ) → s ≡ 2 ^ shift → step / 2 ^ shift * 2 ^ shift % 2 ^ 64 ≡ step → 0 < s → step % s ≡ 0
+whole-steps step s shift power is some =
+    let small : step < 2 ^ 64 = omega (arith, is, mod-lt (step / 2 ^ shift * 2 ^ shift) (pow_pos 64)) in
+    let less : step / s * s ≤ step = div-mul-le_self step s in
+    let same : step / s * s ≡ step / 2 ^ shift * 2 ^ shift = λ i. step / power i * power i in
+    let within : step / 2 ^ shift * 2 ^ shift < 2 ^ 64 = omega (arith, small, less, same) in
+    omega (arith, div-add-mod' step s, same, is, mod-eq_of_lt within)
 
-pub more-some : (s : ℕ → ℕ) (k : ℕ) (b : ℕ × ℕ) (bs : List (ℕ × ℕ)) (row i j step : ℕ) → 0 < s k → row < length (points bs) → on s (k + 1) (point_of bs row) ≡ true → step % s k ≡ 0 → i + j * step < extent b →
-    count_before s k (b ∷ bs) (row * extent b + (i + j * step)) ≡ count_before s k (b ∷ bs) (row * extent b + i) + j * (step / s k)
-more-some s k b bs row i j step some within stands whole fits =
-    let all : ℕ = multiples_in (s k) b.0 (extent b) * count_before s (k + 1) bs row in
-    let far = count-step s k b bs row (i + j * step) some within (omega (arith, fits)) in
-    let near = count-step s k b bs row i some within (omega (arith, fits)) in
-    let far_is : count_before s k (b ∷ bs) (row * extent b + (i + j * step)) ≡ all + multiples_in (s k) b.0 (i + j * step) = far ∙ ap (λ (t : Bool). all + cond t (multiples_in (s k) b.0 (i + j * step)) 0) stands in
-    let near_is : count_before s k (b ∷ bs) (row * extent b + i) ≡ all + multiples_in (s k) b.0 i = near ∙ ap (λ (t : Bool). all + cond t (multiples_in (s k) b.0 i) 0) stands in
-    omega (arith, far_is, near_is, multiples-on (s k) b.0 i j step some whole)
+-- the places of a row of multiples, of which none is one of the coarser ones
+pub even-places : (leg : Leg) (rows : Tally) (k : ℕ) → IsSane leg.fine → rows.fine.lies ≡ true → rows.coarse.lies ≡ false → leg.step % leg.fine.stride ≡ 0 → (tally_at leg rows 0).coarse.count ≤ (tally_at leg rows 0).fine.count →
+    place_by (tally_at leg rows k) ≡ place_by (tally_at leg rows 0) + k * (leg.step / leg.fine.stride)
+even-places leg rows k sane stands apart whole ordered =
+    let far = on-row leg.fine rows.fine (leg.here + k * leg.step) stands in
+    let near = on-row leg.fine rows.fine (leg.here + 0 * leg.step) stands in
+    let far_coarse = (off-row leg.coarse rows.coarse (leg.here + k * leg.step) apart).0 in
+    let near_coarse = (off-row leg.coarse rows.coarse (leg.here + 0 * leg.step) apart).0 in
+    let more = multiples-on leg.fine.stride leg.fine.lo leg.here k leg.step sane.paced whole in
+    let none = multiples-on leg.fine.stride leg.fine.lo leg.here 0 leg.step sane.paced whole in
+    omega (arith, far, near, far_coarse, near_coarse, more, none, ordered)
 
 -- ---- the first side, and the others
 
 abbrev pub no_side : Side
-no_side = record { lo = 0; extent = 0; stride = 0; whole = 0 }
+no_side = record { lo = 0; extent = 0; stride = 0; whole = 0; shift = 0; below = 0 }
 
 abbrev pub first_of : List Side → Side
 first_of sides = get_or sides 0 no_side

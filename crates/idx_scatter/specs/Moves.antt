@@ -1,13 +1,16 @@
 -- Moves of samples along lines, each from a place of a block to the place of its point in the answer. The lines are those
--- of the copies the other way round: they give the places of the points in the region.
+-- of the copies the other way round: they give the places of the points in the region, and the legs those in the answer.
 use Rattle.std.specs.Prelude.{◌≡◌, ℕ, ◌+◌, ◌*◌, ◌^◌, ◌<◌, ◌≤◌, List, length}
 use Rattle.idx_geom.specs.Region.{points}
-use Rattle.idx_block.specs.Copies.{EachCopy, IsRight}
+use Rattle.idx_block.specs.Copies.{IsRight}
 use Rattle.idx_block.specs.Plan.{AreNumbers, byte_at}
 use Rattle.idx_block.specs.declared.ask.Ask.{Ask}
 use Rattle.idx_block.specs.declared.line.Line.{Line}
 use Rattle.idx_scatter.specs.Asked.{Asked, asked_before}
+use Rattle.idx_scatter.specs.Legs.{EachMove, place_by}
 use Rattle.idx_scatter.specs.Scatter.{sample_of}
+use Rattle.idx_scatter.specs.declared.leg.Leg.{Leg}
+use Rattle.idx_scatter.specs.declared.tally.Tally.{Tally}
 
 -- a point stands at the place `at` of the region, its place in the answer is there, and so is the place in the block
 pub record IsThere (a : Asked) (size : ℕ) (samples into : List ℕ) (at place : ℕ) : Type 0 where
@@ -24,10 +27,20 @@ IsAsked a want size samples at place = sample_of size samples place ≡ want (as
 abbrev pub IsPut : Asked → (ℕ → List ℕ) → ℕ → List ℕ → ℕ → Type 0
 IsPut a want size into at = IsRight want size into (asked_before a at)
 
+-- the place in the answer is there, and so is the place in the block
+pub record IsRoom (size : ℕ) (samples into : List ℕ) (place : ℕ) (tally : Tally) : Type 0 where
+  pub ordered : tally.coarse.count ≤ tally.fine.count
+  pub room : (place_by tally + 1) * size ≤ length into
+  pub read : (place + 1) * size ≤ length samples
+
+-- the block's sample is what the place in the answer is to hold
+abbrev pub IsWanted : (ℕ → List ℕ) → ℕ → List ℕ → ℕ → Tally → Type 0
+IsWanted want size samples place tally = sample_of size samples place ≡ want (place_by tally)
+
 -- the moves along these lines make the places right that they go to, and what was right stays so
-pub record AreMoved (a : Asked) (want : ℕ → List ℕ) (size : ℕ) (lines : List Line) (at place : ℕ) (old new : List ℕ) : Type 0 where
+pub record AreMoved (want : ℕ → List ℕ) (size : ℕ) (legs : List Leg) (lines : List Line) (place : ℕ) (rows : Tally) (old new : List ℕ) : Type 0 where
   pub kept : (o : ℕ) → IsRight want size old o → IsRight want size new o
-  pub placed : EachCopy (λ at place. IsPut a want size new at) lines at place
+  pub placed : EachMove (λ place tally. IsRight want size new (place_by tally)) legs lines place rows
 
 -- the same by the numbers of the coordinates on each axis
 pub record AreMovedBy (a : Asked) (want : ℕ → List ℕ) (size : ℕ) (ask : Ask) (axes : ℕ) (old new : List ℕ) : Type 0 where

@@ -17,6 +17,9 @@ pub record IsSane (side : Side) : Type 0 where
   pub end : side.lo + side.extent ≤ 2 ^ 41
   pub stride : side.stride ≤ 2 ^ 40
   pub whole : side.whole ≤ side.extent
+  pub power : side.stride ≡ 2 ^ side.shift
+  pub few : side.shift ≤ 40
+  pub below : side.below ≡ (side.lo + side.stride - 1) / side.stride
 
 -- the side of an axis
 pub record IsSide (pace : ℕ) (b : ℕ × ℕ) (side : Side) : Type 0 where

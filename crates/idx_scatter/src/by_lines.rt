@@ -1,18 +1,22 @@
 ghost use Rattle.std.specs.Prelude.{◌≡◌, ℕ, suc, ◌+◌, ◌-◌, ◌*◌, ◌^◌, ◌<◌, ◌≤◌, All, List, length};
-ghost use Rattle.idx_geom.specs.Region.{HoldsAll, upper_ends};
+ghost use Rattle.idx_geom.specs.Region.{HoldsAll, IsRegion, upper_ends};
 ghost use Rattle.idx_hz.specs.Mask.{HasAddress, IsMask};
 ghost use Rattle.idx_grid.specs.LevelGrid.{IsGridAt};
-ghost use Rattle.idx_block.specs.Copies.{EachCopy, HasCoordinate};
+ghost use Rattle.idx_block.specs.Copies.{HasCoordinate};
 ghost use Rattle.idx_block.specs.Plan.{AreNumbers, byte_at, place_at};
-ghost use Rattle.idx_scatter.specs.Moves.{AreMoved, AreMovedBy, IsAsked, IsThere};
+ghost use Rattle.idx_scatter.specs.Legs.{AllFit, EachMove};
+ghost use Rattle.idx_scatter.specs.Moves.{AreMoved, AreMovedBy, IsAsked, IsRoom, IsThere, IsWanted};
 ghost use Rattle.idx_scatter.specs.Asked.{asked_points};
 ghost use Rattle.idx_scatter.specs.Scatter.{IsScattered};
 
+use crate::leg::Leg;
 use crate::order::Order;
+use crate::tally::Tally;
 use crate::walk::walk;
 use idx_block::ask::Ask;
 use idx_block::line::Line;
 use idx_block::plan::make_plan;
+use idx_geom::MAX_AXES;
 use idx_grid::{Grid, shape};
 use idx_stride::{AnySize, Fixed};
 
@@ -60,6 +64,8 @@ pub(crate) fn scatter_by_lines(
 /// points in the region are counted in samples.
 fn move_points(order: &Order, ask: &Ask, grid: &Grid, size: usize, samples: &[u8], into: &mut [u8])
     requires mask { IsMask ask.now.mask }
+    requires same { ask.now.region ≡ order.now.region }
+    requires valid { IsRegion ask.now.region }
     requires digits { ask.now.bits + ask.now.k < length ask.now.mask }
     requires few_bits { ask.now.bits ≤ 20 }
     requires inside { HoldsAll ask.now.region ask.now.common }
@@ -76,35 +82,38 @@ fn move_points(order: &Order, ask: &Ask, grid: &Grid, size: usize, samples: &[u8
         AreMovedBy order.now want size ask.now (length ask.now.region) into.old into.new }
 {
     if let Some(plan) = make_plan(ask, grid) {
-        move_lines(order, size, plan.lines(), samples, into, plan.from);
+        let legs = order.legs(ask, grid);
+        move_lines(&legs, size, plan.lines(), samples, into, &order.start());
     }
 }
 
 /// Moves the samples along these lines, the slowest first, to their places: one loop for each usual size of a sample.
 fn move_lines(
-    order: &Order,
+    legs: &[Leg; MAX_AXES],
     size: usize,
     lines: &[Line],
     samples: &[u8],
     into: &mut [u8],
-    at: usize,
+    rows: &Tally,
 )
     requires some { 0 < size }
     requires few { size ≤ 64 }
+    requires axes { length lines.now ≤ 5 }
     requires lines { All HasCoordinate lines.now }
-    requires within { EachCopy (IsThere order.now size samples.now into.old) lines.now at 0 }
-    ensures { (want : ℕ → List ℕ) → EachCopy (IsAsked order.now want size samples.now) lines.now at 0 →
-        AreMoved order.now want size lines.now at 0 into.old into.new }
+    requires fits { AllFit legs.now lines.now rows.now }
+    requires within { EachMove (IsRoom size samples.now into.old) legs.now lines.now 0 rows.now }
+    ensures { (want : ℕ → List ℕ) → EachMove (IsWanted want size samples.now) legs.now lines.now 0 rows.now →
+        AreMoved want size legs.now lines.now 0 rows.now into.old into.new }
 {
     match size {
-        1 => walk(Fixed::<1>, order, lines, samples, 0, into, at),
-        2 => walk(Fixed::<2>, order, lines, samples, 0, into, at),
-        3 => walk(Fixed::<3>, order, lines, samples, 0, into, at),
-        4 => walk(Fixed::<4>, order, lines, samples, 0, into, at),
-        8 => walk(Fixed::<8>, order, lines, samples, 0, into, at),
-        12 => walk(Fixed::<12>, order, lines, samples, 0, into, at),
-        16 => walk(Fixed::<16>, order, lines, samples, 0, into, at),
-        24 => walk(Fixed::<24>, order, lines, samples, 0, into, at),
-        bytes => walk(AnySize { bytes }, order, lines, samples, 0, into, at),
+        1 => walk(Fixed::<1>, legs, lines, samples, 0, into, rows),
+        2 => walk(Fixed::<2>, legs, lines, samples, 0, into, rows),
+        3 => walk(Fixed::<3>, legs, lines, samples, 0, into, rows),
+        4 => walk(Fixed::<4>, legs, lines, samples, 0, into, rows),
+        8 => walk(Fixed::<8>, legs, lines, samples, 0, into, rows),
+        12 => walk(Fixed::<12>, legs, lines, samples, 0, into, rows),
+        16 => walk(Fixed::<16>, legs, lines, samples, 0, into, rows),
+        24 => walk(Fixed::<24>, legs, lines, samples, 0, into, rows),
+        bytes => walk(AnySize { bytes }, legs, lines, samples, 0, into, rows),
     }
 }

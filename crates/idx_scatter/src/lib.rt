@@ -3,9 +3,11 @@
 
 mod by_lines;
 mod first_block;
+mod leg;
 mod order;
 mod scatter;
 mod side;
+mod tally;
 #[cfg(test)]
 mod tests;
 mod walk;

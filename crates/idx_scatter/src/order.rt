@@ -1,24 +1,23 @@
-ghost use Rattle.std.specs.Prelude.{◌≡◌, ℕ, ◌+◌, ◌-◌, ◌*◌, ◌^◌, ◌<◌, ◌≤◌, ◌&&◌, nat_le, true, IfSome, length, take};
+ghost use Rattle.std.specs.Prelude.{◌≡◌, ℕ, suc, ◌+◌, ◌-◌, ◌^◌, ◌<◌, ◌≤◌, ◌&&◌, nat_le, length, take};
 ghost use Rattle.std.specs.List.{slice_index_or};
-ghost use Rattle.idx_geom.specs.Region.{IsRegion, points};
+ghost use Rattle.idx_geom.specs.Region.{HoldsAll, IsRegion, points};
+ghost use Rattle.idx_grid.specs.LevelGrid.{IsGridAt};
+ghost use Rattle.idx_block.specs.Plan.{box_on, start_on, step_on};
 ghost use Rattle.idx_hz.specs.Mask.{NamesAxes};
 ghost use Rattle.idx_hz.specs.Stride.{stride};
 ghost use Rattle.idx_scatter.specs.Asked.{asked_before, asked_points};
 ghost use Rattle.idx_scatter.specs.Sides.{AreSides, IsSide};
+ghost use Rattle.idx_scatter.specs.Legs.{IsLeg, IsOrdered, no_leg, start_of};
 
-use crate::side::{Side, before, more_each, up_to};
+use crate::leg::{Leg, NO_LEG};
+use crate::side::{Earlier, NO_SIDE, Side, before, up_to};
+use crate::tally::Tally;
+use idx_block::ask::Ask;
+use idx_block::plan::first_from;
 use idx_geom::{MAX_AXES, Region};
-use idx_grid::grid_up_to;
+use idx_grid::{Grid, grid_up_to};
 use idx_hz::Mask;
 use std::marker::Model;
-
-/// A side of no axis.
-const NO_SIDE: Side = Side {
-    lo: 0,
-    extent: 1,
-    stride: 1,
-    whole: 0,
-};
 
 /// The order of the points of a region whose level is `lo` to `hi`, both among them: row-major, axis 0 fastest. They are
 /// the points on the strides of `hi`, without those on the strides of `lo` - 1 (Pascucci and Frank 2001).
@@ -117,34 +116,61 @@ impl Order {
         }
     }
 
-    /// How many more points that are asked for come before each of `count` places than before the one `step` places
-    /// earlier, where the first is `place`; `None` where they do not stand in one row, or no such number is known.
-    pub(crate) fn more_each(&self, place: usize, step: usize, count: usize) -> Option<usize>
-        requires { place < length (points self.now.region) }
-        ensures { IfSome result (λ more. (k : ℕ) → k < count →
-            asked_before self.now (place + k * step) ≡ asked_before self.now place + k * more) }
+    /// What comes before the first row of all, which is the only row of no axis.
+    pub(crate) fn start(&self) -> Tally
+        ensures { result ≡ start_of self.now }
     {
-        let axes = self.region.axes() as usize;
-        let extent = self.fine[0].extent;
-        let (row, here) = (place as u64 / extent, place as u64 % extent);
-        if !is_in_row(here, step as u64, count as u64, extent) {
-            return None;
+        Tally {
+            fine: Earlier {
+                count: 0,
+                lies: true,
+            },
+            coarse: Earlier {
+                count: 0,
+                lies: self.lo > 0,
+            },
         }
-        let fine = more_each(&self.fine[..axes], row, step as u64)?;
-        if self.lo == 0 {
-            return Some(fine as usize);
+    }
+
+    /// The legs of the lines along which a block's points lie, axis 0 first.
+    pub(crate) fn legs(&self, ask: &Ask, grid: &Grid) -> [Leg; MAX_AXES]
+        requires region { ask.now.region ≡ self.now.region }
+        requires digits { ask.now.bits + ask.now.k < length ask.now.mask }
+        requires inside { HoldsAll ask.now.region ask.now.common }
+        requires grid { IsGridAt ask.now.mask (length ask.now.region) (suc (ask.now.bits + ask.now.k)) grid.now }
+        ensures legs { (axis : ℕ) → axis < length ask.now.region →
+            IsLeg self.now ask.now axis (slice_index_or result axis no_leg) }
+        ensures valid { IsOrdered self.now }
+        ensures common { IsRegion ask.now.common }
+    {
+        let mut legs = [NO_LEG; MAX_AXES];
+        for axis in 0..ask.common.axes() {
+            let (here, step) = leg_start(ask, grid, axis);
+            legs[axis as usize] = Leg {
+                fine: self.fine[axis as usize],
+                coarse: self.coarse[axis as usize],
+                here,
+                step,
+            };
         }
-        let coarse = more_each(&self.coarse[..axes], row, step as u64)?;
-        Some(fine.checked_sub(coarse)? as usize)
+        legs
     }
 }
 
-/// Whether so many coordinates of a row from one on, each `step` behind the one before, lie before its end.
-fn is_in_row(here: u64, step: u64, count: u64, extent: u64) -> bool
-    ensures { result ≡ true → (k : ℕ) → k < count → here + k * step < extent }
+/// The first coordinate of the line of an axis, counted from the region's lower end, and how far its coordinates lie
+/// apart.
+fn leg_start(ask: &Ask, grid: &Grid, axis: u32) -> (u64, u64)
+    requires digits { ask.now.bits + ask.now.k < length ask.now.mask }
+    requires axis { axis < length ask.now.common }
+    requires valid { IsRegion ask.now.common }
+    requires inside { HoldsAll ask.now.region ask.now.common }
+    requires grid { IsGridAt ask.now.mask (length ask.now.region) (suc (ask.now.bits + ask.now.k)) grid.now }
+    ensures here { result.0 ≡ start_on ask.now axis - (box_on ask.now axis).0 }
+    ensures step { result.1 ≡ step_on ask.now axis }
 {
-    let last = count.saturating_sub(1).saturating_mul(step);
-    here.saturating_add(last) < extent
+    let step = grid.step.get(axis);
+    let start = first_from(ask.common.lo().get(axis), grid.first.get(axis), step);
+    (start - ask.region.lo().get(axis), step)
 }
 
 /// The sides of a region with the strides of a level.
@@ -166,16 +192,19 @@ fn sides_of(mask: &Mask, region: &Region, level: u32) -> [Side; MAX_AXES]
 fn side_of(region: &Region, axis: u32, stride: u64) -> Side
     requires axis { axis < length region.now }
     requires valid { IsRegion region.now }
-    requires positive { 1 ≤ stride }
+    requires power { (bits : ℕ) × (stride ≡ 2 ^ bits) }
     requires small { stride ≤ 2 ^ 40 }
     ensures { IsSide stride (slice_index_or region.now axis (0, 0)) result }
 {
     let (lo, hi) = bounds(region, axis);
+    let below = lo.div_ceil(stride);
     Side {
         lo,
         extent: hi - lo + 1,
         stride,
-        whole: (hi + 1).div_ceil(stride) - lo.div_ceil(stride),
+        whole: (hi + 1).div_ceil(stride) - below,
+        shift: stride.trailing_zeros(),
+        below,
     }
 }
 

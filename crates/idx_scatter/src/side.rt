@@ -1,5 +1,5 @@
-ghost use Rattle.std.specs.Prelude.{◌≡◌, ℕ, ◌+◌, ◌*◌, ◌%◌, ◌==◌, ◌<◌, ◌≤◌, ◌^◌, ◌∷◌, All, List, IfSome, length};
-ghost use Rattle.idx_geom.specs.Region.{extent, points};
+ghost use Rattle.std.specs.Prelude.{◌≡◌, ℕ, ◌+◌, ◌*◌, ◌%◌, ◌==◌, ◌<◌, ◌≤◌, ◌^◌, All, List, length};
+ghost use Rattle.idx_geom.specs.Region.{points};
 ghost use Rattle.idx_scatter.specs.Sides.{AreSides, IsBefore, IsSane, count_before, in_row, multiples_in};
 
 /// One axis of a region, and the multiples of a stride on it.
@@ -13,7 +13,21 @@ pub(crate) struct Side {
     pub(crate) stride: u64,
     /// How many of the coordinates are its multiples.
     pub(crate) whole: u64,
+    /// The stride is 2 to this.
+    pub(crate) shift: u32,
+    /// How many multiples, from 0 on, lie below the lower end.
+    pub(crate) below: u64,
 }
+
+/// A side of no axis.
+pub(crate) const NO_SIDE: Side = Side {
+    lo: 0,
+    extent: 1,
+    stride: 1,
+    whole: 0,
+    shift: 0,
+    below: 0,
+};
 
 /// How many points whose coordinates are multiples come before a place, and whether the point there is one.
 #[derive(Clone, Copy)]
@@ -24,22 +38,25 @@ pub(crate) struct Earlier {
 
 impl Side {
     /// How many of the first `count` coordinates are multiples.
+    #[inline(always)]
     fn multiples(&self, count: u64) -> u64
         requires sane { IsSane self.now }
         requires within { count ≤ self.now.extent }
         ensures value { result ≡ multiples_in self.now.stride self.now.lo count }
         ensures few { result ≤ count }
     {
-        (self.lo + count).div_ceil(self.stride) - self.lo.div_ceil(self.stride)
+        ((self.lo + count + (self.stride - 1)) >> self.shift) - self.below
     }
 
     /// Whether this coordinate, counted from 0, is a multiple.
+    #[inline(always)]
     fn is_multiple(&self, coordinate: u64) -> bool
         requires sane { IsSane self.now }
         requires within { coordinate < self.now.extent }
         ensures { result ≡ ((self.now.lo + coordinate) % self.now.stride == 0) }
     {
-        (self.lo + coordinate) % self.stride == 0
+        let x = self.lo + coordinate;
+        (x >> self.shift) << self.shift == x
     }
 }
 
@@ -79,7 +96,8 @@ pub(crate) fn up_to(sides: &[Side], place: u64) -> u64
 }
 
 /// What comes before a place of a row, from what comes before the row.
-fn before_in_row(side: &Side, rows: &Earlier, here: u64) -> Earlier
+#[inline(always)]
+pub(crate) fn before_in_row(side: &Side, rows: &Earlier, here: u64) -> Earlier
     requires sane { IsSane side.now }
     requires within { here < side.now.extent }
     requires few { side.now.extent * rows.now.count + here < 2 ^ 64 }
@@ -96,25 +114,5 @@ fn before_in_row(side: &Side, rows: &Earlier, here: u64) -> Earlier
             count: all,
             lies: false,
         }
-    }
-}
-
-/// How many more points whose coordinates are multiples come before each place of a row than before the place `step`
-/// coordinates earlier, if that is the same all along the row.
-pub(crate) fn more_each(sides: &[Side], row: u64, step: u64) -> Option<u64>
-    requires some { 1 ≤ length sides.now }
-    requires sane { All IsSane sides.now }
-    ensures { IfSome result (λ more. (s : ℕ → ℕ) (k : ℕ) (b : ℕ × ℕ) (bs : List (ℕ × ℕ)) →
-        AreSides s k (b ∷ bs) sides.now → row < length (points bs) → (i j : ℕ) → i + j * step < extent b →
-        count_before s k (b ∷ bs) (row * extent b + (i + j * step)) ≡
-        count_before s k (b ∷ bs) (row * extent b + i) + j * more) }
-{
-    let side = &sides[0];
-    if !before(&sides[1..], row).lies {
-        Some(0)
-    } else if step % side.stride == 0 {
-        Some(step / side.stride)
-    } else {
-        None
     }
 }

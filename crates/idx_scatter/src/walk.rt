@@ -1,99 +1,102 @@
-ghost use Rattle.std.specs.Prelude.{◌≡◌, ℕ, ◌+◌, ◌*◌, ◌<◌, ◌≤◌, All, List, [], ◌∷◌};
-ghost use Rattle.idx_block.specs.Copies.{EachCopy, HasCoordinate};
-ghost use Rattle.idx_scatter.specs.Asked.{asked_before};
-ghost use Rattle.idx_scatter.specs.Moves.{AreMoved, IsAsked, IsThere};
+ghost use Rattle.std.specs.Prelude.{◌≡◌, ℕ, ◌+◌, ◌*◌, ◌<◌, ◌≤◌, All, List, [], ◌∷◌, length};
+ghost use Rattle.idx_block.specs.Copies.{HasCoordinate};
+ghost use Rattle.idx_scatter.specs.Legs.{AllFit, EachMove, leg_of, place_by, tally_at};
+ghost use Rattle.idx_scatter.specs.Moves.{AreMoved, IsRoom, IsWanted};
 
-use crate::order::Order;
+use crate::leg::Leg;
+use crate::tally::Tally;
 use idx_block::line::Line;
 use idx_block::next_part;
+use idx_geom::MAX_AXES;
 use idx_stride::Sample;
 
 /// Moves the samples along these lines, the slowest first, out of a block. The first one comes from the place `place`
-/// with what each line's first coordinate gives to it, and its point stands at the place `at` of the region.
+/// with what each line's first coordinate gives to it. The legs, axis 0 first, and what comes before the row of the lines
+/// say where the samples go.
 pub(crate) fn walk<S: Sample>(
     sample: S,
-    order: &Order,
+    legs: &[Leg; MAX_AXES],
     lines: &[Line],
     samples: &[u8],
     place: usize,
     into: &mut [u8],
-    at: usize,
+    rows: &Tally,
 )
     requires some { 0 < S.bytes sample }
     requires few { S.bytes sample ≤ 64 }
+    requires axes { length lines.now ≤ 5 }
     requires lines { All HasCoordinate lines.now }
-    requires within { EachCopy (IsThere order.now (S.bytes sample) samples.now into.old) lines.now at place }
-    ensures { (want : ℕ → List ℕ) → EachCopy (IsAsked order.now want (S.bytes sample) samples.now) lines.now at place →
-        AreMoved order.now want (S.bytes sample) lines.now at place into.old into.new }
+    requires fits { AllFit legs.now lines.now rows.now }
+    requires within { EachMove (IsRoom (S.bytes sample) samples.now into.old) legs.now lines.now place rows.now }
+    ensures { (want : ℕ → List ℕ) →
+        EachMove (IsWanted want (S.bytes sample) samples.now) legs.now lines.now place rows.now →
+        AreMoved want (S.bytes sample) legs.now lines.now place rows.now into.old into.new }
 {
     match lines {
-        [] => move_sample(sample, order, samples, place, into, at),
-        [line] => row(sample, order, line, samples, place, into, at),
+        [] => move_sample(sample, legs, samples, place, into, rows),
+        [line] => row(sample, legs, line, samples, place, into, rows),
         [slowest, faster @ ..] => {
+            let leg = &legs[faster.len()];
             let mut part = slowest.first;
             for k in 0..slowest.count {
-                walk(
-                    sample,
-                    order,
-                    faster,
-                    samples,
-                    place + part,
-                    into,
-                    at + k * slowest.step,
-                );
+                let tally = leg.at(rows, k);
+                walk(sample, legs, faster, samples, place + part, into, &tally);
                 part = next_part(slowest.bits, part);
             }
         }
     }
 }
 
-/// Moves the samples along one line.
+/// Moves the samples along one line, that of axis 0.
 fn row<S: Sample>(
     sample: S,
-    order: &Order,
+    legs: &[Leg; MAX_AXES],
     line: &Line,
     samples: &[u8],
     place: usize,
     into: &mut [u8],
-    at: usize,
+    rows: &Tally,
 )
     requires some { 0 < S.bytes sample }
     requires few { S.bytes sample ≤ 64 }
     requires counted { HasCoordinate line.now }
-    requires within { EachCopy (IsThere order.now (S.bytes sample) samples.now into.old) (line.now ∷ []) at place }
+    requires fits { AllFit legs.now (line.now ∷ []) rows.now }
+    requires within { EachMove (IsRoom (S.bytes sample) samples.now into.old) legs.now (line.now ∷ []) place rows.now }
     ensures { (want : ℕ → List ℕ) →
-        EachCopy (IsAsked order.now want (S.bytes sample) samples.now) (line.now ∷ []) at place →
-        AreMoved order.now want (S.bytes sample) (line.now ∷ []) at place into.old into.new }
+        EachMove (IsWanted want (S.bytes sample) samples.now) legs.now (line.now ∷ []) place rows.now →
+        AreMoved want (S.bytes sample) legs.now (line.now ∷ []) place rows.now into.old into.new }
 {
-    match order.more_each(at, line.step, line.count) {
-        Some(more) => even_row(sample, order, line, samples, place, into, at, more),
-        None => odd_row(sample, order, line, samples, place, into, at),
+    match legs[0].more_each(rows) {
+        Some(more) => even_row(sample, legs, line, samples, place, into, rows, more),
+        None => odd_row(sample, legs, line, samples, place, into, rows),
     }
 }
 
 /// Moves the samples along one line, whose places in the answer lie `more` apart.
 fn even_row<S: Sample>(
     sample: S,
-    order: &Order,
+    legs: &[Leg; MAX_AXES],
     line: &Line,
     samples: &[u8],
     place: usize,
     into: &mut [u8],
-    at: usize,
+    rows: &Tally,
     more: usize,
 )
     requires some { 0 < S.bytes sample }
     requires few { S.bytes sample ≤ 64 }
     requires counted { HasCoordinate line.now }
-    requires within { EachCopy (IsThere order.now (S.bytes sample) samples.now into.old) (line.now ∷ []) at place }
+    requires fits { AllFit legs.now (line.now ∷ []) rows.now }
+    requires within { EachMove (IsRoom (S.bytes sample) samples.now into.old) legs.now (line.now ∷ []) place rows.now }
     requires even { (k : ℕ) → k < line.now.count →
-        asked_before order.now (at + k * line.now.step) ≡ asked_before order.now at + k * more }
+        place_by (tally_at (leg_of legs.now []) rows.now k) ≡
+        place_by (tally_at (leg_of legs.now []) rows.now 0) + k * more }
     ensures { (want : ℕ → List ℕ) →
-        EachCopy (IsAsked order.now want (S.bytes sample) samples.now) (line.now ∷ []) at place →
-        AreMoved order.now want (S.bytes sample) (line.now ∷ []) at place into.old into.new }
+        EachMove (IsWanted want (S.bytes sample) samples.now) legs.now (line.now ∷ []) place rows.now →
+        AreMoved want (S.bytes sample) legs.now (line.now ∷ []) place rows.now into.old into.new }
 {
     let size = sample.bytes();
-    let first = order.before(at);
+    let first = legs[0].at(rows, 0).place();
     let bits = line.bits;
     let mut part = line.first;
     for k in 0..line.count {
@@ -107,52 +110,50 @@ fn even_row<S: Sample>(
     }
 }
 
-/// Moves the samples along one line, one by one.
+/// Moves the samples along one line, whose places in the answer are found one by one.
 fn odd_row<S: Sample>(
     sample: S,
-    order: &Order,
+    legs: &[Leg; MAX_AXES],
     line: &Line,
     samples: &[u8],
     place: usize,
     into: &mut [u8],
-    at: usize,
+    rows: &Tally,
 )
     requires some { 0 < S.bytes sample }
     requires few { S.bytes sample ≤ 64 }
-    requires within { EachCopy (IsThere order.now (S.bytes sample) samples.now into.old) (line.now ∷ []) at place }
+    requires fits { AllFit legs.now (line.now ∷ []) rows.now }
+    requires within { EachMove (IsRoom (S.bytes sample) samples.now into.old) legs.now (line.now ∷ []) place rows.now }
     ensures { (want : ℕ → List ℕ) →
-        EachCopy (IsAsked order.now want (S.bytes sample) samples.now) (line.now ∷ []) at place →
-        AreMoved order.now want (S.bytes sample) (line.now ∷ []) at place into.old into.new }
+        EachMove (IsWanted want (S.bytes sample) samples.now) legs.now (line.now ∷ []) place rows.now →
+        AreMoved want (S.bytes sample) legs.now (line.now ∷ []) place rows.now into.old into.new }
 {
+    let leg = legs[0];
+    let bits = line.bits;
     let mut part = line.first;
     for k in 0..line.count {
-        move_sample(
-            sample,
-            order,
-            samples,
-            place + part,
-            into,
-            at + k * line.step,
-        );
-        part = next_part(line.bits, part);
+        let tally = leg.at(rows, k);
+        move_sample(sample, legs, samples, place + part, into, &tally);
+        part = next_part(bits, part);
     }
 }
 
 /// Moves one sample.
+#[inline(always)]
 fn move_sample<S: Sample>(
     sample: S,
-    order: &Order,
+    legs: &[Leg; MAX_AXES],
     samples: &[u8],
     place: usize,
     into: &mut [u8],
-    at: usize,
+    tally: &Tally,
 )
     requires some { 0 < S.bytes sample }
     requires few { S.bytes sample ≤ 64 }
-    requires within { IsThere order.now (S.bytes sample) samples.now into.old at place }
-    ensures { (want : ℕ → List ℕ) → IsAsked order.now want (S.bytes sample) samples.now at place →
-        AreMoved order.now want (S.bytes sample) [] at place into.old into.new }
+    requires within { IsRoom (S.bytes sample) samples.now into.old place tally.now }
+    ensures { (want : ℕ → List ℕ) → IsWanted want (S.bytes sample) samples.now place tally.now →
+        AreMoved want (S.bytes sample) legs.now [] place tally.now into.old into.new }
 {
     let size = sample.bytes();
-    sample.copy(samples, place * size, into, order.before(at) * size);
+    sample.copy(samples, place * size, into, tally.place() * size);
 }

@@ -1,7 +1,8 @@
-use Rattle.std.proofs.Common.{length-set, ◌≡◌, ℕ, ◌+◌, ◌<◌, ◌≤◌, length, take, get_or, sym, ◌∙◌, subst, inl, inr, arith}
+use Rattle.std.proofs.Common.{length-set, ◌≡◌, ℕ, ◌+◌, ◌<◌, ◌≤◌, length, take, drop, get_or, sym, ◌∙◌, subst, inl, inr, arith}
 use Rattle.std.proofs.lemmas.Bool.{cases_lt}
 use Rattle.std.proofs.lemmas.List.{get_or-set_other, get_or-set_same, get_or-take, length-take-le}
 use Rattle.std.specs.Prelude.{slice_set}
+use Rattle.idx_hz.specs.Mask.{bit_count}
 use Rattle.idx_hz.specs.Stride.{stride}
 use Rattle.idx_walk.proofs.LevelTests.{strides-at}
 use Rattle.idx_scatter.specs.declared.side.Side.{Side}
@@ -9,6 +10,14 @@ use Rattle.idx_scatter.specs.Sides.{IsSide}
 use Rattle.idx_scatter.proofs.OrderLemmas.{sides-from}
 use Rattle.idx_scatter.proofs.SideLemmas.{no_side}
 use Rattle.idx_scatter.proofs.order.sides_of.Goals as goal
+
+pub side_of-requires-clause-power : goal.side_of-requires-clause-power
+side_of-requires-clause-power c =
+    let axis : ℕ = c.loop-axis.axis in
+    let within : axis < c.axes.result = omega (arith, c.loop-axis-test.true, c.axes-axis-end.ensures.count, c.loop-axis.auto.axis-end, c.axes.ensures.count) in (
+      bit_count axis (drop c.args.level c.args.mask.now),
+      c.get.ensures.value ∙ strides-at c.args.mask.now c.args.level c.axes.result axis c.grid_up_to-strides.result.step c.grid_up_to-strides.ensures.value.step within,
+    )
 
 pub loop-axis-preserved : goal.loop-axis-preserved
 loop-axis-preserved c =
