@@ -1,8 +1,9 @@
-ghost use Rattle.std.specs.Prelude.{◌≡◌, ◌≢◌, ◌<◌, ◌≤◌, None, Some, OnOk, IfOk, IfErr, length};
+ghost use Rattle.std.specs.Prelude.{◌≡◌, ◌≢◌, ◌<◌, ◌≤◌, Err, None, Some, OnOk, IfOk, IfErr, length};
 ghost use Rattle.idx_header.specs.Header.{sample_bytes_of};
 ghost use Rattle.idx_plan.specs.Needed.{answer_bytes, answer_samples, max_answer, needed_keys, plan_fault};
 ghost use Rattle.idx_plan.specs.Answerable.{IsAnswerable};
 ghost use Rattle.idx_plan.specs.Plan.{asked_of};
+ghost use Rattle.idx_plan.specs.declared.plan_fault.PlanFault.{PlanFault};
 
 use crate::counting::points_between;
 use crate::keys::needed_keys;
@@ -31,6 +32,7 @@ pub fn plan(alloc: Global, header: &Header, ask: &Ask) -> Result<Plan, PlanFault
     ensures bits { IfOk result (λ plan. plan.bits ≡ header.now.block_bits) }
     ensures size { IfOk result (λ plan. plan.size ≡ sample_bytes_of header.now ask.now.field) }
     ensures fault { IfErr result (λ fault. fault ≢ PlanFault.NoMemory → plan_fault header.now ask.now ≡ Some fault) }
+    ensures refused { (fault : PlanFault) → plan_fault header.now ask.now ≡ Some fault → result ≡ Err fault }
 {
     let samples = count_samples(header, ask)?;
     let size = header.sample_bytes(ask.field);

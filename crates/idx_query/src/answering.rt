@@ -1,4 +1,4 @@
-ghost use Rattle.std.specs.Prelude.{◌≡◌, ◌⊎◌, ◌+◌, ◌<◌, ◌++◌, Err, IfErr, IfOk, IfSome, None, OnErr, OnOk, Some, length, take};
+ghost use Rattle.std.specs.Prelude.{◌≡◌, ◌+◌, ◌<◌, ◌++◌, Err, IfErr, IfOk, IfSome, None, OnErr, OnOk, Some, length, take};
 ghost use Rattle.idx_outside.specs.Cause.{MadeReads, NeverFalls};
 ghost use Rattle.idx_header.specs.Header.{block_bytes};
 ghost use Rattle.idx_plan.specs.Answer.{answer_of};
@@ -49,7 +49,7 @@ pub fn answer_from<E: Blocks, R: Reader<E::Leaf>>(
     ensures cause { IfErr result (IsCaused header.now ask.now
         (R.faults reader.old) (R.faults reader.new) (R.reads reader.old) (R.reads reader.new)) }
     ensures refused { (fault : PlanFault) → plan_fault header.now ask.now ≡ Some fault →
-        (result ≡ Err (QueryFault.Plan fault)) ⊎ (result ≡ Err QueryFault.NoMemory) }
+        result ≡ Err (QueryFault.Plan fault) }
     ensures kept { OnErr result (out.new ≡ out.old) }
 
     ensures count { NeverFalls (R.faults reader.old) (R.faults reader.new) }
