@@ -59,13 +59,33 @@ no_bad h step volume files is fills has =
     l = layout_of h
 
 -- ---- each block is that of the volume
+-- the file of a block, if it is one of the step's, is there
+pub file_found : (h : HeaderValue) (step : ℕ) (volume : List (List (List ℕ))) (files : List MemFile) (block : ℕ) → HasFiles h step volume files →
+    file_of_block h step files block
+    ≡ cond (list_any (λ k. k == file_of (layout_of h) block) (file_numbers (layout_of h))) (Some (file_bytes (layout_of h) volume (file_of (layout_of h) block))) None
+file_found h step volume files block has = by_listed (list_any (λ k. k == file) (file_numbers l)) refl
+  where
+    l : Layout
+    l = layout_of h
+
+    file : ℕ
+    file = file_of (layout_of h) block
+
+    by_listed : (b : Bool) → list_any (λ k. k == file) (file_numbers l) ≡ b →
+        cond b (file_at (file_name h step file) files) None ≡ cond b (Some (file_bytes l volume file)) None
+    by_listed true listed =
+        let some = passing (λ k. k == file) (file_numbers l) listed in
+        let same : some.1 ≡ file = eqb-true some.1 file some.3 in
+        ap (λ k. file_at (file_name h step k) files) (sym same) ∙ has some.0 some.1 some.2 ∙ ap (λ k. Some (file_bytes l volume k)) same
+    by_listed false listed = refl
+
 pub block_stored : (h : HeaderValue) (step : ℕ) (volume : List (List (List ℕ))) (files : List MemFile) (field block : ℕ) (samples : List (List ℕ)) → IsHeader h →
     IsVolume (layout_of h).sizes (length (points h.box)) volume → HasFiles h step volume files → field < length h.fields → slice_get volume field ≡ Some samples → block < block_count (layout_of h) →
     stored_block h step files field block ≡ block_of_samples (layout_of h) (slice_index (layout_of h).sizes field) samples block
 block_stored h step volume files field block samples is fills has within at exists =
     sym (bytes_same l field block (file_of_block h step files block) len
     (get_or-lengths) (place_within field (length l.sizes) (block - file) h.blocks_per_file in_fields (place_in_file h.blocks_per_file block is.blocks_some)))
-    ∙ ap (λ o. bytes_by len (row_among h.blocks_per_file field block (option_map (λ bytes. rows_of bytes (row_count l)) o)) (option_map (λ bytes. bytes) o)) found
+    ∙ ap (λ o. bytes_by len (row_among h.blocks_per_file field block (option_map (λ bytes. rows_of bytes (row_count l)) o)) (option_map (λ bytes. bytes) o)) (file_found h step volume files block has)
     ∙ by_test (list_any (λ k. k == file) (file_numbers l))
     ∙ ap (λ o. bytes_by len (row_among h.blocks_per_file field block o) (cond (list_any (λ k. k == file) (file_numbers l)) (Some whole) None)) (sym (mapped_at (rows_of_file l) file (file_numbers l)))
     ∙ ap (bytes_by len (row_among h.blocks_per_file field block (value_at file (file_numbers l) (map (rows_of_file l) (file_numbers l))))) (sym (mapped_at (file_bytes l volume) file (file_numbers l)))
@@ -88,18 +108,6 @@ block_stored h step volume files field block samples is fills has within at exis
 
     get_or-lengths : len ≡ block_bytes l field
     get_or-lengths = get_or-map-range_with_len (block_bytes l) 0 (length l.sizes) field field 0 in_fields (zero-add field)
-
-    -- the file, if it is one of the step's, is there
-    found : file_of_block h step files block ≡ cond (list_any (λ k. k == file) (file_numbers l)) (Some whole) None
-    found = by_listed (list_any (λ k. k == file) (file_numbers l)) refl
-      where
-        by_listed : (b : Bool) → list_any (λ k. k == file) (file_numbers l) ≡ b →
-            cond b (file_at (file_name h step file) files) None ≡ cond b (Some whole) None
-        by_listed true listed =
-            let some = passing (λ k. k == file) (file_numbers l) listed in
-            let same : some.1 ≡ file = eqb-true some.1 file some.3 in
-            ap (λ k. file_at (file_name h step k) files) (sym same) ∙ has some.0 some.1 some.2 ∙ ap (λ k. Some (file_bytes l volume k)) same
-        by_listed false listed = refl
 
     rows_whole : rows_of whole (row_count l) ≡ rows_of_file l file
     rows_whole = rows_of-file_bytes l volume file (rows_fit l file (fits_rows h file is))
@@ -218,7 +226,7 @@ volume_each (size ∷ sizes) n (v ∷ volume) zero samples fills at =
     (ap length (sym same) ∙ fills.0, subst (λ (s : List (List ℕ)). All (λ sample. length sample ≡ size) s) same fills.1)
 volume_each (size ∷ sizes) n (v ∷ volume) (suc field) samples fills at = volume_each sizes n volume field samples fills.2 at
 
-volume_count : (sizes : List ℕ) (n : ℕ) (volume : List (List (List ℕ))) → IsVolume sizes n volume → length volume ≡ length sizes
+pub volume_count : (sizes : List ℕ) (n : ℕ) (volume : List (List (List ℕ))) → IsVolume sizes n volume → length volume ≡ length sizes
 volume_count [] n [] fills = refl
 volume_count [] n (v ∷ volume) fills = absurd fills
 volume_count (size ∷ sizes) n [] fills = absurd fills

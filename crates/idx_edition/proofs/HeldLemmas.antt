@@ -78,7 +78,7 @@ module _ (l : Layout) (field block : ℕ) where
       slice_get-get_or (rows_of bytes n) i (row_at bytes i) (subst (λ m. i < m) (sym (length-map-range_with_len (row_at bytes) 0 n)) within)
       ∙ ap (λ r. Some r) (get_or-map-range_with_len (row_at bytes) 0 n i i (row_at bytes i) within (zero-add i))
 
-  has_same : (o : Option (List ℕ)) → place < row_count l →
+  pub has_same : (o : Option (List ℕ)) → place < row_count l →
       is_there (row_among l.per_file field block (option_map (λ bytes. rows_of bytes (row_count l)) o)) ≡ has_in l o field block
   has_same None within = refl
   has_same (Some bytes) within = ap is_there (row_there bytes within)

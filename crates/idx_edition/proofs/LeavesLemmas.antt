@@ -30,7 +30,7 @@ same_lists (x ∷ xs) (y ∷ ys) same =
     let one : x ≡ y = cc in
     ap (λ z. z ∷ xs) one ∙ ap (λ zs. y ∷ zs) (same_lists xs ys (λ i. same (suc i)))
 
-field_exists : (h : HeaderValue) (field : ℕ) → field < length (block_lengths (layout_of h)) → field < length h.fields
+pub field_exists : (h : HeaderValue) (field : ℕ) → field < length (block_lengths (layout_of h)) → field < length h.fields
 field_exists h field within =
     omega (arith, within, length-map-range_with_len (block_bytes (layout_of h)) 0 (length (layout_of h).sizes), length-map h.fields sample_bytes)
 

@@ -9,3 +9,4 @@ pub mod LeavesLemmas
 pub mod BackLemmas
 pub mod HeldLemmas
 pub mod OwnLemmas
+pub mod StoredLemmas

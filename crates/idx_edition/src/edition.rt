@@ -1,13 +1,17 @@
 ghost use Rattle.std.specs.Prelude.{◌≡◌, ◌≢◌, ◌↔◌, ℕ, ◌+◌, ◌*◌, ◌<◌, List, None, Ok, Some, IfErr, IfOk, IfSome, OnOk, length};
 ghost use Rattle.std.specs.Option.{ForSome};
 ghost use Rattle.idx_outside.specs.Cause.{MadeReads, NeverFalls};
-ghost use Rattle.idx_outside.specs.Files.{StillAdmits, shown};
-ghost use Rattle.idx_header.specs.Header.{HasStep};
+ghost use Rattle.idx_geom.specs.Region.{points};
+ghost use Rattle.idx_geom.specs.Volume.{IsVolume};
+ghost use Rattle.idx_outside.specs.Files.{StillAdmits, known_files, shown};
+ghost use Rattle.idx_outside.specs.declared.mem_file.MemFile.{MemFile};
+ghost use Rattle.idx_header.specs.Header.{HasStep, IsHeader};
 ghost use Rattle.idx_header.specs.Names.{step_folder};
 ghost use Rattle.idx_layout.specs.Layout.{is_present};
 ghost use Rattle.idx_layout.specs.OfHeader.{layout_of};
 ghost use Rattle.idx_layout.specs.Shape.{shape_of};
-ghost use Rattle.idx_edition.specs.Stored.{Stands};
+ghost use Rattle.idx_layout.specs.Step.{step_files};
+ghost use Rattle.idx_edition.specs.Stored.{HasFiles, Stands};
 ghost use Rattle.idx_edition.specs.Tables.{AreTablesOf, has_in_tables, shape_in, stored_in};
 ghost use Rattle.idx_edition.specs.Loaded.{AreWritten, HoldsStored, IsLoadCause, IsOpenCause, IsWrittenBlock, OfBlocks};
 
@@ -50,7 +54,15 @@ impl<L: Leaf> Edition<L> {
             ForSome (stored_in edition.tables (shown L.contents edition.leaves.items)) (λ stored.
             OfBlocks (shape_of header.now) (λ field block.
             IsWrittenBlock header.now volume field block (stored field block)))) }
+        ensures holds { IfOk result (λ edition. (volume : _) (files : List MemFile) →
+            IsVolume (layout_of header.now).sizes (length (points header.now.box)) volume →
+            HasFiles header.now time volume files →
+            shown L.contents leaves.items ≡ known_files (Some files) (step_files header.now volume time) →
+            HoldsStored header.now time files (shape_in edition.tables) (has_in_tables edition.tables)
+            (stored_in edition.tables (shown L.contents edition.leaves.items))
+            (shown L.contents edition.leaves.items)) }
         ensures leaves { IfOk result (λ edition. edition.leaves.items ≡ leaves.items) }
+        ensures valid { IfOk result (λ _. IsHeader header.now) }
     {
         let tables = Tables::of_header(alloc, header)?;
         Ok(Edition {

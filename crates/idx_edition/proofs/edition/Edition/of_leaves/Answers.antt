@@ -4,9 +4,10 @@ use Rattle.idx_outside.specs.Files.{shown}
 use Rattle.idx_layout.specs.Layout.{is_present}
 use Rattle.idx_layout.specs.OfHeader.{layout_of}
 use Rattle.idx_layout.specs.Shape.{shape_of}
-use Rattle.idx_edition.specs.Tables.{AreTablesOf, TablesValue, has_in_tables, stored_in}
-use Rattle.idx_edition.specs.Loaded.{IsWrittenBlock, OfBlocks}
+use Rattle.idx_edition.specs.Tables.{AreTablesOf, TablesValue, has_in_tables, shape_in, stored_in}
+use Rattle.idx_edition.specs.Loaded.{HoldsStored, IsWrittenBlock, OfBlocks}
 use Rattle.idx_edition.proofs.LeavesLemmas.{leaves_fit, leaves_have, leaves_stored}
+use Rattle.idx_edition.proofs.StoredLemmas.{written_held}
 use Rattle.idx_edition.proofs.edition.Edition.of_leaves.Goals as goal
 
 pub invariant_of-result : goal.invariant_of-result
@@ -31,3 +32,10 @@ returns-clause-stored g c = λ volume written.
     let leaves = shown g.L.Leaf.contents c.args.leaves.items in
     subst (λ (t : TablesValue). ForSome (stored_in t leaves) (λ stored. OfBlocks (shape_of h) (λ field block. IsWrittenBlock h volume field block (stored field block)))) (sym c.in_ok-tables.ensures.tables)
     (leaves_stored h c.args.time c.in_ok-tables.ensures.valid volume leaves written)
+
+pub returns-clause-holds : goal.returns-clause-holds
+returns-clause-holds g c = λ volume files fills has same.
+    let h = c.args.header.now in
+    let leaves = shown g.L.Leaf.contents c.args.leaves.items in
+    subst (λ (t : TablesValue). HoldsStored h c.args.time files (shape_in t) (has_in_tables t) (stored_in t leaves) leaves) (sym c.in_ok-tables.ensures.tables)
+    (written_held h c.args.time volume files leaves c.in_ok-tables.ensures.valid fills has same)
