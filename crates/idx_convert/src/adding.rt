@@ -44,7 +44,7 @@ pub(crate) fn add_step<V: Source, B: Bay>(
         return Err(ConvertFault::StoreFault);
     };
     match gather(alloc, header, step, raws, bay, &FreeGate) {
-        Ok(()) => Ok(()),
+        Ok(_) => Ok(()),
         Err(fault) => Err(cause_of_gather(fault)),
     }
 }

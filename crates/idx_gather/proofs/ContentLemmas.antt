@@ -1,5 +1,5 @@
 -- The blocks of a file, one after another, and the samples of the fields that are left.
-use Rattle.std.proofs.Common.{◌≡◌, ℕ, zero, suc, ◌+◌, ◌-◌, ◌*◌, ◌^◌, ◌<◌, ◌≤◌, Bool, true, false, cond, List, [], ◌∷◌, ◌++◌, length, map, take, drop, slice_index, refl, sym, ap, subst, ◌∙◌, arith, append_assoc, append-nil, zero-add, inl, inr}
+use Rattle.std.proofs.Common.{◌≡◌, ℕ, zero, suc, ◌+◌, ◌*◌, ◌<◌, ◌≤◌, Bool, true, false, cond, List, [], ◌∷◌, ◌++◌, length, map, take, drop, refl, sym, ap, subst, ◌∙◌, arith, append_assoc, inl, inr}
 use Rattle.std.specs.Prelude.{filter, sum, replicate, Option}
 use Rattle.std.specs.List.{flat_map, range_with_len, zip, AllByRecursion}
 use Rattle.std.proofs.lemmas.List.{length-map, get_or-map, drop_more, drop-take, take-take, length-drop}

@@ -1,3 +1,4 @@
 pub mod TableLemmas
 pub mod ContentLemmas
 pub mod StepLemmas
+pub mod EditionLemmas

@@ -1,11 +1,11 @@
 -- The files of a step, one after another, and the folder in which they lie.
-use Rattle.std.proofs.Common.{◌≡◌, ℕ, zero, suc, ◌+◌, ◌<◌, Bool, true, false, cond, List, [], ◌∷◌, ◌++◌, length, map, take, refl, sym, ap, subst, ◌∙◌, arith, append_assoc, append-nil}
-use Rattle.std.specs.Prelude.{filter, Option, Some, None, IsSome, All, option_map}
+use Rattle.std.proofs.Common.{◌≡◌, ℕ, zero, suc, ◌+◌, ◌<◌, Bool, true, false, cond, List, [], ◌∷◌, ◌++◌, map, sym, ap, subst, ◌∙◌, arith, append_assoc, append-nil}
+use Rattle.std.specs.Prelude.{filter, Option, Some, None, IsSome, option_map}
 use Rattle.std.specs.List.{range_with_len, AllByRecursion}
 use Rattle.std.proofs.Math.Seq.{take-append-add}
 use Rattle.std.proofs.lemmas.List.{map-append}
 use Rattle.std.proofs.lemmas.List.Elements.{All-from_recursion}
-use Rattle.idx_outside.specs.Files.{known_with, entry_shown, shown, known_files, LiesIn, AllLieIn, Mirrors, HoldFiles}
+use Rattle.idx_outside.specs.Files.{known_with, entry_shown, shown, known_files, LiesIn, AllLieIn, HoldFiles}
 use Rattle.idx_outside.specs.declared.mem_file.MemFile.{MemFile}
 use Rattle.idx_outside.proofs.FilesLemmas.{HoldFiles-of}
 use Rattle.idx_names.specs.Path as paths

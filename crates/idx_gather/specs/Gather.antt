@@ -1,12 +1,18 @@
 -- What gathering a step promises, by its header, what is known of the raw volume and of the committed files, and the counts
 -- of faults.
-use Rattle.std.specs.Prelude.{◌≡◌, ◌≢◌, ◌⊎◌, ℕ, List, length, Option, IfSome, IsSome}
+use Rattle.std.specs.Prelude.{◌≡◌, ◌≢◌, ◌⊎◌, ℕ, Bool, List, drop, length, Option, None, IfSome, IsSome}
+use Rattle.std.specs.Option.{ForSome}
 use Rattle.idx_outside.specs.Cause.{Rose}
-use Rattle.idx_outside.specs.Files.{added, files_of, LiesIn}
+use Rattle.idx_outside.specs.Files.{added, file_at, files_of}
+use Rattle.idx_outside.specs.Shape.{Shape}
 use Rattle.idx_outside.specs.declared.mem_file.MemFile.{MemFile}
 use Rattle.idx_header.specs.Header.{HeaderValue, HasStep, volume_bytes}
-use Rattle.idx_header.specs.Names.{step_folder}
+use Rattle.idx_header.specs.Names.{file_name, step_folder}
+use Rattle.idx_layout.specs.Layout.{is_present}
+use Rattle.idx_layout.specs.OfHeader.{layout_of}
+use Rattle.idx_layout.specs.Shape.{shape_of}
 use Rattle.idx_layout.specs.Step.{step_files, volume_of_raw}
+use Rattle.idx_edition.specs.Loaded.{HoldsStored, IsWrittenBlock, OfBlocks}
 use Rattle.idx_gather.specs.declared.gather_fault.GatherFault.{GatherFault}
 use Rattle.idx_gather.specs.declared.gather_fault.GatherFault.TheVariants.{RawWrongSize, RawFault, StoreFault, NoMemory}
 
@@ -46,3 +52,27 @@ IsCaused h raw raw_before raw_after before after NoMemory =
 abbrev pub Leaves : HeaderValue → ℕ → Option (List ℕ) → Option (List MemFile) → Option (List MemFile) → GatherFault → Type 0
 Leaves h step raw old new (StoreFault faults) = (new ≡ old) ⊎ SomeStepAdded h step raw old new
 Leaves h step raw old new fault = new ≡ old
+
+-- `shape`, `has` and `stored` are what an edition tells: how many blocks there are and how long, which of them it has, and their
+-- bytes, where these are known. `leaves` are its files, each with what is known of its bytes.
+
+-- an edition has exactly the present blocks
+abbrev pub HasPresent : HeaderValue → (ℕ → ℕ → Bool) → Type 0
+HasPresent h has = OfBlocks (shape_of h) (λ field block. has field block ≡ is_present (layout_of h) block)
+
+-- where the bytes of its blocks are known, they are those of the volume with this raw input
+abbrev pub HasBlocksOf : HeaderValue → List ℕ → Option (ℕ → ℕ → List ℕ) → Type 0
+HasBlocksOf h raw stored =
+    ForSome stored (λ stored. OfBlocks (shape_of h) (λ field block.
+    IsWrittenBlock h (volume_of_raw h raw) field block (stored field block)))
+
+-- none of these files stands under a path of the step
+abbrev pub LackPaths : HeaderValue → ℕ → List MemFile → Type 0
+LackPaths h step files = (file : ℕ) → file_at (file_name h step file) files ≡ None
+
+-- Where the committed files before and after are known, an edition holds what those store that were added, and what all of them
+-- store, if none from before stood under a path of the step.
+pub record HoldsAdded (h : HeaderValue) (step : ℕ) (old new : Option (List MemFile)) (shape : Shape) (has : ℕ → ℕ → Bool)
+    (stored : Option (ℕ → ℕ → List ℕ)) (leaves : List (List ℕ × Option (List ℕ))) : Type 0 where
+  pub own : ForSome old (λ before. ForSome new (λ after. HoldsStored h step (drop (length before) after) shape has stored leaves))
+  pub all : ForSome old (λ before. ForSome new (λ after. LackPaths h step before → HoldsStored h step after shape has stored leaves))

@@ -1,21 +1,23 @@
-ghost use Rattle.std.specs.Prelude.{◌≡◌, ◌<◌, ℕ, IfErr, IfSome, List, OnOk, vec_len};
+ghost use Rattle.std.specs.Prelude.{◌≡◌, ◌<◌, ℕ, IfErr, IfOk, IfSome, List, OnOk, vec_len};
 ghost use Rattle.std.specs.Option.{ForSome};
 ghost use Rattle.idx_outside.specs.Cause.{NeverFalls};
-ghost use Rattle.idx_outside.specs.Files.{HasStep as HasCommitted, LiesIn};
+ghost use Rattle.idx_outside.specs.Files.{HasStep as HasCommitted, LiesIn, shown};
 ghost use Rattle.idx_outside.specs.Objects.{contents_at, faults_at, UsesOnly};
 ghost use Rattle.idx_header.specs.Names.{step_folder};
-ghost use Rattle.idx_gather.specs.Gather.{HasFolder, HasVolume, IsCaused, Leaves, SomeStepAdded};
+ghost use Rattle.idx_layout.specs.Shape.{shape_of};
+ghost use Rattle.idx_gather.specs.Gather.{HasBlocksOf, HasFolder, HasPresent, HasVolume, HoldsAdded, IsCaused, Leaves, SomeStepAdded};
 
 use crate::GatherFault;
 use crate::step::write_step;
 use crate::volume::read_volume;
+use idx_edition::Edition;
 use idx_header::Header;
-use idx_outside::{Bay, BayFault, Gate, Source};
+use idx_outside::{Bay, BayFault, Blocks, Gate, Source};
 use std::alloc::Global;
 
 /// Writes a step from a raw volume and makes it stand in the bay, in the folder that was last begun: exactly its files,
 /// byte for byte as the format defines them. The first raw volume alone is read, once and whole, before the first file is
-/// begun.
+/// begun. The answer is the step as blocks, out of the files that now stand; making it costs no read.
 ///
 /// After a refusal no file stands that did not before. A store's fault may come of the commit itself: then the step stands
 /// whole or not at all.
@@ -26,7 +28,7 @@ pub fn gather<V: Source, B: Bay, G: Gate>(
     raws: &mut Vec<V>,
     bay: &mut B,
     _gate: &G,
-) -> Result<(), GatherFault>
+) -> Result<Edition<B::Leaf>, GatherFault>
     requires some { 0 < vec_len raws.old }
     requires folder { HasFolder header.now step }
     requires begun { ForSome (step_folder header.now step)
@@ -38,6 +40,16 @@ pub fn gather<V: Source, B: Bay, G: Gate>(
     ensures right { OnOk result (HasVolume header.now (contents_at V.contents raws.old.items 0)) }
     ensures added { OnOk result (SomeStepAdded header.now step (contents_at V.contents raws.old.items 0)
         (B.files bay.old) (B.files bay.new)) }
+
+    // The edition is the step's, with exactly the present blocks; where their bytes are known they are the raw volume's.
+    ensures time { IfOk result (λ edition. ⟦<Edition<B::Leaf> as Blocks>⟧.time edition ≡ step) }
+    ensures shape { IfOk result (λ edition. ⟦<Edition<B::Leaf> as Blocks>⟧.shape edition ≡ shape_of header.now) }
+    ensures has { IfOk result (λ edition. HasPresent header.now (⟦<Edition<B::Leaf> as Blocks>⟧.has edition)) }
+    ensures volume { IfOk result (λ edition. IfSome (contents_at V.contents raws.old.items 0) (λ bytes.
+        HasBlocksOf header.now bytes (⟦<Edition<B::Leaf> as Blocks>⟧.stored edition))) }
+    ensures holds { IfOk result (λ edition. HoldsAdded header.now step (B.files bay.old) (B.files bay.new)
+        (⟦<Edition<B::Leaf> as Blocks>⟧.shape edition) (⟦<Edition<B::Leaf> as Blocks>⟧.has edition)
+        (⟦<Edition<B::Leaf> as Blocks>⟧.stored edition) (shown B.Leaf.contents edition.leaves.items)) }
 
     // Each refusal has its cause, and leaves the committed files as they were, a failed commit apart.
     ensures cause { IfErr result (IsCaused header.now (contents_at V.contents raws.old.items 0)
@@ -56,7 +68,7 @@ pub fn gather<V: Source, B: Bay, G: Gate>(
 {
     let raw = read_volume(alloc, header, &mut raws[0])?;
     match write_step(alloc, header, step, &raw, bay) {
-        Ok(()) => Ok(()),
+        Ok(edition) => Ok(edition),
         Err(BayFault::Outage) => Err(GatherFault::StoreFault {
             faults: bay.faults(),
         }),

@@ -1,28 +1,30 @@
 ghost use Rattle.std.specs.Prelude.{◌≡◌, ◌⊎◌, ◌<◌, ℕ, Err, IfOk, IfSome, List, OnErr, OnOk, length};
 ghost use Rattle.std.specs.Option.{ForSome};
 ghost use Rattle.idx_outside.specs.Cause.{NeverFalls, Rose};
-ghost use Rattle.idx_outside.specs.Files.{known_with, HasStep as HasCommitted, HoldFiles, LiesIn, StillAdmits};
+ghost use Rattle.idx_outside.specs.Files.{known_with, HasStep as HasCommitted, HoldFiles, LiesIn, StillAdmits, shown};
 ghost use Rattle.idx_header.specs.Header.{block_count, volume_bytes};
 ghost use Rattle.idx_header.specs.Names.{file_name, step_folder};
 ghost use Rattle.idx_layout.specs.Files.{file_bytes};
 ghost use Rattle.idx_layout.specs.OfHeader.{layout_of};
+ghost use Rattle.idx_layout.specs.Shape.{shape_of};
 ghost use Rattle.idx_layout.specs.Step.{step_files, volume_of_raw};
-ghost use Rattle.idx_gather.specs.Gather.{HasFolder, StepAdded};
+ghost use Rattle.idx_gather.specs.Gather.{HasBlocksOf, HasFolder, HasPresent, HoldsAdded, StepAdded};
 
 use crate::content::write_content;
+use idx_edition::Edition;
 use idx_header::Header;
 use idx_layout::files;
-use idx_outside::{Bay, BayFault, Bytes, Draft};
+use idx_outside::{Bay, BayFault, Blocks, Bytes, Draft};
 use std::alloc::Global;
 
-/// Writes the files of a step and makes them stand.
+/// Writes the files of a step, makes them stand, and gives them as blocks. All memory is taken before they stand.
 pub(crate) fn write_step<B: Bay>(
     alloc: Global,
     header: &Header,
     step: u64,
     raw: &[u8],
     bay: &mut B,
-) -> Result<(), BayFault>
+) -> Result<Edition<B::Leaf>, BayFault>
     requires folder { HasFolder header.now step }
     requires raw { length raw.now ≡ volume_bytes header.now }
     requires begun { ForSome (step_folder header.now step)
@@ -30,6 +32,14 @@ pub(crate) fn write_step<B: Bay>(
     requires new { ForSome (step_folder header.now step)
         (λ folder. ForSome (B.files bay.old) (λ files. ¬ HasCommitted folder files)) }
     ensures added { OnOk result (StepAdded header.now step (B.files bay.old) (B.files bay.new) raw.now) }
+    ensures time { IfOk result (λ edition. ⟦<Edition<B::Leaf> as Blocks>⟧.time edition ≡ step) }
+    ensures shape { IfOk result (λ edition. ⟦<Edition<B::Leaf> as Blocks>⟧.shape edition ≡ shape_of header.now) }
+    ensures has { IfOk result (λ edition. HasPresent header.now (⟦<Edition<B::Leaf> as Blocks>⟧.has edition)) }
+    ensures volume { IfOk result (λ edition.
+        HasBlocksOf header.now raw.now (⟦<Edition<B::Leaf> as Blocks>⟧.stored edition)) }
+    ensures holds { IfOk result (λ edition. HoldsAdded header.now step (B.files bay.old) (B.files bay.new)
+        (⟦<Edition<B::Leaf> as Blocks>⟧.shape edition) (⟦<Edition<B::Leaf> as Blocks>⟧.has edition)
+        (⟦<Edition<B::Leaf> as Blocks>⟧.stored edition) (shown B.Leaf.contents edition.leaves.items)) }
     ensures whole { OnErr result ((B.files bay.new ≡ B.files bay.old)
         ⊎ StepAdded header.now step (B.files bay.old) (B.files bay.new) raw.now) }
     ensures none { result ≡ Err BayFault.NoMemory → B.files bay.new ≡ B.files bay.old }
@@ -43,7 +53,9 @@ pub(crate) fn write_step<B: Bay>(
         unreachable!()
     };
     let leaves = write_files(alloc, header, step, raw, bay)?;
-    bay.commit(folder.as_slice(), &leaves)
+    let edition = Edition::of_leaves(alloc, header, step, leaves)?;
+    bay.commit(folder.as_slice(), edition.leaves())?;
+    Ok(edition)
 }
 
 /// Writes the files of a step, which do not stand yet.

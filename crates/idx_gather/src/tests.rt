@@ -1,6 +1,12 @@
+ghost use Rattle.std.specs.Prelude.{◌≡◌, IfOk};
+ghost use Rattle.idx_layout.specs.Shape.{shape_of};
+
 use crate::{GatherFault, gather};
+use idx_edition::Edition;
 use idx_header::Header;
-use idx_outside::{Bay, Bytes, FreeGate, MemBay, MemSource, Source};
+use idx_outside::{
+    Bay, Blocks, Bytes, Fetched, FreeGate, MemBay, MemLeaf, MemReader, MemSource, Source,
+};
 use std::alloc::Global;
 use std::process::Abort;
 use std::test::Fail;
@@ -40,15 +46,22 @@ const TWO_POINTS: &[u8] =
 const TWO_FIELDS: &[u8] =
     b"(version)\n6\n(box)\n0 3 0 3\n(fields)\na uint8 + b uint16\n(bits)\nV0101\n(bitsperblock)\n2\n(blocksperfile)\n2\n(filename_template)\n./%01x.bin\n(time)\n0 9 time%04d/\n";
 
+/// The header of this text.
+fn header_of(alloc: Global, rt: &impl Abort, text: &[u8]) -> Header {
+    Header::read(alloc, text).ok().expect(rt, "a header")
+}
+
 /// How gathering step 0 into an empty bay ends, the raw volume's count of faults, and the bay.
 fn gathered(
     alloc: Global,
     rt: &impl Abort,
-    text: &[u8],
+    header: &Header,
     raw: &[u8],
     failing: Failing,
-) -> Result<(Result<(), GatherFault>, u64, MemBay), Fail> {
-    let header = Header::read(alloc, text).ok().expect(rt, "a header");
+) -> Result<(Result<Edition<MemLeaf>, GatherFault>, u64, MemBay), Fail>
+    ensures { IfOk result (λ ended. IfOk ended.0 (λ edition.
+        ⟦<Edition<MemLeaf> as Blocks>⟧.shape edition ≡ shape_of header.now)) }
+{
     assert!(rt; header.steps().is_some() && header.has_time(0));
     let folder = header.step_folder(alloc, 0)?.expect(rt, "a folder");
     let mut drafts = Vec::new(alloc);
@@ -60,7 +73,7 @@ fn gathered(
     let fails = Vec::from_slice(alloc, &[failing.raw])?;
     let mut raws = Vec::with_capacity(alloc, 1)?;
     raws.push(MemSource::new(Bytes::from_slice(alloc, raw)?, fails))?;
-    let answer = gather(alloc, &header, 0, &mut raws, &mut bay, &FreeGate);
+    let answer = gather(alloc, header, 0, &mut raws, &mut bay, &FreeGate);
     Ok((answer, raws[0].faults(), bay))
 }
 
@@ -105,8 +118,9 @@ fn blocks_stand_behind_the_table(rt: HostRuntime) -> Result<(), Fail> {
         ),
     ];
     for (text, raw, table, first, second) in rows {
-        let (answer, _, bay) = gathered(rt.alloc(), &rt, text, raw, NONE)?;
-        assert_eq!(rt; answer, Ok(()));
+        let header = header_of(rt.alloc(), &rt, text);
+        let (answer, _, bay) = gathered(rt.alloc(), &rt, &header, raw, NONE)?;
+        assert!(rt; answer.is_ok());
         let files = bay.committed();
         assert_eq!(rt; files.len(), 2);
         for (file, blocks) in files.iter().zip([first, second]) {
@@ -131,20 +145,99 @@ fn a_failed_call_leaves_no_step(rt: HostRuntime) -> Result<(), Fail> {
         (0, 0, 1, store_fault),
         (0, 0, 2, store_fault),
     ];
+    let header = header_of(rt.alloc(), &rt, BASE);
     for (raw, bay, draft, fault) in rows {
-        let (answer, _, bay) = gathered(rt.alloc(), &rt, BASE, &RAW, Failing { raw, bay, draft })?;
-        assert_eq!(rt; answer, Err(fault));
+        let failing = Failing { raw, bay, draft };
+        let (answer, _, bay) = gathered(rt.alloc(), &rt, &header, &RAW, failing)?;
+        assert_eq!(rt; answer.err(), Some(fault));
         assert!(rt; bay.committed().is_empty());
     }
-    let (answer, faults, bay) = gathered(rt.alloc(), &rt, BASE, &RAW[..15], NONE)?;
+    let (answer, faults, bay) = gathered(rt.alloc(), &rt, &header, &RAW[..15], NONE)?;
     assert_eq!(rt;
-        answer,
-        Err(GatherFault::RawWrongSize {
+        answer.err(),
+        Some(GatherFault::RawWrongSize {
             want: 16,
             found: 15
         })
     );
     assert_eq!(rt; (faults, bay.faults()), (0, 0));
     assert!(rt; bay.committed().is_empty());
+    Ok(())
+}
+
+/// Fetches a block of the first field.
+fn fetched(
+    alloc: Global,
+    rt: &impl Abort,
+    header: &Header,
+    edition: &Edition<MemLeaf>,
+    reader: &mut MemReader,
+    block: u64,
+) -> Result<(Fetched, Vec<u8>), Fail>
+    requires { ⟦<Edition<MemLeaf> as Blocks>⟧.shape edition.now ≡ shape_of header.now }
+{
+    assert!(rt; block < header.block_count());
+    assert!(rt; header.field_count() > 0);
+    let mut bytes = vec![in alloc; 9u8; header.block_bytes(0) as usize]?;
+    let fetched = edition.fetch(reader, 0, block, &mut bytes)?;
+    Ok((fetched, bytes))
+}
+
+/// Fetches the blocks of the first field, one after another, and compares each, and how it came. Gives how many reads that
+/// made.
+fn compare_blocks(
+    alloc: Global,
+    rt: &impl Abort,
+    header: &Header,
+    edition: &Edition<MemLeaf>,
+    blocks: &[([u8; 4], Fetched)],
+) -> Result<u64, Fail>
+    requires { ⟦<Edition<MemLeaf> as Blocks>⟧.shape edition.now ≡ shape_of header.now }
+{
+    let mut reader = MemReader::new(Vec::new(alloc));
+    for (block, (samples, way)) in blocks.iter().enumerate() {
+        let (came, bytes) = fetched(alloc, rt, header, edition, &mut reader, block as u64)?;
+        assert_eq!(rt; came, *way);
+        assert_eq!(rt; bytes.as_slice(), samples.as_slice());
+    }
+    Ok(reader.reads())
+}
+
+/// A block that the step has costs one read, and an absent one none.
+#[test]
+fn the_edition_fetches_the_blocks(rt: HostRuntime) -> Result<(), Fail> {
+    let alloc = rt.alloc();
+    let rows: [(&[u8], &[u8], &[([u8; 4], Fetched)], u64); 2] = [
+        (
+            BASE,
+            &RAW,
+            &[
+                ([0, 2, 8, 10], Fetched::Read),
+                ([1, 9, 3, 11], Fetched::Read),
+                ([4, 5, 12, 13], Fetched::Read),
+                ([6, 7, 14, 15], Fetched::Read),
+            ],
+            4,
+        ),
+        (
+            TWO_POINTS,
+            &[0x11, 0x22],
+            &[
+                ([0x11, 0, 0, 0], Fetched::Read),
+                ([0; 4], Fetched::Absent),
+                ([0x22, 0, 0, 0], Fetched::Read),
+                ([0; 4], Fetched::Absent),
+            ],
+            2,
+        ),
+    ];
+    for (text, raw, blocks, reads) in rows {
+        let header = header_of(alloc, &rt, text);
+        let (answer, _, _) = gathered(alloc, &rt, &header, raw, NONE)?;
+        let edition = answer.ok().expect(&rt, "an edition");
+        assert_eq!(rt; (edition.time(), edition.leaves().len()), (0, 2));
+        let made = compare_blocks(alloc, &rt, &header, &edition, blocks)?;
+        assert_eq!(rt; made, reads);
+    }
     Ok(())
 }

@@ -1,11 +1,11 @@
-use Rattle.std.proofs.Common.{◌≡◌, ℕ, ◌<◌, ◌++◌, List, [], map, refl, sym, ap, subst, ◌∙◌, arith}
+use Rattle.std.proofs.Common.{◌<◌, ◌++◌, map, refl, sym, ap, subst, ◌∙◌}
 use Rattle.std.specs.List.{AllByRecursion}
 use Rattle.idx_outside.specs.Files.{known_with, shown, known_files}
 use Rattle.idx_header.specs.Header.{block_count}
 use Rattle.idx_header.specs.Names.{file_name}
 use Rattle.idx_layout.specs.Files.{file_bytes}
 use Rattle.idx_layout.specs.OfHeader.{layout_of}
-use Rattle.idx_layout.specs.Step.{step_file, step_files, volume_of_raw}
+use Rattle.idx_layout.specs.Step.{step_file, volume_of_raw}
 use Rattle.idx_gather.proofs.StepLemmas.{files_exist, leaf_more, leaves_hold}
 use Rattle.idx_gather.proofs.step.write_files.Goals as goal
 

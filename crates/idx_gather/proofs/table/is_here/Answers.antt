@@ -1,7 +1,5 @@
-use Rattle.std.proofs.Common.{◌≡◌, ◌^◌, ◌≤◌, sym, ◌∙◌, arith}
+use Rattle.std.proofs.Common.{sym, ◌∙◌, arith}
 use Rattle.std.proofs.lemmas.Bool.{le-ltb}
-use Rattle.idx_layout.specs.Layout.{is_present}
-use Rattle.idx_layout.specs.OfHeader.{layout_of}
 use Rattle.idx_gather.proofs.TableLemmas.{absent_behind}
 use Rattle.idx_gather.proofs.table.is_here.Goals as goal
 

@@ -1,4 +1,4 @@
-use Rattle.std.proofs.Common.{◌≡◌, ◌+◌, ◌-◌, ◌≤◌, ◌++◌, Bool, true, false, not, Fits, w64, sym, ap, ◌∙◌, arith}
+use Rattle.std.proofs.Common.{◌++◌, sym, ap, ◌∙◌, arith}
 use Rattle.idx_layout.specs.OfHeader.{layout_of}
 use Rattle.idx_layout.proofs.HeaderLemmas.{few_in_file}
 use Rattle.idx_table.specs.Row.{row_bytes}

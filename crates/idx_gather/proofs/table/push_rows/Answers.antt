@@ -1,4 +1,4 @@
-use Rattle.std.proofs.Common.{◌≡◌, ◌+◌, ◌-◌, ◌++◌, sym, ap, ◌∙◌, arith}
+use Rattle.std.proofs.Common.{◌++◌, ap, ◌∙◌}
 use Rattle.idx_layout.specs.OfHeader.{layout_of}
 use Rattle.idx_layout.specs.Files.{row_of_block}
 use Rattle.idx_table.specs.Row.{row_bytes}
