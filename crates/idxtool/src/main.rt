@@ -1,5 +1,5 @@
-//! Writes the samples of a region of a raw volume between two levels, what the header of a dataset says, or a step of a
-//! dataset out of a raw volume.
+//! Writes the samples of a region of a raw volume or of a dataset between two levels, what the header of a dataset says,
+//! or a step of a dataset out of a raw volume.
 #![tactic(auto)]
 
 ghost use Rattle.std.specs.Prelude.{◌≡◌, IfOk, vec_len};
@@ -12,7 +12,7 @@ mod tests;
 mod usage;
 
 use idx_commands::{Cause, Done, run};
-use idx_real::{FileSource, FolderBay, StdSink};
+use idx_real::{FileReader, FileSource, FolderBay, StdSink};
 use paths::{dataset_path, raw_path};
 use report::report;
 use std::alloc::AllocError;
@@ -52,11 +52,21 @@ fn give_run(rt: &HostRuntime, words: &[String]) -> ExitCode {
     let Ok(mut bay) = dataset_files(rt, words) else {
         return give_up(rt, Cause::NoMemory);
     };
+    let Ok(mut readers) = file_readers(rt) else {
+        return give_up(rt, Cause::NoMemory);
+    };
     let mut out = StdSink::new(rt.stdout());
-    let done = run(rt.alloc(), words, &mut raws, &mut bay, &mut out);
+    let done = run(
+        rt.alloc(),
+        words,
+        &mut raws,
+        &mut bay,
+        &mut readers,
+        &mut out,
+    );
     let fault = match done.cause {
         Cause::RawFault => raws[0].last_fault(),
-        Cause::StoreFault => bay.last_fault(),
+        Cause::StoreFault => bay.last_fault().or(readers[0].last_fault()),
         Cause::SinkFault => out.last_fault(),
         _ => None,
     };
@@ -77,6 +87,15 @@ fn raw_files(rt: &HostRuntime, words: &[String]) -> Result<Vec<FileSource<HostRu
 fn dataset_files(rt: &HostRuntime, words: &[String]) -> Result<FolderBay<HostRuntime>, AllocError> {
     let path = String::from_str(rt.alloc(), dataset_path(words))?;
     Ok(FolderBay::new(rt.clone()?, path))
+}
+
+/// The readers of the dataset's files: one.
+fn file_readers(rt: &HostRuntime) -> Result<Vec<FileReader<HostRuntime>>, AllocError>
+    ensures { IfOk result (λ readers. vec_len readers ≡ 1) }
+{
+    let mut readers = Vec::with_capacity(rt.alloc(), 1)?;
+    readers.push(FileReader::new(rt.clone()?, rt.alloc()))?;
+    Ok(readers)
 }
 
 /// Ends before anything was done.

@@ -1,4 +1,5 @@
 use idx_header::HeaderKind;
+use idx_table::TableKind;
 
 /// What is wrong with a header, for people.
 pub fn plain_words(kind: HeaderKind) -> &'static str {
@@ -23,5 +24,19 @@ pub fn plain_words(kind: HeaderKind) -> &'static str {
         HeaderKind::BadTime => "the time is no two steps in order with a template",
         HeaderKind::OverLimit => "a value is over a limit, or the text has more than 65536 bytes",
         HeaderKind::NoMemory => "there was not enough memory",
+    }
+}
+
+/// What is wrong with a row of a file's table, for people.
+pub fn plain_table_words(kind: TableKind) -> &'static str {
+    match kind {
+        TableKind::CutShort => "the table ends before this row does",
+        TableKind::Compressed => "the block of this row is compressed, which is not read",
+        TableKind::RowMajor => "the block of this row is in row-major order, which is not read",
+        TableKind::WrongSize => "the block of this row has another size than the field's blocks",
+        TableKind::OutsideFile => {
+            "the block of this row does not lie between the table and the end of the file"
+        }
+        TableKind::NoMemory => "there was not enough memory",
     }
 }

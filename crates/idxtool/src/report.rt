@@ -4,7 +4,7 @@ ghost use Rattle.std.specs.Io.KnownBytes.{Appends, Keeps};
 ghost use Rattle.idx_commands.specs.Cause.{message_of};
 
 use crate::paths::{dataset_path, raw_path};
-use crate::plain_words::plain_words;
+use crate::plain_words::{plain_table_words, plain_words};
 use idx_commands::{Cause, Done};
 use idx_header::{Header, HeaderKind};
 use idx_real::Fault;
@@ -87,8 +87,56 @@ fn print_help<W: Write>(
             )
         }
         Cause::NoStep { .. } => writeln!(err, "  the step is none of those that TIME gives"),
-        Cause::TooLarge { .. } => writeln!(err, "  a raw volume has at most 1073741824 bytes"),
+        Cause::TooLarge { .. } => print_too_large(err, words),
+        Cause::NotPublished { .. } => {
+            let path = dataset_path(words);
+            writeln!(
+                err,
+                "  {path}: the step has not been written, or is none of its steps"
+            )
+        }
+        Cause::OtherAxes => {
+            let path = dataset_path(words);
+            writeln!(
+                err,
+                "  {path}: its box has another number of axes than REGION; idxtool info says its box"
+            )
+        }
+        Cause::UnknownField => {
+            let path = dataset_path(words);
+            writeln!(
+                err,
+                "  {path}: no field has this name; idxtool info lists its fields"
+            )
+        }
+        Cause::OutsideVolume { .. } => {
+            let path = dataset_path(words);
+            writeln!(
+                err,
+                "  {path}: REGION leaves its box on this axis, counted from 0; idxtool info says its box"
+            )
+        }
+        Cause::BadLevels { .. } => writeln!(
+            err,
+            "  LO is at most HI, and HI at most the finest level, the last number"
+        ),
+        Cause::BadTable { kind, .. } => {
+            let path = dataset_path(words);
+            writeln!(err, "  {path}: in this file, {}", plain_table_words(kind))
+        }
         _ => Ok(()),
+    }
+}
+
+/// Prints how many bytes are too many.
+fn print_too_large<W: Write>(err: &mut W, words: &[String]) -> io::Result<()> {
+    if is_command(words, "query") {
+        writeln!(
+            err,
+            "  an answer has at most 268435456 bytes: ask for a smaller REGION or a coarser HI"
+        )
+    } else {
+        writeln!(err, "  a raw volume has at most 1073741824 bytes")
     }
 }
 
@@ -109,8 +157,13 @@ fn print_usage<W: Write>(err: &mut W, words: &[String]) -> io::Result<()> {
 
 /// Whether the words begin with a command that takes a box.
 fn has_box(words: &[String]) -> bool {
+    is_command(words, "cut") || is_command(words, "convert") || is_command(words, "query")
+}
+
+/// Whether the words begin with this command.
+fn is_command(words: &[String], command: &str) -> bool {
     match words.first() {
-        Some(name) => name.as_str() == "cut" || name.as_str() == "convert",
+        Some(name) => name.as_str() == command,
         None => false,
     }
 }

@@ -81,6 +81,20 @@ fn a_message_says_what_helps(rt: HostRuntime) -> Result<(), Fail> {
             None,
             "idxtool: raw size want 16 found 15\n  r.raw: not the bytes that these samples take\n",
         ),
+        (
+            "query|v.idx|0|a|0|3|0|3|0|2",
+            Cause::Usage { at: 4 },
+            None,
+            "idxtool: usage at 4\n  word 4 is `0`\n  \
+             expected REGION, a box of 2 to 5 axes, one quoted word as \"0 63 0 63 10 10\": pairs `lo hi`, axis 0 first, no lo above its hi\n  \
+             a box is one word: quote it, as \"0 63 0 63\"\n  idxtool --help says more\n",
+        ),
+        (
+            "query|v.idx|5|a|0 3 0 3|0|2",
+            Cause::NotPublished { time: 5 },
+            None,
+            "idxtool: not published 5\n  v.idx: the step has not been written, or is none of its steps\n",
+        ),
         (split, Cause::Done, Some(fault), ""),
     ] {
         let shown = printed(rt.alloc(), line, cause, fault)?;

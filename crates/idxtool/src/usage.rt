@@ -51,13 +51,29 @@ idxtool: samples, headers and files of ViSUS IDX data, with proved answers
                 \"0 99 time%04d/\": %0Nd is the step in N decimal digits
       STEP      the step that is written
 
+  idxtool query DATASET TIME FIELD REGION LO HI
+      writes to standard output the samples of a field of a step at the points
+      of a region whose level is LO to HI, in row-major order, axis 0 fastest.
+      It reads the tables of the step's files, and the blocks that hold a sample
+      of the answer, and no others
+
+      DATASET  the header file, as run.idx
+      TIME     the number of the step
+      FIELD    the name of the field
+      REGION   inclusive bounds `lo hi` of each axis, inside the dataset's box,
+               in one quoted word, as \"0 63 0 63 32 32\" for a slice
+      LO HI    the coarsest and the finest level: 0 and a small HI for a coarse
+               version, 0 and the dataset's levels for every sample, HI + 1 and
+               a finer level for what a coarse version lacks
+
   idxtool --help
   idxtool --version
 
 Exit statuses: 0 all was written, 1 wrong words, 2 a header is refused, 3 RAW
 has another size, 4 RAW could not be read, 5 DATASET could not be read or
-written, 6 the step stands already or another header stands, 8 no such step or
-too many bytes, 9 standard output did not take all, 11 not enough memory.
+written, 6 the step stands already or another header stands, 7 the step does not
+stand, 8 no such field, region, levels or step, or too many bytes, 9 standard
+output did not take all, 10 a file of DATASET is damaged, 11 not enough memory.
 ";
 
 /// The text that a list of words asks for, if it is `--help` or `--version` alone.
