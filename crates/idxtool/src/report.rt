@@ -120,9 +120,13 @@ fn print_help<W: Write>(
             err,
             "  LO is at most HI, and HI at most the finest level, the last number"
         ),
-        Cause::BadTable { kind, .. } => {
+        Cause::BadTable { file, kind, .. } => {
             let path = dataset_path(words);
-            writeln!(err, "  {path}: in this file, {}", plain_table_words(kind))
+            writeln!(
+                err,
+                "  {path}, the file that begins with block {file}: {}",
+                plain_table_words(kind)
+            )
         }
         _ => Ok(()),
     }
