@@ -1,5 +1,7 @@
 //! Cases of `convert`.
-use crate::setting::{HEADER, RAW, bay_of, changed, first_bytes, raw_of, run_over};
+use crate::setting::{
+    HEADER, RAW, bay_of, bay_with, changed, committed_file, file_of, first_bytes, raw_of, run_over,
+};
 use idx_commands::{Cause, Done};
 use idx_header::HeaderKind;
 use idx_outside::{Bytes, MemBay, MemFile};
@@ -21,7 +23,7 @@ const BASE: [&str; 11] = [
 ];
 
 /// How `convert` on the base words with these changes ends, over this bay, and whether it wrote nothing to the sink.
-fn convert(
+pub(crate) fn convert(
     alloc: Global,
     changes: &[(usize, &str)],
     raw: &[u8],
@@ -29,7 +31,8 @@ fn convert(
     bay: &mut MemBay,
 ) -> Result<(Done, bool), AllocError> {
     let words = changed(alloc, &BASE, changes)?;
-    let (done, written) = run_over(alloc, &words, raw_of(alloc, raw, raw_fails)?, bay, &[1])?;
+    let raw = raw_of(alloc, raw, raw_fails)?;
+    let (done, written, _) = run_over(alloc, &words, raw, bay, &[1], &[1])?;
     Ok((done, written.is_empty()))
 }
 
@@ -101,15 +104,9 @@ fn what_stands_is_refused_in_order(rt: HostRuntime) -> Result<(), Fail> {
 
 /// The bay of a header text, with a file of step 0, whose call of this number fails.
 fn bay_with_step(alloc: Global, text: &str, fail: u64) -> Result<MemBay, AllocError> {
-    let header = Bytes::from_vec(Vec::from_slice(alloc, text.as_bytes())?);
     let mut files = Vec::new(alloc);
-    files.push(MemFile {
-        folder: Bytes::from_vec(Vec::from_slice(alloc, b"time0000")?),
-        path: Bytes::from_vec(Vec::from_slice(alloc, b"time0000/0.bin")?),
-        bytes: Bytes::new(alloc),
-    })?;
-    let fails = Vec::from_slice(alloc, &[fail])?;
-    Ok(MemBay::new(header, files, fails, Vec::new(alloc)))
+    files.push(committed_file(alloc, "time0000/0.bin", Vec::new(alloc))?)?;
+    bay_with(alloc, text, files, &[fail])
 }
 
 /// Each call fails in turn: three of the raw volume, seven of the bay, and two of each of the two drafts. The header is
@@ -337,18 +334,6 @@ fn file_at(
 
 fn is_at(file: &MemFile, folder: &str, path: &str) -> bool {
     file.folder.as_slice() == folder.as_bytes() && file.path.as_slice() == path.as_bytes()
-}
-
-/// A file with these offsets and sizes in its table, and these bytes behind it.
-fn file_of(alloc: Global, rows: &[(u32, u32)], blocks: &[u8]) -> Result<Vec<u8>, AllocError> {
-    let mut file = Vec::from_slice(alloc, &[0; 40])?;
-    for (offset, size) in rows {
-        for word in [0, 0, *offset, 0, *size, 0, 0, 0, 0, 0] {
-            file.extend_from_slice(&word.to_be_bytes())?;
-        }
-    }
-    file.extend_from_slice(blocks)?;
-    Ok(file)
 }
 
 /// The header text with another text in the place of one.

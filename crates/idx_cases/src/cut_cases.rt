@@ -16,13 +16,9 @@ fn cut(
 ) -> Result<(Done, Vec<u8>), AllocError> {
     let words = changed(alloc, &BASE, changes)?;
     let mut bay = bay_of(alloc, "", &[])?;
-    run_over(
-        alloc,
-        &words,
-        raw_of(alloc, raw, raw_fails)?,
-        &mut bay,
-        sink_fails,
-    )
+    let raw = raw_of(alloc, raw, raw_fails)?;
+    let (done, written, _) = run_over(alloc, &words, raw, &mut bay, &[1], sink_fails)?;
+    Ok((done, written))
 }
 
 #[test]

@@ -14,13 +14,9 @@ fn info(
 ) -> Result<(Done, Vec<u8>), AllocError> {
     let words = changed(alloc, &["info", "run.idx"], &[])?;
     let mut bay = bay_of(alloc, text, bay_fails)?;
-    run_over(
-        alloc,
-        &words,
-        raw_of(alloc, &[], &[1])?,
-        &mut bay,
-        sink_fails,
-    )
+    let raw = raw_of(alloc, &[], &[1])?;
+    let (done, written, _) = run_over(alloc, &words, raw, &mut bay, &[1], sink_fails)?;
+    Ok((done, written))
 }
 
 #[test]

@@ -8,4 +8,6 @@ mod cut_cases;
 #[cfg(test)]
 mod info_cases;
 #[cfg(test)]
+mod query_cases;
+#[cfg(test)]
 mod setting;
