@@ -23,10 +23,23 @@ const FIRST: [u32; 4] = [120, 0, 4, 0];
 /// The line of the header that says its steps.
 const TIME: &str = "(time)\n0 9 time%04d/\n";
 
-/// A header of one axis of 4,194,305 samples of 64 bytes.
+/// A header of 4,194,305 samples of 64 bytes, all along axis 0, without steps.
 const LARGE: &str =
     "(version)\n6\n(box)\n0 4194304 0 0\n(fields)\na uint8[64]\n(bits)\nV00000000000000000000000\n\
     (bitsperblock)\n18\n(blocksperfile)\n1\n(filename_template)\n./%06x.bin\n";
+
+/// The refusals of levels 3 to 2 and 0 to 5, where the finest is 4.
+const BACKWARDS: Cause = Cause::BadLevels {
+    lo: 3,
+    hi: 2,
+    max: 4,
+};
+
+const TOO_FINE: Cause = Cause::BadLevels {
+    lo: 0,
+    hi: 5,
+    max: 4,
+};
 
 /// How `query` on the base words with these changes ends over this bay, what it writes, and how many reads it makes.
 fn query(
@@ -151,24 +164,17 @@ fn the_first_refusal_ends_query(rt: HostRuntime) -> Result<(), Fail> {
     Ok(())
 }
 
-const BACKWARDS: Cause = Cause::BadLevels {
-    lo: 3,
-    hi: 2,
-    max: 4,
-};
-
-const TOO_FINE: Cause = Cause::BadLevels {
-    lo: 0,
-    hi: 5,
-    max: 4,
-};
-
 /// Nothing is read of a step that does not stand, for an answer that is too large, and under a header that is refused.
 #[test]
 fn a_refusal_comes_before_any_read(rt: HostRuntime) -> Result<(), Fail> {
     let missing = Cause::Header {
         line: 1,
         kind: HeaderKind::MissingKey,
+    };
+    let past_finest = Cause::BadLevels {
+        lo: 0,
+        hi: 24,
+        max: 23,
     };
     let large = Cause::TooLarge { bytes: 268_435_520 };
     for (text, time, region, hi, bay_fail, cause) in [
@@ -180,7 +186,8 @@ fn a_refusal_comes_before_any_read(rt: HostRuntime) -> Result<(), Fail> {
             3,
             Cause::NotPublished { time: 5 },
         ),
-        (LARGE, "0", "0 4194304 0 0", "23", 2, large),
+        (LARGE, "5", "0 4194304 0 0", "24", 2, past_finest),
+        (LARGE, "5", "0 4194304 0 0", "23", 2, large),
         ("", "0", "0 3 0 3", "4", 2, missing),
         (HEADER, "0", "0 3 0 3", "4", 1, Cause::StoreFault),
     ] {
