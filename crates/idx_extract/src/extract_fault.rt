@@ -8,7 +8,10 @@ use thiserror::Error;
 pub enum ExtractFault {
     /// The header is refused: on this line, counted from 1, or 0 where the text is too long, stands this fault.
     #[error("the header is refused")]
-    Header { line: u64, kind: HeaderKind },
+    Header {
+        line: u64,
+        kind: HeaderKind,
+    },
     /// The region has another number of axes than the dataset.
     #[error("the region has another number of axes")]
     OtherAxes,

@@ -7,8 +7,8 @@ mod extract_fault;
 mod extracting;
 mod faults;
 mod opening;
-
-
+#[cfg(test)]
+mod tests;
 
 pub use extract_fault::ExtractFault;
 pub use extracting::extract;

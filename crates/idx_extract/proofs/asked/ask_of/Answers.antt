@@ -9,7 +9,7 @@ pub returns-clause-asked : goal.returns-clause-asked
 returns-clause-asked c =
     let inside = c.query.inside in
     let q : QueryValue =
-        record { time = inside.time; field = inside.field.now; region = inside.region; lo = inside.lo; hi = inside.hi } in
+    record { time = inside.time; field = inside.field.now; region = inside.region; lo = inside.lo; hi = inside.hi } in
     let axes : length q.region ≡ length c.args.header.now.box = grind (arith, common_steps) in
     subst (λ (q : QueryValue). IsAsk c.args.header.now q
     (record { time = inside.time; field = c.in-Some.field; region = inside.region; lo = inside.lo; hi = inside.hi })) c.query.view_is
