@@ -15,34 +15,56 @@ pub enum Cause {
     Done,
     /// The words are not in the grammar. The word at place `at`, counted from 0, is the first after which no list of the
     /// grammar goes on, or the first that is missing.
-    Usage { at: u64 },
+    Usage {
+        at: u64,
+    },
     /// The header that stands or that is asked for is refused: on this line, counted from 1, stands this fault. The line
     /// is 0 where the text is too long.
-    Header { line: u64, kind: HeaderKind },
+    Header {
+        line: u64,
+        kind: HeaderKind,
+    },
     /// The raw volume has `found` bytes and not the `want` that are asked for.
-    RawWrongSize { want: u64, found: u64 },
+    RawWrongSize {
+        want: u64,
+        found: u64,
+    },
     /// The raw volume could not be read.
     RawFault,
     /// The dataset could not be read or written.
     StoreFault,
     /// The step of this number stands already.
-    AlreadyPublished { time: u64 },
+    AlreadyPublished {
+        time: u64,
+    },
     /// A header stands that does not agree with the one that is asked for.
     OtherHeader,
     /// The step of this number does not stand, or the header lacks it.
-    NotPublished { time: u64 },
+    NotPublished {
+        time: u64,
+    },
     /// The region has another number of axes than the dataset.
     OtherAxes,
     /// No field has the name.
     UnknownField,
     /// The region leaves the dataset's box on this axis, the least such.
-    OutsideVolume { axis: u32 },
+    OutsideVolume {
+        axis: u32,
+    },
     /// `lo` passes `hi`, or `hi` passes the finest level, `max`.
-    BadLevels { lo: u32, hi: u32, max: u32 },
+    BadLevels {
+        lo: u32,
+        hi: u32,
+        max: u32,
+    },
     /// The samples that are asked for take so many bytes, which is too many.
-    TooLarge { bytes: u64 },
+    TooLarge {
+        bytes: u64,
+    },
     /// The header that is asked for lacks the step of this number.
-    NoStep { time: u64 },
+    NoStep {
+        time: u64,
+    },
     /// The output could not be written.
     SinkFault,
     /// A row of the table of a file is faulty: the first one, in the order of files and then of rows. The file's number is

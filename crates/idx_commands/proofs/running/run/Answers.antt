@@ -13,12 +13,12 @@ returns-clause-usage g c = (
   (λ one. usage_is g.K.Sink.contents g.K.Sink.faults (map string_bytes c.args.words.now)
       (known g.V.Source.contents g.V.Source.faults g.B.Bay.header g.B.Bay.files g.B.Bay.faults
       c.args.raws.now.items c.end_of_run.new.raws.items c.args.bay.now c.end_of_run.new.bay)
-    (reader_counts g.R.Reader.faults g.R.Reader.reads c.args.readers.now.items c.end_of_run.new.readers.items)
+      (reader_counts g.R.Reader.faults g.R.Reader.reads c.args.readers.now.items c.end_of_run.new.readers.items)
       c.args.out.now c.end_of_run.new.out c.end_of_run.result c.end_of_run.ensures.ends (sym c.of.ensures.status ∙ one)),
   (λ never. c.of.ensures.status ∙ is_usage g.K.Sink.contents g.K.Sink.faults (map string_bytes c.args.words.now)
       (known g.V.Source.contents g.V.Source.faults g.B.Bay.header g.B.Bay.files g.B.Bay.faults
       c.args.raws.now.items c.end_of_run.new.raws.items c.args.bay.now c.end_of_run.new.bay)
-    (reader_counts g.R.Reader.faults g.R.Reader.reads c.args.readers.now.items c.end_of_run.new.readers.items)
+      (reader_counts g.R.Reader.faults g.R.Reader.reads c.args.readers.now.items c.end_of_run.new.readers.items)
       c.args.out.now c.end_of_run.new.out c.end_of_run.result c.end_of_run.ensures.ends never),
 )
 
