@@ -379,3 +379,40 @@ fn bay_over(
     files.push(committed_file(alloc, "time0000/2.bin", two)?)?;
     bay_with(alloc, text, files, &[fail])
 }
+
+/// A slice across a cube of 16 points an axis, at a quarter of its resolution on two of them, comes out of the table and
+/// the first two of 32 blocks.
+#[test]
+fn a_coarse_slice_is_read_from_two_blocks(rt: HostRuntime) -> Result<(), Fail> {
+    let mut want = [0; 64];
+    for (place, sample) in want.iter_mut().enumerate() {
+        *sample = (place % 8 * 2 + place / 8 * 32) as u8;
+    }
+    let (done, written, reads) = slice_of_cube(rt.alloc(), "0 15 0 15 8 8", "9")?;
+    assert_eq!(rt; (done, reads), (Done::of(Cause::Done), 3));
+    assert_eq!(rt; written.as_slice(), want.as_slice());
+    Ok(())
+}
+
+/// How `query` of a region of a cube up to this level ends, after the cube was converted: its sample number n is n, as one
+/// byte.
+fn slice_of_cube(
+    alloc: Global,
+    region: &str,
+    hi: &str,
+) -> Result<(Done, Vec<u8>, u64), AllocError> {
+    let cube = [
+        (3, "0 15 0 15 0 15"),
+        (5, "V012012012012"),
+        (6, "7"),
+        (7, "32"),
+        (8, "./%02x.bin"),
+    ];
+    let mut raw = Vec::new(alloc);
+    for n in 0..4096u32 {
+        raw.push((n % 256) as u8)?;
+    }
+    let mut bay = bay_of(alloc, "", &[])?;
+    let (_, _) = convert(alloc, &cube, &raw, &[], &mut bay)?;
+    query(alloc, &[(4, region), (6, hi)], &mut bay, &[4], &[2])
+}
