@@ -396,23 +396,40 @@ fn a_coarse_slice_is_read_from_two_blocks(rt: HostRuntime) -> Result<(), Fail> {
 
 /// How `query` of a region of a cube up to this level ends, after the cube was converted: its sample number n is n, as one
 /// byte.
-fn slice_of_cube(
+fn slice_of_cube<'x>(
     alloc: Global,
-    region: &str,
-    hi: &str,
+    region: &'x str,
+    hi: &'x str,
 ) -> Result<(Done, Vec<u8>, u64), AllocError> {
-    let cube = [
-        (3, "0 15 0 15 0 15"),
-        (5, "V012012012012"),
-        (6, "7"),
-        (7, "32"),
-        (8, "./%02x.bin"),
-    ];
-    let mut raw = Vec::new(alloc);
-    for n in 0..4096u32 {
-        raw.push((n % 256) as u8)?;
-    }
-    let mut bay = bay_of(alloc, "", &[])?;
-    let (_, _) = convert(alloc, &cube, &raw, &[], &mut bay)?;
+    let mut bay = cube_bay(alloc)?;
     query(alloc, &[(4, region), (6, hi)], &mut bay, &[4], &[2])
+}
+
+/// An empty bay, into which the cube was converted.
+fn cube_bay(alloc: Global) -> Result<MemBay, AllocError> {
+    let raw = cube_bytes(alloc)?;
+    let mut bay = bay_of(alloc, "", &[])?;
+    let (_, _) = convert(
+        alloc,
+        &[
+            (3, "0 15 0 15 0 15"),
+            (5, "V012012012012"),
+            (6, "7"),
+            (7, "32"),
+            (8, "./%02x.bin"),
+        ],
+        &raw,
+        &[],
+        &mut bay,
+    )?;
+    Ok(bay)
+}
+
+/// The bytes of the cube: 0 to 255, sixteen times.
+fn cube_bytes(alloc: Global) -> Result<Vec<u8>, AllocError> {
+    let mut bytes = Vec::new(alloc);
+    for n in 0..4096u32 {
+        bytes.push((n % 256) as u8)?;
+    }
+    Ok(bytes)
 }
