@@ -1,0 +1,12 @@
+//! A bounded cache of pairs, the most recently used first, over `lru` with a slot for each pair that there may be.
+#![tactic(auto)]
+
+mod cache;
+mod examples;
+mod index;
+mod slots;
+#[cfg(test)]
+mod tests;
+
+pub use cache::Cache;
+pub use examples::worked_cache;
