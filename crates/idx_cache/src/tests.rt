@@ -2,6 +2,8 @@ use crate::Cache;
 use std::sync::Arc;
 use std::test::*;
 
+fn is_sendable<T: Send + Sync>(_: &T) {}
+
 #[test]
 fn keeps_the_most_recent(rt: HostRuntime) -> Result<(), Fail> {
     let mut cache: Cache<u64, u64> = Cache::new(rt.alloc(), 3)?;
@@ -34,6 +36,7 @@ fn keeps_the_most_recent(rt: HostRuntime) -> Result<(), Fail> {
 fn one_pair_alone_holds_shared_bytes(rt: HostRuntime) -> Result<(), Fail> {
     let mut cache: Cache<(u64, u32), Arc<Vec<u8>>> = Cache::new(rt.alloc(), 1)?;
     cache.put((4, 1), Arc::new(rt.alloc(), vec![in rt.alloc(); 1, 2]?)?);
+    is_sendable(&cache);
     assert_eq!(rt; cache.peek((4, 0)).is_some(), false);
     assert_eq!(rt; cache.peek((4, 1)).is_some(), true);
     cache.put((5, 0), Arc::new(rt.alloc(), vec![in rt.alloc(); 3]?)?);
