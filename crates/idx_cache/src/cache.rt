@@ -78,7 +78,7 @@ impl<K: Ord + Copy + Drop, V: Drop> Cache<K, V> {
     }
 
     /// Removes the key's pair if there is one, puts the new one in front, and keeps the first pairs up to the capacity.
-    /// Takes no memory.
+    /// It is never refused, since all memory is there from the start.
     pub fn put(&mut self, key: K, value: V)
         ensures { self.new ≡ cached (put_pair K.eq self.old.cap (key, value) self.old.pairs) self.old.cap }
     {
