@@ -1,10 +1,9 @@
 -- What a run of `convert` comes to where what it meets is known.
-use Rattle.std.proofs.Common.{◌≡◌, ◌≢◌, ◌⊎◌, ℕ, ◌^◌, ◌<◌, ◌≤◌, List, [], length, Option, Some, None, Ok, Err, IsErr, IfSome, IsSomeAnd, inl, inr, refl, sym, ◌∙◌, ap, subst, arith}
+use Rattle.std.proofs.Common.{◌≡◌, ◌≢◌, ◌⊎◌, ℕ, ◌^◌, ◌<◌, ◌≤◌, List, [], length, Ok, IsErr, IfSome, IsSomeAnd, inl, inr, refl, sym, ◌∙◌, subst, arith}
 use Rattle.std.proofs.lemmas.Bool.{false≢true}
 use Rattle.idx_outside.specs.Cause.{Rose}
 use Rattle.idx_outside.specs.Files.{HasStep as HasCommitted}
 use Rattle.idx_outside.specs.declared.mem_file.MemFile.{MemFile}
-use Rattle.idx_header.specs.declared.header_fault.HeaderFault.{HeaderFault}
 use Rattle.idx_header.specs.declared.header_kind.HeaderKind.{HeaderKind}
 use Rattle.idx_header.specs.Header.{HeaderValue, Agree, volume_bytes}
 use Rattle.idx_header.specs.HeaderOf.{header_of}
@@ -12,7 +11,7 @@ use Rattle.idx_header.specs.Names.{step_folder}
 use Rattle.idx_gather.specs.Gather.{HasFolder}
 use Rattle.idx_convert.specs.declared.convert_fault.ConvertFault.{ConvertFault}
 use Rattle.idx_convert.specs.declared.convert_fault.ConvertFault.TheVariants as faults
-use Rattle.idx_convert.specs.Convert.{AsksFor, Asks, Converted, Differs, IsCause, IsNew, IsEarly, IsRefused, Reads, Stands, Suits, Takes}
+use Rattle.idx_convert.specs.Convert.{AsksFor, Asks, Differs, IsCause, IsNew, IsEarly, IsRefused, Stands, Suits, Takes}
 use Rattle.idx_words.specs.ConvertValue.{ConvertValue}
 use Rattle.idx_words.specs.Built.{IsBuilt}
 use Rattle.idx_words.proofs.BuiltLemmas.{IsBuilt-once}
@@ -21,19 +20,8 @@ use Rattle.idx_commands.specs.declared.causes.Cause.TheVariants as causes
 use Rattle.idx_commands.specs.Cause.{status_of}
 use Rattle.idx_commands.specs.Known.{Known}
 use Rattle.idx_commands.specs.ConvertRun.{cause_of_fault, ConvertEnds, Fails, IsConverted, IsEarlyCause}
+use Rattle.idx_commands.proofs.KnownLemmas.{both_hold, not_refused, one_header}
 use Rattle.idx_commands.specs.Due.{HasOtherLength, HasRightLength, IsBadText, IsFree, IsTooLarge, LacksStep, MeetsBadHeader, MeetsOtherHeader, MeetsStep}
-
--- what is known has one value, of which two things hold that exclude one another
-clash : {T : Type 0} (o : Option T) (P Q : T → Type 0) → ((x : T) → P x → Q x → ⊥) → IfSome o P → IsSomeAnd o Q → ⊥
-clash None P Q not p q = q
-clash (Some x) P Q not p q = not x p q
-
--- a text has one header, and none where it is refused
-one_header : (text : List ℕ) (g h : HeaderValue) → header_of text ≡ Ok g → header_of text ≡ Ok h → g ≡ h
-one_header text g h first second = let same = sym first ∙ second in cc
-
-not_refused : (text : List ℕ) (h : HeaderValue) (fault : HeaderFault) → header_of text ≡ Ok h → header_of text ≡ Err fault → ⊥
-not_refused text h fault reads refused = let same = sym reads ∙ refused in cc
 
 not_err : (text : List ℕ) (h : HeaderValue) → header_of text ≡ Ok h → IsErr (header_of text) → ⊥
 not_err text h reads refused = false≢true (subst IsErr reads refused)
@@ -61,7 +49,7 @@ suits_not_differs h known (inr (one, (reads, agree))) (some, (other, (too, diffe
 -- a step that stands is not new
 new_not_stands : (h : HeaderValue) (step : ℕ) (files : List MemFile) → IsNew h step files → Stands h step files → ⊥
 new_not_stands h step files new stands =
-    clash (step_folder h step) (λ folder. ¬ HasCommitted folder files) (λ folder. HasCommitted folder files)
+    both_hold (step_folder h step) (λ folder. ¬ HasCommitted folder files) (λ folder. HasCommitted folder files)
     (λ folder fresh there. fresh there) new stands
 
 module _ (text : List ℕ) (step : ℕ) (k : Known) where
@@ -157,10 +145,10 @@ module _ (text : List ℕ) (step : ℕ) (k : Known) where
     bad_standing : IsSomeAnd k.header (λ known. (known ≢ []) × IsErr (header_of known)) → (fault : ConvertFault) → Late fault →
         (st fault ≡ 2) ⊎ ((st fault ≡ 5) ⊎ (st fault ≡ 11))
     bad_standing bad (faults.Header line kind) c = inl refl
-    bad_standing bad faults.OtherHeader c = absurd (clash k.header (Differs h) _ (differs_not_bad h) c bad)
-    bad_standing bad faults.AlreadyPublished c = absurd (clash k.header (Suits h) _ (suits_not_bad h) c.0 bad)
-    bad_standing bad (faults.RawWrongSize want found) c = absurd (clash k.header (Suits h) _ (suits_not_bad h) c.0.suits bad)
-    bad_standing bad faults.RawFault c = absurd (clash k.header (Suits h) _ (suits_not_bad h) c.0.suits bad)
+    bad_standing bad faults.OtherHeader c = absurd (both_hold k.header (Differs h) _ (differs_not_bad h) c bad)
+    bad_standing bad faults.AlreadyPublished c = absurd (both_hold k.header (Suits h) _ (suits_not_bad h) c.0 bad)
+    bad_standing bad (faults.RawWrongSize want found) c = absurd (both_hold k.header (Suits h) _ (suits_not_bad h) c.0.suits bad)
+    bad_standing bad faults.RawFault c = absurd (both_hold k.header (Suits h) _ (suits_not_bad h) c.0.suits bad)
     bad_standing bad faults.StoreFault c = inr (inl refl)
     bad_standing bad faults.NoMemory c = inr (inr refl)
     bad_standing bad faults.NoStep c = absurd c
@@ -169,11 +157,11 @@ module _ (text : List ℕ) (step : ℕ) (k : Known) where
     -- a header stands that does not agree
     other_header : IsSomeAnd k.header (Differs h) → (fault : ConvertFault) → Late fault →
         (st fault ≡ 6) ⊎ ((st fault ≡ 5) ⊎ (st fault ≡ 11))
-    other_header other (faults.Header line kind) c = absurd (clash k.header (λ known. IsRefused known line kind) _ (differs_not_refused h line kind) c other)
+    other_header other (faults.Header line kind) c = absurd (both_hold k.header (λ known. IsRefused known line kind) _ (differs_not_refused h line kind) c other)
     other_header other faults.OtherHeader c = inl refl
     other_header other faults.AlreadyPublished c = inl refl
-    other_header other (faults.RawWrongSize want found) c = absurd (clash k.header (Suits h) _ (suits_not_differs h) c.0.suits other)
-    other_header other faults.RawFault c = absurd (clash k.header (Suits h) _ (suits_not_differs h) c.0.suits other)
+    other_header other (faults.RawWrongSize want found) c = absurd (both_hold k.header (Suits h) _ (suits_not_differs h) c.0.suits other)
+    other_header other faults.RawFault c = absurd (both_hold k.header (Suits h) _ (suits_not_differs h) c.0.suits other)
     other_header other faults.StoreFault c = inr (inl refl)
     other_header other faults.NoMemory c = inr (inr refl)
     other_header other faults.NoStep c = absurd c
@@ -182,11 +170,11 @@ module _ (text : List ℕ) (step : ℕ) (k : Known) where
     -- the step stands
     published : IsSomeAnd k.header (Suits h) → IsSomeAnd k.files (Stands h step) → (fault : ConvertFault) → Late fault →
         (st fault ≡ 6) ⊎ ((st fault ≡ 5) ⊎ (st fault ≡ 11))
-    published suits stands (faults.Header line kind) c = absurd (clash k.header (λ known. IsRefused known line kind) _ (suits_not_refused h line kind) c suits)
+    published suits stands (faults.Header line kind) c = absurd (both_hold k.header (λ known. IsRefused known line kind) _ (suits_not_refused h line kind) c suits)
     published suits stands faults.OtherHeader c = inl refl
     published suits stands faults.AlreadyPublished c = inl refl
-    published suits stands (faults.RawWrongSize want found) c = absurd (clash k.files (IsNew h step) _ (new_not_stands h step) c.0.new stands)
-    published suits stands faults.RawFault c = absurd (clash k.files (IsNew h step) _ (new_not_stands h step) c.0.new stands)
+    published suits stands (faults.RawWrongSize want found) c = absurd (both_hold k.files (IsNew h step) _ (new_not_stands h step) c.0.new stands)
+    published suits stands faults.RawFault c = absurd (both_hold k.files (IsNew h step) _ (new_not_stands h step) c.0.new stands)
     published suits stands faults.StoreFault c = inr (inl refl)
     published suits stands faults.NoMemory c = inr (inr refl)
     published suits stands faults.NoStep c = absurd c
@@ -202,9 +190,9 @@ module _ (text : List ℕ) (step : ℕ) (k : Known) where
 
       other_length : (fault : ConvertFault) → Late fault →
           (st fault ≡ 3) ⊎ ((st fault ≡ 4) ⊎ ((st fault ≡ 5) ⊎ (st fault ≡ 11)))
-      other_length (faults.Header line kind) c = absurd (clash k.header (λ known. IsRefused known line kind) _ (suits_not_refused h line kind) c suits)
-      other_length faults.OtherHeader c = absurd (clash k.header (Differs h) _ differs_too c suits)
-      other_length faults.AlreadyPublished c = absurd (clash k.files (Stands h step) _ stands_too c.1 new)
+      other_length (faults.Header line kind) c = absurd (both_hold k.header (λ known. IsRefused known line kind) _ (suits_not_refused h line kind) c suits)
+      other_length faults.OtherHeader c = absurd (both_hold k.header (Differs h) _ differs_too c suits)
+      other_length faults.AlreadyPublished c = absurd (both_hold k.files (Stands h step) _ stands_too c.1 new)
       other_length (faults.RawWrongSize want found) c = inl refl
       other_length faults.RawFault c = inr (inl refl)
       other_length faults.StoreFault c = inr (inr (inl refl))
@@ -215,11 +203,11 @@ module _ (text : List ℕ) (step : ℕ) (k : Known) where
       -- so is the length, and no fault was counted
       complete : IsSomeAnd k.raw (HasRightLength h) → ¬ Rose k.raw_before k.raw_after → ¬ Rose k.bay_before k.bay_after → (fault : ConvertFault) → Late fault →
           (st fault ≡ 0) ⊎ (st fault ≡ 11)
-      complete right raw_quiet bay_quiet (faults.Header line kind) c = absurd (clash k.header (λ known. IsRefused known line kind) _ (suits_not_refused h line kind) c suits)
-      complete right raw_quiet bay_quiet faults.OtherHeader c = absurd (clash k.header (Differs h) _ differs_too c suits)
-      complete right raw_quiet bay_quiet faults.AlreadyPublished c = absurd (clash k.files (Stands h step) _ stands_too c.1 new)
+      complete right raw_quiet bay_quiet (faults.Header line kind) c = absurd (both_hold k.header (λ known. IsRefused known line kind) _ (suits_not_refused h line kind) c suits)
+      complete right raw_quiet bay_quiet faults.OtherHeader c = absurd (both_hold k.header (Differs h) _ differs_too c suits)
+      complete right raw_quiet bay_quiet faults.AlreadyPublished c = absurd (both_hold k.files (Stands h step) _ stands_too c.1 new)
       complete right raw_quiet bay_quiet (faults.RawWrongSize want found) (takes, asks, other, found_is) =
-          absurd (clash k.raw (λ bytes. found ≡ length bytes) (HasRightLength h) (λ bytes is fits. other (is ∙ fits ∙ sym asks)) found_is right)
+          absurd (both_hold k.raw (λ bytes. found ≡ length bytes) (HasRightLength h) (λ bytes is fits. other (is ∙ fits ∙ sym asks)) found_is right)
       complete right raw_quiet bay_quiet faults.RawFault c = absurd (raw_quiet c.1)
       complete right raw_quiet bay_quiet faults.StoreFault c = absurd (bay_quiet c)
       complete right raw_quiet bay_quiet faults.NoMemory c = inr refl
@@ -289,7 +277,7 @@ module _ (c : ConvertValue) (k : Known) (cause : Cause) (ends : ConvertEnds c k 
       (status_of cause ≡ 2) ⊎ ((status_of cause ≡ 5) ⊎ (status_of cause ≡ 11))
   bad_standing_ends text built (h, (asked, bad)) =
       judged (λ s. (s ≡ 2) ⊎ ((s ≡ 5) ⊎ (s ≡ 11))) c k text built
-      (λ wrote. absurd (clash k.header (Suits wrote.header) _ (suits_not_bad wrote.header) wrote.taken.suits bad)) (inr (inr refl))
+      (λ wrote. absurd (both_hold k.header (Suits wrote.header) _ (suits_not_bad wrote.header) wrote.taken.suits bad)) (inr (inr refl))
       (λ fault caused. bad_standing text c.step k h asked bad fault (late text c.step k h asked fault caused)) cause ends
 
   pub other_header_ends : (text : List ℕ) → IsBuilt c text → MeetsOtherHeader k.header text c.step →
@@ -297,7 +285,7 @@ module _ (c : ConvertValue) (k : Known) (cause : Cause) (ends : ConvertEnds c k 
   other_header_ends text built (h, (asked, other)) =
       judged (λ s. (s ≡ 6) ⊎ ((s ≡ 5) ⊎ (s ≡ 11))) c k text built
       (λ wrote. let taken = wrote_for text c.step h asked wrote (λ g. Takes g c.step k.header k.files) wrote.taken in
-      absurd (clash k.header (Suits h) (Differs h) (suits_not_differs h) taken.suits other)) (inr (inr refl))
+      absurd (both_hold k.header (Suits h) (Differs h) (suits_not_differs h) taken.suits other)) (inr (inr refl))
       (λ fault caused. other_header text c.step k h asked other fault (late text c.step k h asked fault caused)) cause ends
 
   pub published_ends : (text : List ℕ) → IsBuilt c text → MeetsStep k.header k.files text c.step →
@@ -305,7 +293,7 @@ module _ (c : ConvertValue) (k : Known) (cause : Cause) (ends : ConvertEnds c k 
   published_ends text built (h, (asked, (suits, stands))) =
       judged (λ s. (s ≡ 6) ⊎ ((s ≡ 5) ⊎ (s ≡ 11))) c k text built
       (λ wrote. let taken = wrote_for text c.step h asked wrote (λ g. Takes g c.step k.header k.files) wrote.taken in
-      absurd (clash k.files (IsNew h c.step) (Stands h c.step) (new_not_stands h c.step) taken.new stands)) (inr (inr refl))
+      absurd (both_hold k.files (IsNew h c.step) (Stands h c.step) (new_not_stands h c.step) taken.new stands)) (inr (inr refl))
       (λ fault caused. published text c.step k h asked suits stands fault (late text c.step k h asked fault caused)) cause ends
 
   pub other_length_ends : (text : List ℕ) → IsBuilt c text → IsFree k.header k.files k.raw HasOtherLength text c.step →
@@ -313,7 +301,7 @@ module _ (c : ConvertValue) (k : Known) (cause : Cause) (ends : ConvertEnds c k 
   other_length_ends text built (h, (asked, (suits, new, other))) =
       judged (λ s. (s ≡ 3) ⊎ ((s ≡ 4) ⊎ ((s ≡ 5) ⊎ (s ≡ 11)))) c k text built
       (λ wrote. let size = wrote_for text c.step h asked wrote (λ g. IfSome k.raw (HasRightLength g)) wrote.size in
-      absurd (clash k.raw (HasRightLength h) (HasOtherLength h) (λ bytes right wrong. wrong right) size other)) (inr (inr (inr refl)))
+      absurd (both_hold k.raw (HasRightLength h) (HasOtherLength h) (λ bytes right wrong. wrong right) size other)) (inr (inr (inr refl)))
       (λ fault caused. other_length text c.step k h asked suits new fault (late text c.step k h asked fault caused)) cause ends
 
   pub complete_ends : (text : List ℕ) → IsBuilt c text → IsFree k.header k.files k.raw HasRightLength text c.step →

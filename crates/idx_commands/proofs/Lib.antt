@@ -1,3 +1,4 @@
+pub mod KnownLemmas
 pub mod SummaryLemmas
 pub mod ConvertLemmas
 pub mod QueryLemmas

@@ -1,8 +1,7 @@
 -- What a run of `query` comes to where what it meets is known.
-use Rattle.std.proofs.Common.{◌≡◌, ◌≢◌, ◌⊎◌, ℕ, ◌<◌, List, length, Option, Some, None, Ok, Err, IsErr, IfSome, IsSomeAnd, inl, inr, refl, sym, ◌∙◌, ap, subst}
+use Rattle.std.proofs.Common.{◌≡◌, ◌≢◌, ◌⊎◌, ℕ, List, length, Option, Some, None, Err, IsErr, IfSome, IsSomeAnd, inl, inr, refl, sym, ◌∙◌, ap, subst}
 use Rattle.std.proofs.lemmas.Bool.{false≢true}
 use Rattle.idx_outside.specs.Cause.{Rose}
-use Rattle.idx_outside.specs.Contents.{appended, AppendsPrefix}
 use Rattle.idx_outside.specs.declared.mem_file.MemFile.{MemFile}
 use Rattle.idx_header.specs.declared.header_fault.HeaderFault.{HeaderFault}
 use Rattle.idx_header.specs.Header.{HeaderValue}
@@ -19,28 +18,17 @@ use Rattle.idx_table.specs.declared.table_fault.TableKind.{TableKind}
 use Rattle.idx_words.specs.QueryValue.{QueryValue}
 use Rattle.idx_extract.specs.declared.extract_fault.ExtractFault.{ExtractFault}
 use Rattle.idx_extract.specs.declared.extract_fault.ExtractFault.TheVariants as faults
-use Rattle.idx_extract.specs.Extract.{Asks, Extracted, HasPlan, IsAnswer, IsAsk, IsCause, IsExtracted, IsStop, LacksField, Under}
+use Rattle.idx_extract.specs.Extract.{Asks, Extracted, IsAnswer, IsAsk, IsCause, IsExtracted, IsStop, LacksField, Under}
 use Rattle.idx_extract.specs.Stages.{fault_of_load}
 use Rattle.idx_commands.specs.declared.causes.Cause.{Cause}
 use Rattle.idx_commands.specs.declared.causes.Cause.TheVariants as causes
 use Rattle.idx_commands.specs.Cause.{status_of}
 use Rattle.idx_commands.specs.Known.{ReaderCounts}
 use Rattle.idx_commands.specs.InfoRun.{KnownReads}
+use Rattle.idx_commands.proofs.KnownLemmas.{both_hold, not_refused, one_header}
 use Rattle.idx_commands.specs.QueryRun.{HasSoundStep, IsDue, QueryEnds, ReadsAs, cause_of_extract}
 
 -- ---- what is known
-
--- of what is known both things hold
-agree : {T R : Type 0} (o : Option T) (P Q : T → Type 0) → ((x : T) → P x → Q x → R) → IfSome o P → IsSomeAnd o Q → R
-agree None P Q make p q = absurd q
-agree (Some x) P Q make p q = make x p q
-
--- a text has one header
-one_header : (text : List ℕ) (g h : HeaderValue) → header_of text ≡ Ok g → header_of text ≡ Ok h → g ≡ h
-one_header text g h first second = let same = sym first ∙ second in cc
-
-not_refused : (text : List ℕ) (h : HeaderValue) (fault : HeaderFault) → header_of text ≡ Ok h → header_of text ≡ Err fault → ⊥
-not_refused text h fault reads refused = let same = sym reads ∙ refused in cc
 
 -- the header that is known and the one that was read are one
 both_of : {T : Type 0} (known : Option (List ℕ)) (P Q : HeaderValue → Type 0) → ReadsAs known P → Under known Q → ((h : HeaderValue) → P h → Q h → T) → T
@@ -127,7 +115,7 @@ module _ (h : HeaderValue) (q : QueryValue) (files : Option (List MemFile)) wher
     not_published lacks (faults.Plan fault) c = absurd (never_stopped fault c.0 c.1.0 c.1.1)
     not_published lacks faults.NotPublished c = refl
     not_published lacks (faults.BadTable file row kind) c =
-        absurd (agree files _ (λ files. ¬ Stands h q.time files) (λ files both not. not both.0) c.1 lacks)
+        absurd (both_hold files _ (λ files. ¬ Stands h q.time files) (λ files both not. not both.0) c.1 lacks)
     not_published lacks faults.StoreFault c = absurd c
     not_published lacks faults.NoMemory c = absurd c
 
@@ -139,9 +127,9 @@ module _ (h : HeaderValue) (q : QueryValue) (files : Option (List MemFile)) wher
     bad_table file row kind bad faults.UnknownField c = absurd (lacks_none ask asked c.1)
     bad_table file row kind bad (faults.Plan fault) c = absurd (never_stopped fault c.0 c.1.0 c.1.1)
     bad_table file row kind bad faults.NotPublished c =
-        absurd (agree files (λ files. ¬ Stands h q.time files) _ (λ files not both. not both.0) c.1 bad)
+        absurd (both_hold files (λ files. ¬ Stands h q.time files) _ (λ files not both. not both.0) c.1 bad)
     bad_table file row kind bad (faults.BadTable f r k) c =
-        agree files (λ files. Stands h q.time files × (first_bad h q.time files ≡ Some (loads.BadTable f r k))) _
+        both_hold files (λ files. Stands h q.time files × (first_bad h q.time files ≡ Some (loads.BadTable f r k))) _
         (λ files mine yours. ap (λ o. fault_of_load (load_in o)) (sym mine.1 ∙ yours.1)) c.1 bad
     bad_table file row kind bad faults.StoreFault c = absurd c
     bad_table file row kind bad faults.NoMemory c = absurd c
@@ -151,9 +139,9 @@ module _ (h : HeaderValue) (q : QueryValue) (files : Option (List MemFile)) wher
     never good faults.OtherAxes c = c asked.axes
     never good faults.UnknownField c = lacks_none ask asked c.1
     never good (faults.Plan fault) c = never_stopped fault c.0 c.1.0 c.1.1
-    never good faults.NotPublished c = agree files (λ files. ¬ Stands h q.time files) _ (λ files not both. not both.0) c.1 good
+    never good faults.NotPublished c = both_hold files (λ files. ¬ Stands h q.time files) _ (λ files not both. not both.0) c.1 good
     never good (faults.BadTable file row kind) c =
-        agree files (λ files. Stands h q.time files × (first_bad h q.time files ≡ Some (loads.BadTable file row kind))) _
+        both_hold files (λ files. Stands h q.time files × (first_bad h q.time files ≡ Some (loads.BadTable file row kind))) _
         (λ files bad right. some_not_none (loads.BadTable file row kind) (first_bad h q.time files) bad.1 right.1) c.1 good
     never good faults.StoreFault c = c
     never good faults.NoMemory c = c
@@ -246,10 +234,10 @@ module _ {K : Type 0} (contents : K → Option (List ℕ)) (faults_of : K → �
   due_unanswered (faults.Plan fault) d bytes u =
       both_of header _ _ d u (λ h p e. some_not_none fault (plan_fault h p.0) p.1.1 (same_plan h q files p.0 e.ask p.1.0 e.asked ∙ e.sound))
   due_unanswered faults.NotPublished d bytes u =
-      both_of header _ _ d u (λ h p e. agree files (λ files. IsAnswer h e.ask files r.reads_before r.reads_after bytes) _
+      both_of header _ _ d u (λ h p e. both_hold files (λ files. IsAnswer h e.ask files r.reads_before r.reads_after bytes) _
       (λ files answer not. not (subst (λ t. Stands h t files) (time_of h bytes e) answer.stands)) e.stored p.1)
   due_unanswered (faults.BadTable file row kind) d bytes u =
-      both_of header _ _ d u (λ h p e. agree files (λ files. IsAnswer h e.ask files r.reads_before r.reads_after bytes) _
+      both_of header _ _ d u (λ h p e. both_hold files (λ files. IsAnswer h e.ask files r.reads_before r.reads_after bytes) _
       (λ files answer bad. some_not_none (loads.BadTable file row kind) (first_bad h q.time files) bad.1
       (subst (λ t. first_bad h t files ≡ None) (time_of h bytes e) answer.tables)) e.stored p.1)
   due_unanswered faults.StoreFault d bytes u = both_of header _ _ d u (λ h p e. p)

@@ -10,13 +10,12 @@ use Rattle.idx_words.specs.declared.command.Command.{Command}
 use Rattle.idx_words.specs.declared.command.Command.TheVariants.{Cut, Info, Convert, Query}
 use Rattle.idx_words.specs.CutGrammar.{volume_bytes}
 use Rattle.idx_words.specs.ConvertValue.{ConvertValue}
-use Rattle.idx_words.specs.Built.{IsBuilt}
 use Rattle.idx_words.specs.Words.{Give, GiveCommand, GiveConvert, GiveQuery, IsConvert, IsQuery}
 use Rattle.idx_commands.specs.declared.causes.Cause.{Cause}
 use Rattle.idx_commands.specs.declared.causes.Cause.TheVariants as causes
 use Rattle.idx_commands.specs.Cause.{status_of}
 use Rattle.idx_commands.specs.Known.{Known, ReaderCounts}
-use Rattle.idx_commands.specs.CutRun.{EndsWith, HasSize}
+use Rattle.idx_commands.specs.CutRun.{EndsWith}
 use Rattle.idx_commands.specs.InfoRun.{InfoEnds, KnownReads}
 use Rattle.idx_commands.specs.ConvertRun.{ConvertEnds}
 use Rattle.idx_commands.specs.RunEnds.{CommandEnds, RunEnds}

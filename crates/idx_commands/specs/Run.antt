@@ -11,7 +11,6 @@ use Rattle.idx_words.specs.CutGrammar.{volume_bytes}
 use Rattle.idx_words.specs.declared.command.Command.{Command}
 use Rattle.idx_words.specs.declared.command.Command.TheVariants.{Cut, Info, Convert, Query}
 use Rattle.idx_words.specs.ConvertValue.{ConvertValue}
-use Rattle.idx_words.specs.QueryValue.{QueryValue}
 use Rattle.idx_words.specs.Words.{Give, GiveInfo, GiveQuery}
 use Rattle.idx_plan.specs.Answer.{answer_of}
 use Rattle.idx_edition.specs.Stored.{stored_block}

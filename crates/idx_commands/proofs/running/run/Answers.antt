@@ -1,8 +1,6 @@
-use Rattle.std.proofs.Common.{◌≡◌, ◌≢◌, ◌⊎◌, ℕ, subst, sym, ◌∙◌, map, string_bytes}
-use Rattle.idx_words.specs.Words.{GiveCommand}
+use Rattle.std.proofs.Common.{◌≡◌, ◌⊎◌, ℕ, subst, sym, ◌∙◌, map, string_bytes}
 use Rattle.idx_commands.specs.Known.{known, reader_counts}
 use Rattle.idx_commands.specs.declared.causes.Cause.{Cause}
-use Rattle.idx_commands.specs.Cause.{status_of}
 use Rattle.idx_commands.specs.ConvertRun.{ConvertEnds}
 use Rattle.idx_commands.specs.QueryRun.{cause_of_extract}
 use Rattle.idx_commands.proofs.RunLemmas.{usage_is, is_usage, is_given, bad_text, no_step, too_large, bad_standing, other_header, published, other_length, complete_convert, due, complete_query, written, cut_off, convert_ended, bad_header}
