@@ -5,14 +5,14 @@ use Rattle.idx_outside.specs.declared.mem_file.MemFile.{MemFile}
 use Rattle.idx_fields.specs.Field.{field_at}
 use Rattle.idx_header.specs.Header.{HeaderValue}
 use Rattle.idx_header.specs.HeaderOf.{header_of}
-use Rattle.idx_plan.specs.Needed.{answer_bytes, fault_by_axis, fault_inside, max_answer, outside_axis, plan_fault}
+use Rattle.idx_plan.specs.Needed.{answer_bytes, fault_by_axis, outside_axis, plan_fault}
 use Rattle.idx_plan.specs.declared.ask.Ask.{Ask}
 use Rattle.idx_plan.specs.declared.plan_fault.PlanFault.{PlanFault}
 use Rattle.idx_plan.specs.declared.plan_fault.PlanFault.TheVariants as plans
 use Rattle.idx_words.specs.QueryValue.{QueryValue}
 use Rattle.idx_extract.specs.declared.extract_fault.ExtractFault.{ExtractFault}
 use Rattle.idx_extract.specs.declared.extract_fault.ExtractFault.TheVariants as faults
-use Rattle.idx_extract.specs.Extract.{HasPlan, IsAsk, IsCause, IsStop, Under}
+use Rattle.idx_extract.specs.Extract.{IsAsk, IsCause, IsStop}
 use Rattle.idx_extract.specs.Stages.{IsCauseUnder, fault_of_plan}
 
 -- a fault that is not want of memory, or none

@@ -1,5 +1,5 @@
 -- The answer out of an edition is the one out of what the committed files store, and its reads are those that this takes.
-use Rattle.std.proofs.Common.{◌≡◌, ◌≢◌, ℕ, suc, ◌+◌, ◌-◌, ◌*◌, ◌/◌, ◌%◌, ◌^◌, ◌<◌, ◌≤◌, Bool, true, false, cond, not, List, [], ◌∷◌, ◌++◌, length, map, filter, take, drop, Option, Some, None, refl, sym, ap, ◌∙◌, subst, IfSome, arith}
+use Rattle.std.proofs.Common.{◌≡◌, ◌≢◌, ℕ, suc, ◌+◌, ◌-◌, ◌*◌, ◌/◌, ◌%◌, ◌^◌, ◌<◌, ◌≤◌, Bool, cond, not, List, [], ◌∷◌, ◌++◌, length, map, filter, take, drop, Option, Some, None, refl, sym, ap, ◌∙◌, subst, IfSome, arith}
 use Rattle.std.specs.Prelude.{All, slice_index}
 use Rattle.std.specs.Option.{ForSome}
 use Rattle.std.specs.List.{range_with_len}
@@ -9,7 +9,7 @@ use Rattle.std.proofs.lemmas.List.{length-map}
 use Rattle.std.proofs.lemmas.List.Elements.{All-filter}
 use Rattle.std.proofs.lemmas.List.Filters.{length-filter_both}
 use Rattle.idx_outside.specs.Cause.{MadeReads}
-use Rattle.idx_outside.specs.Files.{entry_shown, known_files, known_with}
+use Rattle.idx_outside.specs.Files.{entry_shown, known_with}
 use Rattle.idx_outside.specs.Shape.{Shape}
 use Rattle.idx_outside.specs.declared.mem_file.MemFile.{MemFile}
 use Rattle.idx_geom.specs.Region.{points}
@@ -18,18 +18,18 @@ use Rattle.idx_hz.specs.Answer.{answer}
 use Rattle.idx_hz.proofs.AddressLaws.{hz_address-lt}
 use Rattle.idx_header.specs.Header.{HeaderValue, block_count}
 use Rattle.idx_stride.proofs.RangeLemmas.{All-range}
-use Rattle.idx_layout.specs.Content.{field_in, sample_in}
+use Rattle.idx_layout.specs.Content.{sample_in}
 use Rattle.idx_layout.specs.OfHeader.{layout_of}
 use Rattle.idx_layout.specs.Shape.{shape_of}
 use Rattle.idx_plan.specs.Answer.{answer_of}
 use Rattle.idx_plan.specs.Needed.{is_needed, needed}
 use Rattle.idx_plan.specs.declared.ask.Ask.{Ask}
 use Rattle.idx_edition.specs.Loaded.{HoldsStored, OfBlocks}
-use Rattle.idx_edition.specs.Stored.{Stands, first_bad, found_files, has_block, stored_block}
+use Rattle.idx_edition.specs.Stored.{Stands, found_files, has_block, stored_block}
 use Rattle.idx_query.specs.Blocks.{lacking}
 use Rattle.idx_query.specs.declared.once.Once.{Once}
 use Rattle.idx_query.proofs.AnswerLemmas.{has_field}
-use Rattle.idx_extract.specs.Extract.{IsAnswer, reads_for}
+use Rattle.idx_extract.specs.Extract.{IsAnswer}
 
 -- ---- the samples
 

@@ -1,5 +1,5 @@
 -- What is said between the stages of an answer.
-use Rattle.std.specs.Prelude.{◌≡◌, ◌⊎◌, ℕ, List, Option}
+use Rattle.std.specs.Prelude.{◌⊎◌, ℕ, List, Option}
 use Rattle.idx_outside.specs.Cause.{Rose}
 use Rattle.idx_outside.specs.declared.bay_fault.BayFault.{BayFault}
 use Rattle.idx_outside.specs.declared.bay_fault.BayFault.TheVariants as bays

@@ -1,4 +1,3 @@
-use Rattle.idx_extract.proofs.AskLemmas.{cause_of_text}
 use Rattle.idx_extract.proofs.extracting.extract.Goals as goal
 
 pub returns-in-Err-clause-cause : goal.returns-in-Err-clause-cause
