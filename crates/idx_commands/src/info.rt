@@ -10,7 +10,7 @@ use idx_header::{Header, HeaderFault, HeaderKind};
 use idx_outside::{Bay, BayFault, Bytes, Sink};
 use std::alloc::Global;
 
-/// KnownReads the header of a bay, and then writes its summary in one piece.
+/// Reads the header of a bay, and then writes its summary in one piece.
 pub fn info<B: Bay, K: Sink>(alloc: Global, bay: &mut B, out: &mut K) -> Cause
     ensures ends { InfoEnds K.contents K.faults (B.header bay.old) (B.faults bay.old) (B.faults bay.new)
         out.old out.new result }
