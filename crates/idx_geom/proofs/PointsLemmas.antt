@@ -7,7 +7,7 @@ use Rattle.std.proofs.lemmas.Option.{slice_get-map, slice_get_within, slice_get-
 use Rattle.std.proofs.lemmas.List.FromFn.{length-range_with_len, length-map-range_with_len, get_or-range_with_len}
 use Rattle.std.proofs.Math.Nat.{div-eq_of_lt, mod-eq_of_lt, div-eq-sub-div, mod-eq-sub-mod, mul_comm, mod-lt, mod-add-div}
 use Rattle.std.proofs.lemmas.Nat.{div-mul-add, mod-mul-add, mul-add-lt, div_below}
-use Rattle.idx_geom.specs.Region.{extent, points, LiesIn, place_of}
+use Rattle.idx_geom.specs.Region.{extent, points, LiesIn, place_of, point_of}
 
 -- the number of points, as a product
 abbrev pub size : List (ℕ × ℕ) → ℕ
@@ -72,11 +72,6 @@ slice_get-rows b pos (p ∷ ps) k =
     ∙ sym (ap (λ n. option_map (λ slower. (b.0 + k % extent b) ∷ slower) (slice_get (p ∷ ps) n)) quotient
     ∙ ap (λ n. option_map (λ slower. (b.0 + n) ∷ slower) (slice_get ps ((k - extent b) / extent b))) remainder))
     (cases_lt k (extent b))
-
--- the coordinates of the point at a place
-abbrev pub point_of : List (ℕ × ℕ) → ℕ → List ℕ
-point_of [] k = []
-point_of (b ∷ bs) k = (b.0 + k % extent b) ∷ point_of bs (k / extent b)
 
 -- an empty axis leaves no place
 pub positive_extent : (b : ℕ × ℕ) (bs : List (ℕ × ℕ)) (k : ℕ) → k < size (b ∷ bs) → 0 < extent b

@@ -8,10 +8,10 @@ use Rattle.std.proofs.lemmas.List.Edits.{fill_by_more}
 use Rattle.std.proofs.lemmas.Nat.{mul-le}
 use Rattle.std.proofs.Math.Nat.{mul_comm}
 use Rattle.idx_geom.specs.Point.{IsPoint}
-use Rattle.idx_geom.specs.Region.{extent, points, IsRegion, LiesIn, place_of, common_bounds, AreEnds, HaveCommonPoint, HasExactly}
+use Rattle.idx_geom.specs.Region.{extent, points, IsRegion, LiesIn, place_of, common_bounds, AreEnds, HaveCommonPoint, HasExactly, point_of}
 use Rattle.idx_geom.proofs.EndsLemmas.{IsOrdered}
 use Rattle.idx_geom.proofs.LiesInLemmas.{place_of-drop, LiesIn-drop, LiesIn-at_axis, length_from_LiesIn, length-common_bounds, get_or-common_bounds, LiesIn-common_bounds, both_from_common_bounds, IsOrdered-from_point, LiesIn-lower_ends, size-common_bounds}
-use Rattle.idx_geom.proofs.PointsLemmas.{size, length-points, point_of, place_of-lt, LiesIn-point_of}
+use Rattle.idx_geom.proofs.PointsLemmas.{size, length-points, place_of-lt, LiesIn-point_of}
 
 -- an answer that comes exactly where P holds
 pub some_from_SomeIff : {T P : Type 0} (r : Option T) (v : T) → SomeIff r P v → P → r ≡ Some v

@@ -1,5 +1,5 @@
 -- A region is the list of its inclusive bounds (lo, hi) per axis, axis 0 first.
-use Rattle.std.specs.Prelude.{◌≡◌, ℕ, ◌+◌, ◌-◌, ◌*◌, ◌^◌, ◌≤◌, ◌↔◌, min, max, List, [], ◌∷◌, length, map, All}
+use Rattle.std.specs.Prelude.{◌≡◌, ℕ, ◌+◌, ◌-◌, ◌*◌, ◌/◌, ◌%◌, ◌^◌, ◌≤◌, ◌↔◌, min, max, List, [], ◌∷◌, length, map, All}
 use Rattle.std.specs.List.{flat_map, range_with_len, zip}
 use Rattle.idx_geom.specs.Point.{IsAxes}
 
@@ -33,6 +33,11 @@ HoldsAll r s = (p : List ℕ) → LiesIn s p → LiesIn r p
 abbrev pub place_of : List (ℕ × ℕ) → List ℕ → ℕ
 place_of (b ∷ bs) (x ∷ xs) = (x - b.0) + extent b * place_of bs xs
 place_of _ _ = 0
+
+-- the coordinates of the point at a place
+abbrev pub point_of : List (ℕ × ℕ) → ℕ → List ℕ
+point_of [] k = []
+point_of (b ∷ bs) k = (b.0 + k % extent b) ∷ point_of bs (k / extent b)
 
 -- the bounds of what two regions have in common
 abbrev pub common_bounds : List (ℕ × ℕ) → List (ℕ × ℕ) → List (ℕ × ℕ)

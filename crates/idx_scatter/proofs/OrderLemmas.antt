@@ -5,6 +5,7 @@ use Rattle.std.specs.Prelude.{All}
 use Rattle.std.proofs.lemmas.Bool.{cases_lt}
 use Rattle.std.proofs.lemmas.Bool.Decides.{nat_tests}
 use Rattle.std.specs.Int.Count.{count_trailing_zeros}
+use Rattle.idx_walk.specs.Progression.{on}
 use Rattle.idx_hz.proofs.ShiftLemmas.{count_trailing_zeros-in_word}
 use Rattle.std.proofs.lemmas.List.Elements.{All-cons, All-nil, All-take}
 use Rattle.std.proofs.Math.Nat.{pow-le-pow_right}
@@ -15,7 +16,6 @@ use Rattle.idx_hz.specs.Mask.{NamesAxes}
 use Rattle.idx_hz.specs.Address.{level}
 use Rattle.idx_hz.specs.Answer.{has_level}
 use Rattle.idx_hz.specs.Stride.{stride}
-use Rattle.idx_walk.proofs.GridLemmas.{on}
 use Rattle.idx_walk.proofs.LevelTests.{level-test}
 use Rattle.idx_walk.proofs.ListLemmas.{filter-agree_on}
 use Rattle.idx_walk.proofs.WalkLemmas.{All-points}

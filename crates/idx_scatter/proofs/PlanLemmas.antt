@@ -7,10 +7,10 @@ use Rattle.std.proofs.lemmas.List.{drop_all, length-take}
 use Rattle.std.proofs.lemmas.List.Sums.{count_by-le-length, length-filter}
 use Rattle.std.proofs.Math.Seq.{drop-cons}
 use Rattle.std.proofs.Math.Nat.{mul-le-mul_left, mul-le-mul_right, mul_comm}
+use Rattle.idx_walk.specs.Progression.{on}
 use Rattle.idx_geom.specs.Region.{HoldsAll, IsRegion, extent, points}
 use Rattle.idx_geom.proofs.PointsLemmas.{length-points, size}
 use Rattle.idx_hz.specs.Stride.{stride}
-use Rattle.idx_walk.proofs.GridLemmas.{on}
 use Rattle.idx_walk.proofs.LevelTests.{stride_pos}
 use Rattle.idx_walk.proofs.PlaceLemmas.{times-step_of}
 use Rattle.idx_block.specs.Spread.{part_after}

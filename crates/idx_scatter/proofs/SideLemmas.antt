@@ -13,12 +13,12 @@ use Rattle.std.proofs.lemmas.Nat.{div_below, le-div, pow_pos}
 use Rattle.std.proofs.Math.Nat.{add-mul-div_right, div-mul-le_self, mod-eq_of_lt, mod-lt, mul-le-mul_right, mul_comm}
 use Rattle.std.proofs.Math.Seq.{take-append-add, take-length, take-suc}
 use Rattle.std.proofs.lemmas.Option.{get_or_from_slice_get}
-use Rattle.idx_geom.specs.Region.{extent, points}
-use Rattle.idx_geom.proofs.PointsLemmas.{length-points, point_of, size, slice_get-points}
+use Rattle.idx_geom.specs.Region.{extent, points, point_of}
+use Rattle.idx_geom.proofs.PointsLemmas.{length-points, size, slice_get-points}
 use Rattle.idx_layout.proofs.ListLemmas.{count-le}
-use Rattle.idx_walk.proofs.GridLemmas.{multiples, on}
+use Rattle.idx_walk.proofs.GridLemmas.{multiples}
 use Rattle.idx_walk.proofs.ListLemmas.{filter-map, map-filter_and}
-use Rattle.idx_walk.specs.Progression.{count_of}
+use Rattle.idx_walk.specs.Progression.{count_of, on}
 use Rattle.idx_scatter.specs.declared.side.Earlier.{Earlier}
 use Rattle.idx_scatter.specs.declared.side.Side.{Side}
 use Rattle.idx_scatter.specs.declared.leg.Leg.{Leg}

@@ -7,7 +7,7 @@ use Rattle.std.proofs.lemmas.Nat.{div-add-mod', div-mul-add}
 use Rattle.std.proofs.Math.Nat.{mul-le-mul_right, div-eq_of_lt, add-mul-div_right, add-mul-mod_self_right, mod-lt, mul-mod_left}
 use Rattle.idx_geom.specs.Region.{points, extent}
 use Rattle.idx_geom.proofs.EndsLemmas.{IsOrdered}
-use Rattle.idx_walk.specs.Progression.{phase_of, count_of}
+use Rattle.idx_walk.specs.Progression.{phase_of, count_of, on}
 use Rattle.idx_walk.proofs.ListLemmas.{filter-map, filter-flat_map, flat_map-agree, map-agree, flat_map-cond, map-filter_and}
 
 -- ---- one axis
@@ -113,11 +113,6 @@ multiples s b some ordered =
     ∙ map-agree (λ k. phase_of s b.0 * s + k * s) (λ k. (phase_of s b.0 + k) * s) (λ k. omega arith) (range_with_len 0 (count_of s b))
 
 -- ---- all axes, the first of which has the number k
-
--- each coordinate is a multiple of its axis's stride
-abbrev pub on : (ℕ → ℕ) → ℕ → List ℕ → Bool
-on s k [] = true
-on s k (x ∷ xs) = on s (k + 1) xs && eqb (x % s k) 0
 
 -- the points whose coordinates are multiples, axis by axis
 abbrev pub lattice : (ℕ → ℕ) → ℕ → List (ℕ × ℕ) → List (List ℕ)

@@ -9,13 +9,13 @@ use Rattle.std.proofs.lemmas.List.{drop-drop}
 use Rattle.std.proofs.lemmas.Nat.{pow_pos, pow-add}
 use Rattle.std.proofs.Math.Bool.{and_comm}
 use Rattle.std.proofs.Math.Nat.{mul-div_cancel_left}
+use Rattle.idx_walk.specs.Progression.{on}
 use Rattle.idx_hz.specs.Mask.{NamesAxes, bit_count}
 use Rattle.idx_hz.specs.Address.{level}
 use Rattle.idx_hz.specs.Answer.{has_level}
 use Rattle.idx_hz.specs.Stride.{stride}
 use Rattle.idx_hz.proofs.LevelLemmas.{level-from_on_strides, on_strides-from_level}
 use Rattle.idx_hz.proofs.ZLemmas.{bit_count-append}
-use Rattle.idx_walk.proofs.GridLemmas.{on}
 
 -- ---- a point on strides
 

@@ -13,9 +13,9 @@ use Rattle.idx_geom.specs.Region.{points, extent, place_of, LiesIn, lower_ends}
 use Rattle.idx_geom.proofs.EndsLemmas.{IsOrdered}
 use Rattle.idx_stride.specs.declared.axis.Axis.{Axis}
 use Rattle.idx_stride.specs.Places.{is_coarse, places, offsets}
-use Rattle.idx_walk.specs.Progression.{phase_of, step_of, axis_at}
+use Rattle.idx_walk.specs.Progression.{phase_of, step_of, axis_at, on}
 use Rattle.idx_walk.proofs.ListLemmas.{filter-map, filter-filter, flat_map-agree, map-agree, map-range-agree, map-flat_map}
-use Rattle.idx_walk.proofs.GridLemmas.{progression, first_multiple, on, lattice, filter-on}
+use Rattle.idx_walk.proofs.GridLemmas.{progression, first_multiple, lattice, filter-on}
 
 -- the axes from number k on, of an extent and a region
 abbrev pub axes_of : (ℕ → ℕ) → (ℕ → ℕ) → ℕ → ℕ → List (ℕ × ℕ) → List (ℕ × ℕ) → List Axis

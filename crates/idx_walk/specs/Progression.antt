@@ -1,5 +1,5 @@
 -- The multiples of a stride between two bounds, and the axis of a walk that they make.
-use Rattle.std.specs.Prelude.{ℕ, ◌+◌, ◌-◌, ◌*◌, ◌/◌, nat_lt, if◌then◌else◌}
+use Rattle.std.specs.Prelude.{ℕ, ◌+◌, ◌-◌, ◌*◌, ◌/◌, ◌%◌, Bool, true, ◌&&◌, eqb, nat_lt, List, [], ◌∷◌, if◌then◌else◌}
 use Rattle.idx_stride.specs.declared.axis.Axis.{Axis}
 
 -- how many strides the first multiple from a lower end on has
@@ -19,3 +19,8 @@ abbrev pub axis_at : ℕ → ℕ → ℕ → ℕ × ℕ → Axis
 axis_at weight stride ratio b =
     let count = count_of stride b in
     record { step = step_of weight stride count; count = count; phase = phase_of stride b.0; ratio = ratio }
+
+-- each coordinate is a multiple of its axis's stride, the first axis having the number k
+abbrev pub on : (ℕ → ℕ) → ℕ → List ℕ → Bool
+on s k [] = true
+on s k (x ∷ xs) = on s (k + 1) xs && eqb (x % s k) 0

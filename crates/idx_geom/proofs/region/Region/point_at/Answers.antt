@@ -1,8 +1,8 @@
 use Rattle.std.proofs.Common.{◌≡◌, ◌<◌, Some, length, sym, ap, ◌∙◌, arith, rules, subst}
 use Rattle.std.proofs.lemmas.List.{length-set}
 use Rattle.std.proofs.lemmas.Option.{same_Some}
-use Rattle.idx_geom.specs.Region.{LiesIn, place_of}
-use Rattle.idx_geom.proofs.PointsLemmas.{length-points, point_of, slice_get-points, LiesIn-point_of, place_of-point_of}
+use Rattle.idx_geom.specs.Region.{LiesIn, place_of, point_of}
+use Rattle.idx_geom.proofs.PointsLemmas.{length-points, slice_get-points, LiesIn-point_of, place_of-point_of}
 use Rattle.idx_geom.proofs.RegionSteps.{point_of-step, point_of-found}
 use Rattle.idx_geom.proofs.region.Region.point_at.Goals as goal
 

@@ -1,5 +1,5 @@
 use Rattle.std.proofs.Common.{◌≡◌, ◌++◌, length, take, drop}
-use Rattle.idx_geom.proofs.PointsLemmas.{point_of}
+use Rattle.idx_geom.specs.Region.{point_of}
 use Rattle.idx_geom.proofs.region.Region.point_at.Given as goal
 
 -- the coordinates so far and those that the rest still gives are the point's
