@@ -1,8 +1,10 @@
+pub mod Evictions
 pub mod Keyed
+pub mod Lists
+pub mod Placed
 pub mod Puts
 pub mod Raises
 pub mod Search
 pub mod SlotKeys
 pub mod Ties
-pub mod Turns
 pub mod Vacant

@@ -72,8 +72,8 @@ module _ {K : Type 0} {R : K → K → Ordering} {E : K → K → Bool} (o : IsT
       },
     )
 
-    apart : IsDistinct E (keys_of l)
-    apart = IsDistinct-from_apart E (keys_of l) (λ i j d lt in_range.
+    pub rising_apart : IsDistinct E (keys_of l)
+    rising_apart = IsDistinct-from_apart E (keys_of l) (λ i j d lt in_range.
         let n : length (keys_of l) ≡ length l = length-map l (λ e. e.0) in
         rw (key_at-map l i d (omega arith), key_at-map l j d (omega arith)) (ties _ _ ∙ ap is_eq (sorted i j (d, 0) lt (omega arith))))
 
@@ -88,7 +88,7 @@ module _ {K : Type 0} {R : K → K → Ordering} {E : K → K → Bool} (o : IsT
       lookup_at d = lookup_present l k at d is_at.in_range (same_key d) none_before
 
       pub lookup_remove : (d : K × ℕ) (q : K) → lookup (E q) (remove l at) ≡ cond (E k q) None (lookup (E q) l)
-      lookup_remove d q = rw (remove_is l k at d is_at.in_range (same_key d) none_before) (lookup-remove_entry laws (E k) (λ x y e. laws.congr k x y e) q l apart)
+      lookup_remove d q = rw (remove_is l k at d is_at.in_range (same_key d) none_before) (lookup-remove_entry laws (E k) (λ x y e. laws.congr k x y e) q l rising_apart)
 
   module _ (l : List (K × ℕ)) (k : K) (at : ℕ) (gap : IsGapFor R l k at) where
     pub lookup_in_gap : lookup (E k) l ≡ None

@@ -1,5 +1,5 @@
 -- What holds of the slots and the index after one slot is written or raised.
-use Rattle.std.proofs.Common.{◌≡◌, ℕ, suc, ◌+◌, ◌<◌, ◌≤◌, Bool, true, false, cond, List, [], ◌∷◌, length, nat_eq, Option, Some, None, IsSome, IfSome, Result, Ok, Err, OnOk, is_ok, refl, sym, ap, ◌∙◌, subst, arith}
+use Rattle.std.proofs.Common.{◌≡◌, ℕ, suc, ◌+◌, ◌<◌, ◌≤◌, Bool, true, false, cond, List, [], ◌∷◌, length, nat_eq, Option, Some, None, IsSome, IfSome, refl, sym, ap, ◌∙◌, subst, arith}
 use Rattle.std.specs.List.{IsDistinct}
 use Rattle.std.specs.Option.{option_map, option_map_or, option_to_list, option_flatten}
 use Rattle.std.specs.Map.{lookup, lookup_entry, remove_entry, keys_of}
@@ -7,7 +7,7 @@ use Rattle.std.specs.Cmp.{IsEquivalence}
 use Rattle.std.proofs.lemmas.Map.{lookup-remove_entry}
 use Rattle.std.proofs.lemmas.Map.Keys.{IsDistinct-cons}
 use Rattle.std.proofs.lemmas.Bool.Decides.{nat_tests}
-use Rattle.lru.specs.LruCache.{lru_cache, put_entries, promoted}
+use Rattle.lru.specs.LruCache.{promoted}
 use Rattle.idx_cache.specs.Indexed.{Indexed}
 use Rattle.idx_cache.specs.Slotted.{Slotted, homes, IsTied, Holds}
 use Rattle.idx_cache.proofs.Keyed.{same_lookup, distinct_remove, absent_all, length_remove}
@@ -16,10 +16,6 @@ use Rattle.idx_cache.proofs.SlotKeys.{homes_without_none, slot_is, length_homes}
 pub some_of : {X : Type 0} (o : Option X) → IsSome o → (x : X) × (o ≡ Some x)
 some_of None p = cc
 some_of (Some x) p = (x, refl)
-
-pub on_ok : {X Y : Type 0} (r : Result X Y) (P : Type 0) → is_ok r ≡ true → OnOk r P → P
-on_ok (Ok x) P h p = p
-on_ok (Err e) P h p = cc
 
 pub entry_of : {X : Type 0} (t : ℕ) (x : X) (l : List (ℕ × X)) → lookup (nat_eq t) l ≡ Some x → lookup_entry (nat_eq t) l ≡ Some (t, x)
 entry_of t x [] h = cc
@@ -34,9 +30,6 @@ module _ {K V : Type 0} where
 
   pub promoted_is : (s : ℕ) (es : Slotted K V) (c : Option (K × V)) → lookup (nat_eq s) es ≡ Some c → promoted (nat_eq s) es ≡ (s, c) ∷ remove_entry (nat_eq s) es
   promoted_is s es c h = rw (entry_of s c es h) refl
-
-  pub put_is : (s : ℕ) (es : Slotted K V) (old : Option (K × V)) → lookup (nat_eq s) es ≡ Some old → (cap : ℕ) (c : Option (K × V)) → put_entries nat_eq (lru_cache es cap) s c ≡ (s, c) ∷ remove_entry (nat_eq s) es
-  put_is s es old h cap c = rw (entry_of s old es h) refl
 
 module _ {K : Type 0} {E : K → K → Bool} (laws : IsEquivalence E) where
   -- equal keys are equal to the same keys
@@ -95,9 +88,6 @@ module _ {K V : Type 0} {E : K → K → Bool} (laws : IsEquivalence E) where
 
     pub write_length : suc (length (remove_entry (nat_eq s) es)) ≡ length es
     write_length = length_slots s held.0 es held.1
-
-    pub write_put : (cap : ℕ) (c : Option (K × V)) → put_entries nat_eq (lru_cache es cap) s c ≡ (s, c) ∷ remove_entry (nat_eq s) es
-    write_put = put_is s es held.0 held.1
 
     module _ (y : Indexed K)
         (gets : (q : K) → lookup (E q) y.entries ≡ option_map_or (λ k. cond (E k q) None (lookup (E q) x.entries)) old (lookup (E q) x.entries))

@@ -1,9 +1,11 @@
 //! The index: a sorted vector of fixed room, from keys to slot numbers.
-ghost use Rattle.std.specs.Prelude.{◌≡◌, ◌+◌, ◌<◌, [], cond, length};
-ghost use Rattle.std.specs.Prelude.{IsSome, Some, None, IfOk, IfErr, IfSome};
+ghost use Rattle.std.specs.Prelude.{◌≡◌, ◌+◌, ◌<◌, [], cond, length, filter};
+ghost use Rattle.std.specs.Prelude.{IsSome, Some, None, IfOk, IfErr, IfSome, is_some, option_copied};
+ghost use Rattle.std.specs.List.{IsDistinct};
 ghost use Rattle.std.specs.Option.{option_map_or, option_to_list};
-ghost use Rattle.std.specs.Map.{lookup};
+ghost use Rattle.std.specs.Map.{lookup, keys_of};
 ghost use Rattle.idx_cache.specs.Indexed.{Indexed, indexed, IsRising, IsAt, IsGapFor};
+ghost use Rattle.idx_cache.specs.Slotted.{content_at};
 
 use idx_outside::NoMemory;
 use std::alloc::Global;
@@ -80,6 +82,16 @@ impl<K: Ord + Copy + Drop> Index<K> {
         }
     }
 
+    /// Keeps the entries of the slots that hold something, all in one pass.
+    pub fn keep_filled<T>(&mut self, contents: &[Option<T>])
+        ensures entries { self.new.entries ≡ filter (λ e. is_some (content_at contents.now e.1)) self.old.entries }
+        ensures keys_apart { IsDistinct K.eq (keys_of self.old.entries) }
+        ensures room { self.new.room ≡ self.old.room }
+    {
+        self.sorted
+            .retain(|entry| content_of(contents, entry.1).is_some());
+    }
+
     /// The number of keys.
     pub fn len(&self) -> usize
         ensures { result ≡ length self.now.entries }
@@ -123,5 +135,15 @@ impl<K: Ord + Copy + Drop> Index<K> {
         ensures rising { IsRising K.cmp self.now.entries }
     {
         self.sorted.binary_search_by_key(&key, |&(k, _)| k)
+    }
+}
+
+/// What the slot holds.
+pub fn content_of<T>(contents: &[Option<T>], slot: u32) -> Option<&T>
+    ensures { option_copied result ≡ content_at contents.now slot }
+{
+    match contents.get(slot as usize) {
+        Some(content) => content.as_ref(),
+        None => None,
     }
 }

@@ -1,13 +1,14 @@
-//! The slots: `lru` with every slot present, and the index of the keys that they hold.
+//! The slots: `lru` keeps their order, with every slot present, and an index finds the slot of a key.
 ghost use Rattle.std.specs.Prelude.{◌≡◌, ◌+◌, ◌<◌, [], ◌∷◌, length, nat_eq, option_copied};
 ghost use Rattle.std.specs.Prelude.{option_map, IsSome, Some, None, IfOk, IfSome};
 ghost use Rattle.std.specs.List.{IsDistinct};
 ghost use Rattle.std.specs.Option.{option_flatten};
 ghost use Rattle.std.specs.Map.{lookup, remove_entry, keys_of};
+ghost use Rattle.std.specs.NonZero.{non_zero_usize_get};
 ghost use Rattle.lru.specs.LruCache.{last_entry, promoted};
-ghost use Rattle.idx_cache.specs.Slotted.{homes, filled, emptied, Holds, Turned};
+ghost use Rattle.idx_cache.specs.Slotted.{homes, filled, placed, emptied, Holds, IsPacked, IsWithin};
 
-use crate::index::Index;
+use crate::index::{Index, content_of};
 use idx_outside::NoMemory;
 use lru::LruCache;
 use std::alloc::Global;
@@ -17,18 +18,21 @@ use std::num::NonZeroUsize;
 /// As many slots as there may be pairs, each empty or with a pair, in the order of their last use.
 #[derive(Drop)]
 pub struct Slots<K: Ord, V> {
-    slots: LruCache<u32, Option<(K, V)>>,
+    order: LruCache<u32, ()>,
+    contents: Vec<Option<(K, V)>>,
     index: Index<K>,
 }
 
 impl<K: Ord, V> Model for Slots<K, V> {
-    ghost use Rattle.idx_cache.specs.Slotted.{Slotted, IsTied};
+    ghost use Rattle.std.specs.Prelude.{length};
+    ghost use Rattle.idx_cache.specs.Slotted.{Slotted, placed, IsTied, IsWithin};
 
     ghost Value = { Slotted K V };
 
-    ghost view = { λ s. s.slots.entries };
+    ghost view = { λ s. placed s.contents.items s.order.entries };
 
-    ghost invariant = { λ s. IsTied K.eq s.slots.entries s.index };
+    ghost invariant = { λ s. IsTied K.eq (placed s.contents.items s.order.entries) s.index
+        × IsWithin (length s.contents.items) s.order.entries };
 }
 
 impl<K: Ord + Copy + Drop, V: Drop> Slots<K, V> {
@@ -39,18 +43,17 @@ impl<K: Ord + Copy + Drop, V: Drop> Slots<K, V> {
         ensures vacant { IfOk result (λ s. filled s ≡ []) }
     {
         let index = Index::with_room(alloc, capacity as usize)?;
-        let cap = match NonZeroUsize::new(capacity as usize) {
-            Some(cap) => cap,
-            None => {
-                prove!(false);
-                NonZeroUsize::MIN
-            }
-        };
-        let mut slots = LruCache::new(alloc, cap)?;
+        let mut order = LruCache::new(alloc, slot_count(capacity))?;
+        let mut contents = Vec::with_capacity(alloc, capacity as usize)?;
         for slot in 0..capacity {
-            slots.put(slot, None)?;
+            order.put(slot, ())?;
+            contents.push(None)?;
         }
-        Ok(Slots { slots, index })
+        Ok(Slots {
+            order,
+            contents,
+            index,
+        })
     }
 
     /// The number of filled slots.
@@ -65,18 +68,16 @@ impl<K: Ord + Copy + Drop, V: Drop> Slots<K, V> {
     pub fn capacity(&self) -> usize
         ensures { result ≡ length self.now }
     {
-        self.slots.len()
+        self.order.len()
     }
 
     /// The value in the slot.
     pub fn peek(&self, slot: u32) -> Option<&V>
+        requires { IsSome (lookup (nat_eq slot) self.now) }
         ensures { option_copied result ≡ option_map (λ p. p.1) (option_flatten (lookup (nat_eq slot) self.now)) }
     {
-        match self.slots.peek(&slot) {
-            Some(content) => match content {
-                Some(pair) => Some(&pair.1),
-                None => None,
-            },
+        match self.content(slot) {
+            Some(pair) => Some(&pair.1),
             None => None,
         }
     }
@@ -86,30 +87,17 @@ impl<K: Ord + Copy + Drop, V: Drop> Slots<K, V> {
         requires { IsSome (lookup (nat_eq slot) self.old) }
         ensures { self.new ≡ promoted (nat_eq slot) self.old }
     {
-        self.slots.promote(&slot);
+        self.order.promote(&slot);
     }
 
-    /// Moves the last slot to the front, emptied or as it is.
-    pub fn turn(&mut self, empty: bool)
-        requires { 0 < length self.old }
-        ensures { Turned empty self.old self.new }
-    {
-        let slot = self.last();
-        if empty {
-            self.write(slot, None);
-        } else {
-            self.raise(slot);
-        }
-    }
-
-    /// Empties all slots but the first `kept`, by one turn of the whole list.
+    /// Empties all slots but the first `kept`, each in its place, no further than the last filled one, and goes once
+    /// through the index.
     pub fn keep(&mut self, kept: usize)
+        requires { IsPacked self.old }
         ensures { self.new ≡ emptied kept self.old }
     {
-        let capacity = self.capacity();
-        for i in 0..capacity {
-            self.turn(kept < capacity - i);
-        }
+        empty_behind(&self.order, &mut self.contents, kept);
+        self.index.keep_filled(&self.contents);
     }
 
     /// The slot of the key.
@@ -118,21 +106,27 @@ impl<K: Ord + Copy + Drop, V: Drop> Slots<K, V> {
         ensures slots_apart { IsDistinct nat_eq (keys_of self.now) }
         ensures keys_apart { IsDistinct K.eq (keys_of (homes self.now)) }
     {
-        let _valid = self.slots.len();
+        let _valid = self.order.len();
         self.index.get(key)
     }
 
     /// The key that the slot holds.
     pub fn key_in(&self, slot: u32) -> Option<K>
+        requires { IsSome (lookup (nat_eq slot) self.now) }
         ensures { result ≡ option_map (λ p. p.0) (option_flatten (lookup (nat_eq slot) self.now)) }
     {
-        match self.slots.peek(&slot) {
-            Some(content) => match content {
-                Some(pair) => Some(pair.0),
-                None => None,
-            },
+        match self.content(slot) {
+            Some(pair) => Some(pair.0),
             None => None,
         }
+    }
+
+    // The pair in the slot.
+    fn content(&self, slot: u32) -> Option<&(K, V)>
+        requires { IsSome (lookup (nat_eq slot) self.now) }
+        ensures { option_copied result ≡ option_flatten (lookup (nat_eq slot) self.now) }
+    {
+        content_of(&self.contents, slot)
     }
 
     /// The least recently used slot.
@@ -142,8 +136,8 @@ impl<K: Ord + Copy + Drop, V: Drop> Slots<K, V> {
         ensures slots_apart { IsDistinct nat_eq (keys_of self.now) }
         ensures keys_apart { IsDistinct K.eq (keys_of (homes self.now)) }
     {
-        let _valid = self.slots.len();
-        match self.slots.peek_lru() {
+        let _valid = self.order.len();
+        match self.order.peek_lru() {
             Some((slot, _)) => *slot,
             None => {
                 prove!(false);
@@ -157,8 +151,12 @@ impl<K: Ord + Copy + Drop, V: Drop> Slots<K, V> {
         requires { Holds K.eq self.old slot key }
         ensures { self.new ≡ (slot, Some (key, value)) ∷ remove_entry (nat_eq slot) self.old }
     {
-        let put = self.slots.put(slot, Some((key, value))).is_ok();
-        prove!(put);
+        place(
+            &mut self.order,
+            &mut self.contents,
+            slot,
+            Some((key, value)),
+        );
     }
 
     /// Replaces what the slot holds, and makes it the most recently used.
@@ -172,8 +170,7 @@ impl<K: Ord + Copy + Drop, V: Drop> Slots<K, V> {
         let new = key_of(&content);
         self.index.release(old);
         self.index.claim(new, slot);
-        let put = self.slots.put(slot, content).is_ok();
-        prove!(put);
+        place(&mut self.order, &mut self.contents, slot, content);
     }
 }
 
@@ -184,5 +181,63 @@ fn key_of<K: Copy, V>(content: &Option<(K, V)>) -> Option<K>
     match content {
         Some(pair) => Some(pair.0),
         None => None,
+    }
+}
+
+// Replaces what the slot holds, and makes it the most recently used.
+fn place<T: Drop>(
+    order: &mut LruCache<u32, ()>,
+    contents: &mut Vec<Option<T>>,
+    slot: u32,
+    content: Option<T>,
+)
+    requires present { IsSome (lookup (nat_eq slot) order.old.entries) }
+    requires within { IsWithin (length contents.old.items) order.old.entries }
+    ensures front { placed contents.new.items order.new.entries ≡
+        (slot, content) ∷ remove_entry (nat_eq slot) (placed contents.old.items order.old.entries) }
+    ensures within { IsWithin (length contents.new.items) order.new.entries }
+{
+    let _valid = order.len();
+    order.promote(&slot);
+    contents[slot as usize] = content;
+}
+
+// Empties the slots behind the first `kept` of the order, up to the first that is empty.
+fn empty_behind<K: Drop, V: Drop>(
+    order: &LruCache<u32, ()>,
+    contents: &mut Vec<Option<(K, V)>>,
+    kept: usize,
+)
+    requires within { IsWithin (length contents.old.items) order.now.entries }
+    requires packed { IsPacked (placed contents.old.items order.now.entries) }
+    ensures rest { placed contents.new.items order.now.entries ≡
+        emptied kept (placed contents.old.items order.now.entries) }
+    ensures len { length contents.new.items ≡ length contents.old.items }
+{
+    let _valid = order.len();
+    let mut left = kept;
+    for (slot, _) in order.iter() {
+        if left > 0 {
+            left -= 1;
+        } else {
+            if content_of(contents, *slot).is_none() {
+                break;
+            }
+            contents[*slot as usize] = None;
+        }
+    }
+}
+
+// The number of slots, as `lru` takes it.
+fn slot_count(capacity: u32) -> NonZeroUsize
+    requires { 0 < capacity }
+    ensures { non_zero_usize_get result ≡ capacity }
+{
+    match NonZeroUsize::new(capacity as usize) {
+        Some(count) => count,
+        None => {
+            prove!(false);
+            NonZeroUsize::MIN
+        }
     }
 }

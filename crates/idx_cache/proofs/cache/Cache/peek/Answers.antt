@@ -1,8 +1,11 @@
 use Rattle.std.proofs.Common.{sym, ap, ◌∙◌}
 use Rattle.std.specs.Map.{lookup}
 use Rattle.idx_cache.specs.Cached.{Cached}
-use Rattle.idx_cache.proofs.Raises.{peek_value, miss_lookup}
+use Rattle.idx_cache.proofs.Raises.{peek_value, touch_present, miss_lookup}
 use Rattle.idx_cache.proofs.cache.Cache.peek.Goals as goal
+
+pub peek-requires : goal.peek-requires
+peek-requires g c = touch_present g.met.K.Eq.laws c.args.key c.in-Some.slot c.self.inside.slots (sym c.in-Some.ensures.slot) c.in-Some.ensures.slots_apart c.in-Some.ensures.keys_apart
 
 pub returns-in-Some : goal.returns-in-Some
 returns-in-Some g c =
