@@ -1,6 +1,22 @@
-//! The published steps of a dataset and the cache of their blocks. Today: the keys of blocks.
+//! The published steps of a dataset and the bounded cache of their blocks, as plain lists with one owner.
 #![tactic(auto)]
 
+mod block;
+mod board;
+mod caching;
+mod examples;
+mod hall;
 mod key;
+mod looked;
+mod publish_refusal;
+mod published;
+mod standing;
+#[cfg(test)]
+mod tests;
 
+pub use examples::worked_hall;
+pub use hall::Hall;
 pub use key::Key;
+pub use looked::Looked;
+pub use publish_refusal::PublishRefusal;
+pub use standing::Standing;

@@ -1,0 +1,5 @@
+pub mod Posts
+pub mod Hall
+pub mod Looked
+pub mod Calls
+pub mod Examples

@@ -1,0 +1,34 @@
+//! The published steps, in the order of their numbers.
+ghost use Rattle.std.specs.Prelude.{◌≡◌, ◌≢◌, ◌++◌, ◌∷◌, [], ℕ, Some, IfErr, IfOk, IfSome, IfNone, OnErr, OnOk, length, slice_get};
+ghost use Rattle.std.specs.Arc.{arc_value};
+
+use crate::published::Published;
+use idx_outside::Blocks;
+use std::sync::Arc;
+
+/// The number of the step of a time, if it is there.
+pub(crate) fn number_of<E: Blocks + Drop>(board: &[Published<E>], time: u64) -> Option<usize>
+    ensures some { IfSome result (λ n. (e : E) × ((slice_get board.now n ≡ Some e) × (E.time e ≡ time))) }
+    ensures none { IfNone result ((n : ℕ) (e : E) → slice_get board.now n ≡ Some e → E.time e ≢ time) }
+{
+    board.iter().position(|published| published.time() == time)
+}
+
+/// Adds a step behind the others, and answers its number. It comes back where there is no memory.
+pub(crate) fn append<E: Blocks + Drop>(
+    board: &mut Vec<Published<E>>,
+    edition: Arc<E>,
+) -> Result<u64, Arc<E>>
+    ensures number { IfOk result (λ number. number ≡ length board.old.items) }
+    ensures added { OnOk result (board.new.items ≡ board.old.items ++ arc_value edition ∷ []) }
+    ensures returned { IfErr result (λ returned. returned ≡ edition) }
+    ensures kept { OnErr result (board.new.items ≡ board.old.items) }
+{
+    if board.reserve(1).is_err() {
+        return Err(edition);
+    }
+    let number = board.len() as u64;
+    let pushed = board.push(Published::new(edition)).is_ok();
+    prove!(pushed);
+    Ok(number)
+}

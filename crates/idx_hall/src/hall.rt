@@ -1,0 +1,191 @@
+ghost use Rattle.std.specs.Prelude.{◌≡◌, ◌≤◌, ◌<◌, [], All, Err, None, Ok, Some, IfErr, IfOk, IfSome, IfNone, OnErr, OnOk, ℕ, length, map, min, slice_get};
+ghost use Rattle.std.specs.Arc.{arc_value};
+ghost use Rattle.idx_cache.specs.Cached.{cached};
+ghost use Rattle.idx_hall.specs.Posts.{IsPostOf, Lacks, Post, post_of};
+ghost use Rattle.idx_hall.specs.Hall.{HallOk, HallValue, IsBlockOf, after_evict, after_fill, after_look, after_publish, hall, noted};
+ghost use Rattle.idx_hall.specs.Looked.{looked_up, not_looked};
+ghost use Rattle.idx_hall.specs.Calls.{AreBlocksOf, IsRefused, IsStepOf, pairs_of};
+
+use crate::block::Block;
+use crate::board::{append, number_of};
+use crate::caching::{put_blocks, touch_all};
+use crate::published::Published;
+use crate::{Key, Looked, PublishRefusal, Standing};
+use idx_cache::Cache;
+use idx_outside::{Blocks, Bytes, NoMemory};
+use std::alloc::Global;
+use std::marker::Model;
+use std::sync::Arc;
+
+/// The published steps of a dataset, numbered from 0, and the cache of their blocks. Seen as the shape of the steps,
+/// the list of the steps, and the list of the cached blocks, the most recently used first. All memory that the cache
+/// will ever need is taken at the start, and blocks are shared, not copied.
+#[derive(Drop)]
+pub struct Hall<E: Blocks> {
+    blocks: u64,
+    lengths: Vec<u64>,
+    board: Vec<Published<E>>,
+    cache: Cache<Key, Block>,
+}
+
+impl<E: Blocks> Model for Hall<E> {
+    ghost use Rattle.std.specs.Prelude.{◌≡◌, All, map};
+    ghost use Rattle.idx_hall.specs.Posts.{post_of};
+    ghost use Rattle.idx_hall.specs.Hall.{HallOk, HallValue, hall};
+
+    ghost Value = { HallValue };
+
+    ghost view = { λ h. hall (record { blocks = h.blocks; lengths = h.lengths.items })
+        (map (λ e. post_of (record { blocks = h.blocks; lengths = h.lengths.items })
+        (E.time e) (E.has e) (E.stored e)) h.board.items)
+        h.cache };
+
+    ghost invariant = { λ h. HallOk (hall (record { blocks = h.blocks; lengths = h.lengths.items })
+        (map (λ e. post_of (record { blocks = h.blocks; lengths = h.lengths.items })
+        (E.time e) (E.has e) (E.stored e)) h.board.items)
+        h.cache) × All (λ e. E.shape e ≡ record { blocks = h.blocks; lengths = h.lengths.items }) h.board.items };
+}
+
+impl<E: Blocks> Standing for Hall<E> {
+    ghost shape = { λ h. h.shape };
+
+    ghost posts = { λ h. h.board };
+}
+
+impl<E: Blocks + Drop> Hall<E> {
+    /// A hall without a step and without a block, for steps of so many blocks, a block of each field having so many
+    /// bytes, and for at most `capacity` cached blocks (1 to 65,536). Answers `NoMemory` where there is no room for
+    /// them.
+    pub fn new(
+        alloc: Global,
+        capacity: u32,
+        blocks: u64,
+        lengths: Vec<u64>,
+    ) -> Result<Hall<E>, NoMemory>
+        requires some { 1 ≤ capacity }
+        requires few { capacity ≤ 65536 }
+        ensures { IfOk result (λ h. h ≡
+            hall (record { blocks = blocks; lengths = lengths.items }) [] (cached [] capacity)) }
+    {
+        let cache = Cache::new(alloc, capacity)?;
+        Ok(Hall {
+            blocks,
+            lengths,
+            board: Vec::new(alloc),
+            cache,
+        })
+    }
+
+    /// Adds a step to the board, and answers its number. `AlreadyPublished` exactly where a step of its time is there,
+    /// which stays; after a refusal the hall is as it was, and the step comes back.
+    pub fn publish(&mut self, edition: Arc<E>) -> Result<u64, (Arc<E>, PublishRefusal)>
+        requires shape { E.shape (arc_value edition) ≡ self.old.shape }
+        ensures number { IfOk result (λ number. number ≡ length self.old.board) }
+        ensures published { OnOk result (self.new ≡ after_publish
+            (post_of self.old.shape (E.time (arc_value edition)) (E.has (arc_value edition))
+            (E.stored (arc_value edition)))
+            self.old) }
+        ensures fresh { OnOk result (Lacks (E.time (arc_value edition)) self.old.board) }
+        ensures taken { (number : ℕ) (post : Post) →
+            IsPostOf self.old.board (E.time (arc_value edition)) number post →
+            result ≡ Err (edition, PublishRefusal.AlreadyPublished number) }
+        ensures cause { IfErr result (λ refusal. (refusal.0 ≡ edition) ×
+            IsRefused self.old.board (E.time (arc_value edition)) refusal.1) }
+        ensures kept { OnErr result (self.new ≡ self.old) }
+    {
+        if let Some(post) = self.number_of(edition.time()) {
+            return Err((edition, PublishRefusal::AlreadyPublished { post }));
+        }
+        match append(&mut self.board, edition) {
+            Ok(number) => Ok(number),
+            Err(edition) => Err((edition, PublishRefusal::NoMemory)),
+        }
+    }
+
+    /// Looks for the blocks of some keys of one time. `None` exactly where no step of the time was published; then
+    /// nothing changes. Else the step's number; `looked` gets the step and, for each key in order, the cached block or
+    /// nothing, and the blocks that were found are now the most recently used ones, the last of them the most. After
+    /// `NoMemory` nothing has changed.
+    pub fn look(
+        &mut self,
+        time: u64,
+        keys: &[Key],
+        looked: &mut Looked<E>,
+    ) -> Result<Option<u64>, NoMemory>
+        requires keys { All (λ key. key.time ≡ time) keys.now }
+        requires empty { looked.old ≡ not_looked looked.old.room }
+        requires room { length keys.now ≤ looked.old.room }
+        ensures post { IfOk result (λ found. IfSome found (λ number. (post : Post) ×
+            IsPostOf self.old.board time number post × AreBlocksOf self.old.shape post keys.now looked.new.found)) }
+        ensures step { IfOk result (λ found. IfSome found (λ number.
+            IfSome looked.new.edition (IsStepOf E.time E.shape E.has E.stored self.old number))) }
+        ensures noted { IfOk result (λ found. IfSome found (λ _. (e : E) ×
+            (looked.new ≡ looked_up e (noted keys.now self.old.cache.pairs) looked.old.room))) }
+        ensures order { IfOk result (λ found. IfSome found (λ _. self.new ≡ after_look keys.now self.old)) }
+        ensures lacks { IfOk result (λ found. IfNone found (Lacks time self.old.board)) }
+        ensures none { Lacks time self.old.board →
+            (result ≡ Ok None) × (self.new ≡ self.old) × (looked.new ≡ looked.old) }
+        ensures refused { OnErr result ((self.new ≡ self.old) × (looked.new ≡ looked.old)) }
+        ensures shape { self.new.shape ≡ self.old.shape }
+        ensures board { self.new.board ≡ self.old.board }
+    {
+        let Some(number) = self.number_of(time) else {
+            return Ok(None);
+        };
+        looked.note(&self.board[number as usize], &self.cache, keys)?;
+        touch_all(&mut self.cache, keys);
+        Ok(Some(number))
+    }
+
+    /// Puts loaded blocks of a post into the cache, in order. The least recently used ones go where the capacity is
+    /// passed. It is never refused, and takes no memory.
+    pub fn fill(&mut self, post: u64, loaded: Vec<(Key, Arc<Bytes>)>)
+        requires blocks { (p : Post) × ((slice_get self.old.board post ≡ Some p) ×
+            All (IsBlockOf self.old.shape p) (pairs_of loaded.items)) }
+        ensures { self.new ≡ after_fill (pairs_of loaded.items) self.old }
+    {
+        put_blocks(&mut self.cache, loaded);
+    }
+
+    /// Drops the n least recently used blocks, or all, and tells how many went.
+    pub fn evict(&mut self, n: u64) -> u64
+        ensures gone { result ≡ min n (length self.old.cache.pairs) }
+        ensures kept { self.new ≡ after_evict n self.old }
+    {
+        self.cache.evict(n)
+    }
+
+    /// How many steps were published.
+    pub fn board_len(&self) -> u64
+        ensures { result ≡ length self.now.board }
+    {
+        self.board.len() as u64
+    }
+
+    /// How many blocks are cached.
+    pub fn cache_len(&self) -> u64
+        ensures len { result ≡ length self.now.cache.pairs }
+        ensures valid { HallOk self.now }
+    {
+        self.cache.len()
+    }
+
+    /// How many blocks may be cached.
+    pub fn capacity(&self) -> u64
+        ensures capacity { result ≡ self.now.cache.cap }
+        ensures some { 0 < result }
+    {
+        self.cache.capacity()
+    }
+
+    /// The number of the step of a time, if it was published.
+    fn number_of(&self, time: u64) -> Option<u64>
+        ensures some { IfSome result (λ number. (post : Post) × IsPostOf self.now.board time number post) }
+        ensures none { IfNone result (Lacks time self.now.board) }
+    {
+        match number_of(&self.board, time) {
+            Some(number) => Some(number as u64),
+            None => None,
+        }
+    }
+}
