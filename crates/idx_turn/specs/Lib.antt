@@ -1,0 +1,4 @@
+pub mod Stands
+pub mod LockId
+pub mod SoloValue
+pub mod Examples

@@ -1,0 +1,30 @@
+-- What a value that is taken in turn stands for, and what may be given back in its place.
+use Rattle.std.specs.Prelude.{◌≡◌, Bool, false, List, ◌++◌, Option, Some, None}
+use Rattle.idx_outside.specs.Shape.{Shape}
+use Rattle.idx_hall.specs.Posts.{Post}
+
+-- the second list is the first with more behind it, or with nothing
+pub record Begins {A : Type 0} (front whole : List A) : Type 0 where
+  pub rest : List A
+  pub is : whole ≡ front ++ rest
+
+-- a shape and a list of posts
+pub record Stand : Type 0 where
+  pub shape : Shape
+  pub posts : List Post
+
+-- the two together
+abbrev pub stand : Shape → List Post → Stand
+stand shape posts = record { shape = shape; posts = posts }
+
+-- what comes back has the shape that went out, and its list begins with the one that went out; it is that list where
+-- nothing may be added
+pub record MayReturn (was : Stand) (may_add : Bool) (back : Stand) : Type 0 where
+  pub shape : back.shape ≡ was.shape
+  pub begins : Begins was.posts back.posts
+  pub same : may_add ≡ false → back.posts ≡ was.posts
+
+-- something is out, and this may come back for it
+abbrev pub MayGive : Option Stand → Bool → Stand → Type 0
+MayGive None may_add back = ⊥
+MayGive (Some was) may_add back = MayReturn was may_add back
