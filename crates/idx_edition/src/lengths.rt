@@ -6,8 +6,8 @@ use idx_header::Header;
 use idx_outside::NoMemory;
 use std::alloc::Global;
 
-/// How many bytes a block of each field has.
-pub(crate) fn block_lengths(alloc: Global, header: &Header) -> Result<Vec<u64>, NoMemory>
+/// How many bytes a block of each field has, by the number of the field.
+pub fn block_lengths(alloc: Global, header: &Header) -> Result<Vec<u64>, NoMemory>
     ensures { IfOk result (λ lengths. lengths.items ≡ block_lengths (layout_of header.now)) }
 {
     let mut lengths = Vec::new(alloc);

@@ -15,4 +15,5 @@ mod tests;
 pub use edition::Edition;
 pub use examples::worked_blocks;
 pub use laws::written_steps_read_back;
+pub use lengths::block_lengths;
 pub use load_fault::LoadFault;

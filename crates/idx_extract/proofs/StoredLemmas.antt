@@ -1,10 +1,9 @@
 -- The answer out of an edition is the one out of what the committed files store, and its reads are those that this takes.
-use Rattle.std.proofs.Common.{◌≡◌, ◌≢◌, ℕ, suc, ◌+◌, ◌-◌, ◌*◌, ◌/◌, ◌%◌, ◌^◌, ◌<◌, ◌≤◌, Bool, cond, not, List, [], ◌∷◌, ◌++◌, length, map, filter, take, drop, Option, Some, None, refl, sym, ap, ◌∙◌, subst, IfSome, arith}
-use Rattle.std.specs.Prelude.{All, slice_index}
+use Rattle.std.proofs.Common.{◌≡◌, ◌≢◌, ℕ, suc, ◌+◌, ◌%◌, ◌^◌, ◌<◌, ◌≤◌, Bool, cond, not, List, [], ◌∷◌, ◌++◌, length, filter, Option, Some, None, refl, sym, ap, ◌∙◌, subst, IfSome, arith}
+use Rattle.std.specs.Prelude.{All}
 use Rattle.std.specs.Option.{ForSome}
 use Rattle.std.specs.List.{range_with_len}
 use Rattle.std.proofs.Math.Nat.{add-mod-mod}
-use Rattle.std.proofs.lemmas.Nat.{div_below, pow-add, pow_pos}
 use Rattle.std.proofs.lemmas.List.{length-map}
 use Rattle.std.proofs.lemmas.List.Elements.{All-filter}
 use Rattle.std.proofs.lemmas.List.Filters.{length-filter_both}
@@ -12,14 +11,8 @@ use Rattle.idx_outside.specs.Cause.{MadeReads}
 use Rattle.idx_outside.specs.Files.{entry_shown, known_with}
 use Rattle.idx_outside.specs.Shape.{Shape}
 use Rattle.idx_outside.specs.declared.mem_file.MemFile.{MemFile}
-use Rattle.idx_geom.specs.Region.{points}
-use Rattle.idx_hz.specs.Address.{hz_address}
-use Rattle.idx_hz.specs.Answer.{answer}
-use Rattle.idx_hz.proofs.AddressLaws.{hz_address-lt}
 use Rattle.idx_header.specs.Header.{HeaderValue, block_count}
 use Rattle.idx_stride.proofs.RangeLemmas.{All-range}
-use Rattle.idx_layout.specs.Content.{sample_in}
-use Rattle.idx_layout.specs.OfHeader.{layout_of}
 use Rattle.idx_layout.specs.Shape.{shape_of}
 use Rattle.idx_plan.specs.Answer.{answer_of}
 use Rattle.idx_plan.specs.Needed.{is_needed, needed}
@@ -27,31 +20,10 @@ use Rattle.idx_plan.specs.declared.ask.Ask.{Ask}
 use Rattle.idx_edition.specs.Loaded.{HoldsStored, OfBlocks}
 use Rattle.idx_edition.specs.Stored.{Stands, found_files, has_block, stored_block}
 use Rattle.idx_query.specs.Blocks.{lacking}
-use Rattle.idx_query.specs.declared.once.Once.{Once}
+use Rattle.idx_query.specs.declared.report.Report.{Report}
 use Rattle.idx_query.proofs.AnswerLemmas.{has_field}
+use Rattle.idx_query.proofs.PostLemmas.{same_answer}
 use Rattle.idx_extract.specs.Extract.{IsAnswer}
-
--- ---- the samples
-
--- the block of each address exists
-exists : (h : HeaderValue) (p : List ℕ) → h.block_bits ≤ length h.mask → hz_address h.mask p / 2 ^ h.block_bits < block_count h
-exists h p within =
-    let split : length h.mask ≡ (length h.mask - h.block_bits) + h.block_bits = omega (arith, within) in
-    let all : hz_address h.mask p < 2 ^ (length h.mask - h.block_bits) * 2 ^ h.block_bits =
-    subst (λ m. hz_address h.mask p < m) (ap (λ m. 2 ^ m) split ∙ pow-add 2 (length h.mask - h.block_bits) h.block_bits) (hz_address-lt h.mask p) in
-    div_below (hz_address h.mask p) (2 ^ h.block_bits) (block_count h) (pow_pos h.block_bits) all
-
--- contents that agree on the blocks that exist give the same answer
-pub same_answer : (h : HeaderValue) (ask : Ask) (these those : ℕ → ℕ → List ℕ) → h.block_bits ≤ length h.mask →
-    ((block : ℕ) → block < block_count h → these ask.field block ≡ those ask.field block) → answer_of h ask these ≡ answer_of h ask those
-same_answer h ask these those within same =
-    ap (λ samples. answer h.mask h.box samples ask.region ask.lo ask.hi) (λ i. map (λ p. at p i) (points h.box))
-  where
-    at : (p : List ℕ) → sample_in (layout_of h) these ask.field p ≡ sample_in (layout_of h) those ask.field p
-    at p =
-        let size : ℕ = slice_index (layout_of h).sizes ask.field in
-        ap (λ (bytes : List ℕ). take size (drop (size * (hz_address h.mask p % 2 ^ h.block_bits)) bytes))
-        (same (hz_address h.mask p / 2 ^ h.block_bits) (exists h p within))
 
 -- ---- the reads
 
@@ -62,7 +34,8 @@ kept f g n same (x ∷ xs) all =
     let rest : filter f xs ≡ filter g xs = kept f g n same xs (λ k d within. all (suc k) d (omega (arith, within))) in
     λ i. cond (first i) (x ∷ rest i) (rest i)
 
-needed-exist : (h : HeaderValue) (ask : Ask) → All (λ block. block < block_count h) (needed h ask)
+-- the needed blocks exist
+pub needed-exist : (h : HeaderValue) (ask : Ask) → All (λ block. block < block_count h) (needed h ask)
 needed-exist h ask =
     All-filter (is_needed h ask) (λ block. block < block_count h) (range_with_len 0 (block_count h))
     (All-range (λ block. block < block_count h) 0 (block_count h) (λ k from below. omega (arith, below)))
@@ -100,7 +73,7 @@ module _ (h : HeaderValue) (ask : Ask) (files : List MemFile) (shape : Shape) (h
   answered (Some s) some content bytes given =
       given ∙ same_answer h ask s (stored_block h ask.time files) within (λ block below. content s refl ask.field block in_shape (in_blocks block below))
 
-  pub is_answer : (once : Once) (before between after : ℕ) (bytes : List ℕ) → Stands h ask.time files → MadeReads before between (length leaves) → MadeReads between after once.reads →
+  pub is_answer : (once : Report) (before between after : ℕ) (bytes : List ℕ) → Stands h ask.time files → MadeReads before between (length leaves) → MadeReads between after once.reads →
       once.reads + once.absent ≡ length (needed h ask) → once.absent ≡ lacking (has ask.field) (needed h ask) → IfSome stored (λ stored. bytes ≡ answer_of h ask stored) →
       IsAnswer h ask files before after bytes
   is_answer once before between after bytes stands first second all lack given =
@@ -118,7 +91,7 @@ module _ (h : HeaderValue) (ask : Ask) (files : List MemFile) (shape : Shape) (h
 
 -- the same where the committed files are known
 pub is_answer_known : (known : Option (List MemFile)) (h : HeaderValue) (ask : Ask) (step : ℕ) (shape : Shape) (has : ℕ → ℕ → Bool) (stored : Option (ℕ → ℕ → List ℕ))
-    (leaves : List (List ℕ × Option (List ℕ))) (count : ℕ) (once : Once) (before between after : ℕ) (old new : List ℕ) →
+    (leaves : List (List ℕ × Option (List ℕ))) (count : ℕ) (once : Report) (before between after : ℕ) (old new : List ℕ) →
     step ≡ ask.time → IfSome known (λ files. HoldsStored h step files shape has stored leaves) → IfSome known (Stands h step) →
     shape ≡ shape_of h → ask.field < length h.fields → h.block_bits ≤ length h.mask → count ≡ length leaves →
     MadeReads before between count → MadeReads between after once.reads →

@@ -35,6 +35,7 @@ fault_of_load loads.NoMemory = faults.NoMemory
 -- the fault that is answered where the blocks of a step are not copied
 abbrev pub fault_of_query : QueryFault → ExtractFault
 fault_of_query (queries.Plan fault) = fault_of_plan fault
+fault_of_query (queries.NotPublished board) = faults.NotPublished
 fault_of_query (queries.StoreFault count) = faults.StoreFault
 fault_of_query queries.NoMemory = faults.NoMemory
 

@@ -1,10 +1,11 @@
-ghost use Rattle.std.specs.Prelude.{◌≡◌, ◌<◌, None, Some, Err, IfErr, IfOk, IfSome, List, OnOk, length};
+ghost use Rattle.std.specs.Prelude.{◌≡◌, ◌<◌, Err, IfErr, IfOk};
 ghost use Rattle.idx_outside.specs.Cause.{NeverFalls};
 ghost use Rattle.idx_outside.specs.Files.{StillAdmits};
 ghost use Rattle.idx_extract.specs.Extract.{IsExtracted, IsUnread};
 ghost use Rattle.idx_extract.specs.Stages.{IsCauseUnder};
 
 use crate::ExtractFault;
+use crate::alone::answer_alone;
 use crate::asked::asked;
 use crate::faults::of_query;
 use crate::opening::open_step;
@@ -12,7 +13,6 @@ use idx_edition::Edition;
 use idx_header::Header;
 use idx_outside::{Bay, Bytes, Reader};
 use idx_plan::Ask;
-use idx_query::answer_from;
 use idx_words::QueryWords;
 use std::alloc::Global;
 
@@ -46,7 +46,7 @@ pub(crate) fn answer<B: Bay, R: Reader<B::Leaf>>(
         Err(fault) => return Err(fault),
     };
     let mut bytes = Bytes::new(alloc);
-    match answer_from(alloc, header, &ask, &edition, reader, &mut bytes) {
+    match answer_alone(alloc, header, &ask, edition, reader, &mut bytes) {
         Ok(_) => Ok(bytes),
         Err(fault) => Err(of_query(fault)),
     }

@@ -59,6 +59,7 @@ pub(crate) fn of_query(fault: QueryFault) -> ExtractFault
 {
     match fault {
         QueryFault::Plan(fault) => of_plan(fault),
+        QueryFault::NotPublished { .. } => ExtractFault::NotPublished,
         QueryFault::StoreFault { .. } => ExtractFault::StoreFault,
         QueryFault::NoMemory => ExtractFault::NoMemory,
     }

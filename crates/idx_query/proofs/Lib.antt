@@ -1,3 +1,9 @@
 pub mod CopyLemmas
+pub mod DoneLemmas
 pub mod AnswerLemmas
 pub mod ShapeLemmas
+pub mod TakeLemmas
+pub mod MissLemmas
+pub mod PostLemmas
+pub mod FillLemmas
+pub mod RoundLemmas

@@ -1,2 +1,5 @@
 pub mod Blocks
+pub mod Rounds
+pub mod Steps
 pub mod Fault
+pub mod Answered

@@ -1,108 +1,202 @@
-ghost use Rattle.std.specs.Prelude.{◌≡◌, ◌+◌, ◌<◌, ◌++◌, Err, IfErr, IfOk, IfSome, None, OnErr, OnOk, Some, length, take};
+ghost use Rattle.std.specs.Prelude.{◌≡◌, ◌+◌, ◌<◌, ◌⊎◌, ◌≤◌, [], Err, IfErr, IfOk, IfSome, None, OnErr, OnOk, Some, length, true};
 ghost use Rattle.idx_outside.specs.Cause.{MadeReads, NeverFalls};
 ghost use Rattle.idx_header.specs.Header.{block_bytes};
-ghost use Rattle.idx_plan.specs.Answer.{answer_of};
-ghost use Rattle.idx_plan.specs.Needed.{answer_bytes, needed, plan_fault};
-ghost use Rattle.idx_plan.specs.declared.plan_fault.PlanFault.{PlanFault};
 ghost use Rattle.idx_layout.specs.Shape.{shape_of};
-ghost use Rattle.idx_query.specs.Blocks.{IsPlanOf, lacking};
-ghost use Rattle.idx_query.specs.Fault.{IsCaused};
+ghost use Rattle.idx_hall.specs.Posts.{Lacks};
+ghost use Rattle.idx_hall.specs.Looked.{not_looked};
+ghost use Rattle.idx_turn.specs.Stands.{Begins};
+ghost use Rattle.idx_plan.specs.Needed.{plan_fault};
+ghost use Rattle.idx_plan.specs.declared.plan_fault.PlanFault.{PlanFault};
+ghost use Rattle.idx_query.specs.Blocks.{IsPlanOf};
+ghost use Rattle.idx_query.specs.Steps.{load_state};
+ghost use Rattle.idx_query.specs.Answered.{IsAnswered, IsDone, IsLeft};
+ghost use Rattle.idx_query.specs.Fault.{IsCaused, IsUnread};
 
-use crate::copying::copy_blocks;
-use crate::{Once, QueryFault};
+use crate::loading::Loading;
+use crate::rounds::answer_round;
+use crate::taking::room_of;
+use crate::{QueryFault, Report};
+use idx_hall::{Hall, Looked};
 use idx_header::Header;
-use idx_outside::{Blocks, Bytes, Outage, Reader};
+use idx_outside::{Blocks, Bytes, Reader};
 use idx_plan::{Ask, Plan, plan};
+use idx_turn::Turn;
 use std::alloc::Global;
 use std::mem::replace;
 
-/// Appends the answer to a question out of the blocks of a step, the samples in row-major order. Exactly the blocks that
-/// hold a sample of it are fetched, each once and in rising order. All memory is taken before the first read.
+/// Appends the answer to a question out of the published step of its time, the samples in row-major order. Of the
+/// blocks that hold a sample of it those that are cached are used, and the others are fetched, each once and in rising
+/// order, and put into the cache. The hall is taken to see what room its cache has, for a look, and once more where
+/// something was fetched. All vectors are made before the look.
 ///
 /// After a refusal the bytes are as they were.
-pub fn answer_from<E: Blocks, R: Reader<E::Leaf>>(
+pub fn answer<E: Blocks + Drop, T: Turn<Hall<E>>, R: Reader<E::Leaf>>(
     alloc: Global,
     header: &Header,
     ask: &Ask,
-    edition: &E,
+    turn: &mut T,
     reader: &mut R,
     out: &mut Bytes,
-) -> Result<Once, QueryFault>
+) -> Result<Report, QueryFault>
     requires field { ask.now.field < length header.now.fields }
     requires axes { length ask.now.region ≡ length header.now.box }
-    requires shape { E.shape edition.now ≡ shape_of header.now }
+    requires shape { T.shape turn.old ≡ shape_of header.now }
+    requires given { T.given turn.old ≡ None }
 
-    // The answer stands behind what was there.
-    ensures answer { OnOk result (IfSome (E.stored edition.now)
-        (λ stored. out.new ≡ out.old ++ answer_of header.now ask.now stored)) }
-    ensures front { OnOk result (take (length out.old) out.new ≡ out.old) }
-    ensures length { OnOk result (length out.new ≡ length out.old + answer_bytes header.now ask.now) }
-
-    // Each block that is needed came once, by a read or by none.
-    ensures once { IfOk result (λ once. once.reads + once.absent ≡ length (needed header.now ask.now)) }
-    ensures absent { IfOk result (λ once.
-        once.absent ≡ lacking (E.has edition.now ask.now.field) (needed header.now ask.now)) }
-    ensures reads { IfOk result (λ once. MadeReads (R.reads reader.old) (R.reads reader.new) once.reads) }
+    // The answer stands behind what was there, and so many reads were made.
+    ensures answered { IfOk result (λ report.
+        IsAnswered header.now ask.now (T.seen turn.new) out.old out.new report) }
+    ensures reads { IfOk result (λ report. MadeReads (R.reads reader.old) (R.reads reader.new) report.reads) }
+    ensures sound { OnOk result (plan_fault header.now ask.now ≡ None) }
 
     // Each refusal has its cause, and leaves the bytes as they were.
-    ensures sound { OnOk result (plan_fault header.now ask.now ≡ None) }
-    ensures cause { IfErr result (IsCaused header.now ask.now
-        (R.faults reader.old) (R.faults reader.new) (R.reads reader.old) (R.reads reader.new)) }
+    ensures cause { IfErr result (IsCaused header.now ask.now (T.seen turn.new)
+        (R.faults reader.old) (R.faults reader.new)) }
     ensures refused { (fault : PlanFault) → plan_fault header.now ask.now ≡ Some fault →
-        result ≡ Err (QueryFault.Plan fault) }
+        (result ≡ Err (QueryFault.Plan fault)) × (turn.new ≡ turn.old) }
+    ensures unpublished { T.may_add turn.old ≡ true → plan_fault header.now ask.now ≡ None →
+        Lacks ask.now.time (T.seen turn.old) →
+        (result ≡ Err (QueryFault.NotPublished (length (T.seen turn.old)))) ⊎ (result ≡ Err QueryFault.NoMemory) }
+    ensures unread { IfErr result (λ fault. IsUnread fault → reader.new ≡ reader.old) }
     ensures kept { OnErr result (out.new ≡ out.old) }
-
     ensures count { NeverFalls (R.faults reader.old) (R.faults reader.new) }
     ensures quiet { OnOk result (R.faults reader.new ≡ R.faults reader.old) }
+
+    // The hall afterwards, where the turn tells it.
+    ensures done { IfOk result (λ report. T.tells ≡ true → IfSome (T.kept turn.old)
+        (λ hall. IsDone header.now ask.now hall (T.kept turn.new) report)) }
+    ensures left { IfErr result (λ fault. T.tells ≡ true → IfSome (T.kept turn.old)
+        (λ hall. IsLeft header.now ask.now hall (T.kept turn.new) fault)) }
+
+    // Everything that was taken is given back, and nothing is published.
+    ensures begins { Begins (T.seen turn.old) (T.seen turn.new) }
+    ensures same { T.may_add turn.old ≡ true → T.seen turn.new ≡ T.seen turn.old }
+    ensures shape { T.shape turn.new ≡ T.shape turn.old }
+    ensures may_add { T.may_add turn.new ≡ T.may_add turn.old }
+    ensures lock { T.lock turn.new ≡ T.lock turn.old }
+    ensures given { T.given turn.new ≡ None }
 {
     let plan = plan(alloc, header, ask)?;
-    let mut block = vec![in alloc; 0u8; header.block_bytes(ask.field) as usize]?;
-    let mut bytes = replace(out, Bytes::new(alloc)).into_vec();
-    let answered = append_answer(header, ask, &plan, edition, reader, &mut block, &mut bytes);
-    *out = Bytes::from_vec(bytes);
-    answered
+    let room = room_of(turn);
+    answer_plan(alloc, header, ask, &plan, room, turn, reader, out)
 }
 
-/// Appends the answer of a plan, by way of a buffer that a block of the field fills.
-fn append_answer<E: Blocks, R: Reader<E::Leaf>>(
+/// Appends the answer of a plan out of a hall whose cache has room for so many blocks.
+fn answer_plan<E: Blocks + Drop, T: Turn<Hall<E>>, R: Reader<E::Leaf>>(
+    alloc: Global,
     header: &Header,
     ask: &Ask,
     plan: &Plan,
-    edition: &E,
+    room: u64,
+    turn: &mut T,
     reader: &mut R,
-    block: &mut [u8],
-    out: &mut Vec<u8>,
-) -> Result<Once, QueryFault>
+    out: &mut Bytes,
+) -> Result<Report, QueryFault>
     requires field { ask.now.field < length header.now.fields }
     requires axes { length ask.now.region ≡ length header.now.box }
-    requires shape { E.shape edition.now ≡ shape_of header.now }
+    requires shape { T.shape turn.old ≡ shape_of header.now }
+    requires given { T.given turn.old ≡ None }
     requires plan { IsPlanOf header.now ask.now plan.now }
     requires sound { plan_fault header.now ask.now ≡ None }
-    requires block { length block.old ≡ block_bytes header.now ask.now.field }
-    ensures answer { OnOk result (IfSome (E.stored edition.now)
-        (λ stored. out.new.items ≡ out.old.items ++ answer_of header.now ask.now stored)) }
-    ensures front { OnOk result (take (length out.old.items) out.new.items ≡ out.old.items) }
-    ensures length { OnOk result
-        (length out.new.items ≡ length out.old.items + answer_bytes header.now ask.now) }
-    ensures once { IfOk result (λ once. once.reads + once.absent ≡ length (needed header.now ask.now)) }
-    ensures absent { IfOk result (λ once.
-        once.absent ≡ lacking (E.has edition.now ask.now.field) (needed header.now ask.now)) }
-    ensures reads { IfOk result (λ once. MadeReads (R.reads reader.old) (R.reads reader.new) once.reads) }
-    ensures cause { IfErr result (IsCaused header.now ask.now
-        (R.faults reader.old) (R.faults reader.new) (R.reads reader.old) (R.reads reader.new)) }
+    ensures answered { IfOk result (λ report.
+        IsAnswered header.now ask.now (T.seen turn.new) out.old out.new report) }
+    ensures reads { IfOk result (λ report. MadeReads (R.reads reader.old) (R.reads reader.new) report.reads) }
+    ensures cause { IfErr result (IsCaused header.now ask.now (T.seen turn.new)
+        (R.faults reader.old) (R.faults reader.new)) }
+    ensures unpublished { T.may_add turn.old ≡ true → Lacks ask.now.time (T.seen turn.old) →
+        (result ≡ Err (QueryFault.NotPublished (length (T.seen turn.old)))) ⊎ (result ≡ Err QueryFault.NoMemory) }
+    ensures unread { IfErr result (λ fault. IsUnread fault → reader.new ≡ reader.old) }
+    ensures kept { OnErr result (out.new ≡ out.old) }
+    ensures count { NeverFalls (R.faults reader.old) (R.faults reader.new) }
+    ensures quiet { OnOk result (R.faults reader.new ≡ R.faults reader.old) }
+    ensures done { IfOk result (λ report. T.tells ≡ true → IfSome (T.kept turn.old)
+        (λ hall. IsDone header.now ask.now hall (T.kept turn.new) report)) }
+    ensures left { IfErr result (λ fault. T.tells ≡ true → IfSome (T.kept turn.old)
+        (λ hall. IsLeft header.now ask.now hall (T.kept turn.new) fault)) }
+    ensures begins { Begins (T.seen turn.old) (T.seen turn.new) }
+    ensures same { T.may_add turn.old ≡ true → T.seen turn.new ≡ T.seen turn.old }
+    ensures shape { T.shape turn.new ≡ T.shape turn.old }
+    ensures may_add { T.may_add turn.new ≡ T.may_add turn.old }
+    ensures lock { T.lock turn.new ≡ T.lock turn.old }
+    ensures given { T.given turn.new ≡ None }
+{
+    let keys = plan.keys().len() as u64;
+    let looked = Looked::new(alloc, keys)?;
+    let bytes = header.block_bytes(ask.field) as usize;
+    let loading = Loading::new(alloc, keys, room, bytes)?;
+    let mut appended = replace(out, Bytes::new(alloc)).into_vec();
+    let answered = append_answer(
+        header,
+        ask,
+        plan,
+        turn,
+        reader,
+        looked,
+        loading,
+        &mut appended,
+    );
+    *out = Bytes::from_vec(appended);
+    answered
+}
+
+/// Appends the answer of a plan, with what its round needs in memory.
+fn append_answer<E: Blocks + Drop, T: Turn<Hall<E>>, R: Reader<E::Leaf>>(
+    header: &Header,
+    ask: &Ask,
+    plan: &Plan,
+    turn: &mut T,
+    reader: &mut R,
+    looked: Looked<E>,
+    loading: Loading,
+    out: &mut Vec<u8>,
+) -> Result<Report, QueryFault>
+    requires field { ask.now.field < length header.now.fields }
+    requires axes { length ask.now.region ≡ length header.now.box }
+    requires shape { T.shape turn.old ≡ shape_of header.now }
+    requires given { T.given turn.old ≡ None }
+    requires plan { IsPlanOf header.now ask.now plan.now }
+    requires sound { plan_fault header.now ask.now ≡ None }
+    requires empty { looked ≡ not_looked looked.room }
+    requires many { length plan.now.keys ≤ looked.room }
+    requires loading { loading ≡ load_state 0 [] (block_bytes header.now ask.now.field) }
+    ensures answered { IfOk result (λ report.
+        IsAnswered header.now ask.now (T.seen turn.new) out.old.items out.new.items report) }
+    ensures reads { IfOk result (λ report. MadeReads (R.reads reader.old) (R.reads reader.new) report.reads) }
+    ensures cause { IfErr result (IsCaused header.now ask.now (T.seen turn.new)
+        (R.faults reader.old) (R.faults reader.new)) }
+    ensures unpublished { T.may_add turn.old ≡ true → Lacks ask.now.time (T.seen turn.old) →
+        (result ≡ Err (QueryFault.NotPublished (length (T.seen turn.old)))) ⊎ (result ≡ Err QueryFault.NoMemory) }
+    ensures unread { IfErr result (λ fault. IsUnread fault → reader.new ≡ reader.old) }
     ensures kept { OnErr result (out.new.items ≡ out.old.items) }
     ensures count { NeverFalls (R.faults reader.old) (R.faults reader.new) }
     ensures quiet { OnOk result (R.faults reader.new ≡ R.faults reader.old) }
+    ensures done { IfOk result (λ report. T.tells ≡ true → IfSome (T.kept turn.old)
+        (λ hall. IsDone header.now ask.now hall (T.kept turn.new) report)) }
+    ensures left { IfErr result (λ fault. T.tells ≡ true → IfSome (T.kept turn.old)
+        (λ hall. IsLeft header.now ask.now hall (T.kept turn.new) fault)) }
+    ensures begins { Begins (T.seen turn.old) (T.seen turn.new) }
+    ensures same { T.may_add turn.old ≡ true → T.seen turn.new ≡ T.seen turn.old }
+    ensures shape { T.shape turn.new ≡ T.shape turn.old }
+    ensures may_add { T.may_add turn.new ≡ T.may_add turn.old }
+    ensures lock { T.lock turn.new ≡ T.lock turn.old }
+    ensures given { T.given turn.new ≡ None }
 {
     let used = out.len();
     out.resize(used + plan.bytes() as usize, 0)?;
-    match copy_blocks(plan, ask.field, edition, reader, block, &mut out[used..]) {
-        Ok(once) => Ok(once),
-        Err(Outage) => {
+    match answer_round(
+        header,
+        ask,
+        plan,
+        turn,
+        reader,
+        looked,
+        loading,
+        &mut out[used..],
+    ) {
+        Ok(report) => Ok(report),
+        Err(fault) => {
             out.truncate(used);
-            Err(QueryFault::StoreFault {
-                faults: reader.faults(),
-            })
+            Err(fault)
         }
     }
 }

@@ -1,69 +1,109 @@
-ghost use Rattle.std.specs.Prelude.{◌≡◌, ◌↔◌, ◌+◌, ◌*◌, ◌^◌, ◌<◌, All, IfOk, IfSome, OnErr, OnOk, Some, false, length, slice_get, slice_index};
-ghost use Rattle.idx_outside.specs.Cause.{MadeReads, NeverFalls, Rose};
+ghost use Rattle.std.specs.Prelude.{◌≡◌, ◌↔◌, ◌+◌, ◌*◌, ◌^◌, ◌<◌, All, IfErr, IfOk, OnOk, Some, false, length, slice_get, slice_index};
+ghost use Rattle.idx_outside.specs.Cause.{MadeReads, NeverFalls};
 ghost use Rattle.idx_scatter.specs.Scatter.{IsScattered};
-ghost use Rattle.idx_query.specs.Blocks.{AreCopied, blocks_of, lacking};
+ghost use Rattle.idx_query.specs.Steps.{AreDone, AreFound, IsBlock, IsCameBy, IsStoreFault, with_block};
 
-use crate::Once;
-use idx_hall::Key;
+use crate::loading::Loading;
+use crate::{QueryFault, Report};
+use idx_hall::{Key, Looked};
 use idx_outside::{Blocks, Fetched, Outage, Reader};
 use idx_plan::Plan;
 
-/// Copies the samples of the blocks of a plan to their places in the answer, each block once and in rising order, by way
-/// of a buffer that a block of the field fills. Takes no memory.
-pub(crate) fn copy_blocks<E: Blocks, R: Reader<E::Leaf>>(
+/// Copies the samples of the blocks of a plan to their places in the answer, in rising order. What was not found is
+/// fetched, each block once.
+pub(crate) fn copy_blocks<E: Blocks + Drop, R: Reader<E::Leaf>>(
     plan: &Plan,
     field: u32,
     edition: &E,
+    post: u64,
+    looked: &Looked<E>,
+    loading: &mut Loading,
     reader: &mut R,
-    block: &mut [u8],
     out: &mut [u8],
-) -> Result<Once, Outage>
+) -> Result<Report, QueryFault>
     requires field { field < length (E.shape edition.now).lengths }
     requires exist { All (λ key. key.block < (E.shape edition.now).blocks) plan.now.keys }
-    requires length { length block.old ≡ slice_index (E.shape edition.now).lengths field }
-    requires block { length block.old ≡ plan.now.size * 2 ^ plan.now.bits }
+    requires bytes { loading.old.bytes ≡ slice_index (E.shape edition.now).lengths field }
+    requires block { loading.old.bytes ≡ plan.now.size * 2 ^ plan.now.bits }
+    requires count { length looked.now.found ≡ length plan.now.keys }
+    requires found { AreFound loading.old.bytes field (E.stored edition.now) plan.now.keys looked.now.found }
     requires room { length out.old ≡ plan.now.bytes }
-    ensures copied { OnOk result (IfSome (E.stored edition.now)
-        (λ stored. AreCopied plan.now (stored field) (blocks_of plan.now.keys) out.new)) }
+    ensures done { IfOk result (λ report. AreDone plan.now field (E.has edition.now field) (E.stored edition.now)
+        looked.now.found (length plan.now.keys) (R.reads reader.old) (R.reads reader.new)
+        loading.old loading.new report out.new) }
+    ensures post { IfOk result (λ report. report.post ≡ post) }
     ensures room { OnOk result (length out.new ≡ plan.now.bytes) }
-    ensures once { IfOk result (λ once. once.reads + once.absent ≡ length plan.now.keys) }
-    ensures absent { IfOk result (λ once. once.absent ≡ lacking (E.has edition.now field) (blocks_of plan.now.keys)) }
-    ensures reads { IfOk result (λ once. MadeReads (R.reads reader.old) (R.reads reader.new) once.reads) }
     ensures count { NeverFalls (R.faults reader.old) (R.faults reader.new) }
     ensures quiet { OnOk result (R.faults reader.new ≡ R.faults reader.old) }
-    ensures cause { OnErr result (Rose (R.faults reader.old) (R.faults reader.new)) }
+    ensures cause { IfErr result (IsStoreFault (R.faults reader.old) (R.faults reader.new)) }
 {
-    let mut once = Once {
-        reads: 0,
-        absent: 0,
-    };
+    let mut report = Report::new(post);
     for i in 0..plan.keys().len() {
-        let fetched = copy_block(plan, i as u64, field, edition, reader, block, out)?;
-        once = once.with(fetched);
+        report = copy_key(
+            plan, i as u64, field, edition, report, looked, loading, reader, out,
+        )?;
     }
-    Ok(once)
+    Ok(report)
 }
 
 /// Copies the samples of the block of a key to their places in the answer.
-fn copy_block<E: Blocks, R: Reader<E::Leaf>>(
+fn copy_key<E: Blocks + Drop, R: Reader<E::Leaf>>(
     plan: &Plan,
     i: u64,
     field: u32,
     edition: &E,
+    report: Report,
+    looked: &Looked<E>,
+    loading: &mut Loading,
     reader: &mut R,
-    block: &mut [u8],
     out: &mut [u8],
-) -> Result<Fetched, Outage>
+) -> Result<Report, QueryFault>
     requires key { i < length plan.now.keys }
     requires field { field < length (E.shape edition.now).lengths }
     requires exist { All (λ key. key.block < (E.shape edition.now).blocks) plan.now.keys }
-    requires length { length block.old ≡ slice_index (E.shape edition.now).lengths field }
-    requires block { length block.old ≡ plan.now.size * 2 ^ plan.now.bits }
+    requires bytes { loading.old.bytes ≡ slice_index (E.shape edition.now).lengths field }
+    requires block { loading.old.bytes ≡ plan.now.size * 2 ^ plan.now.bits }
+    requires count { length looked.now.found ≡ length plan.now.keys }
+    requires found { AreFound loading.old.bytes field (E.stored edition.now) plan.now.keys looked.now.found }
     requires room { length out.old ≡ plan.now.bytes }
-    ensures copied { OnOk result ((key : Key) → slice_get plan.now.keys i ≡ Some key →
-        IsScattered plan.now.asked plan.now.bits key.block plan.now.size block.new out.old out.new) }
-    ensures bytes { OnOk result ((key : Key) → slice_get plan.now.keys i ≡ Some key →
-        IfSome (E.stored edition.now) (λ stored. block.new ≡ stored field key.block)) }
+    requires hits { report.hits < 2 ^ 63 }
+    requires reads { report.reads < 2 ^ 63 }
+    requires absent { report.absent < 2 ^ 63 }
+    ensures came { IfOk result (λ new. IsCameBy plan.now field (E.has edition.now field) (E.stored edition.now)
+        looked.now.found i (R.reads reader.old) (R.reads reader.new) loading.old loading.new
+        report new out.old out.new) }
+    ensures count { NeverFalls (R.faults reader.old) (R.faults reader.new) }
+    ensures quiet { OnOk result (R.faults reader.new ≡ R.faults reader.old) }
+    ensures cause { IfErr result (IsStoreFault (R.faults reader.old) (R.faults reader.new)) }
+{
+    if let Some(block) = looked.found(i) {
+        plan.copy(i, block.as_slice(), out);
+        return Ok(report.with_hit());
+    }
+    let fetched = load_block(plan, i, field, edition, loading, reader, out)?;
+    Ok(report.with(fetched))
+}
+
+/// Fetches the block of a key, copies its samples to their places, and keeps it for the cache.
+fn load_block<E: Blocks, R: Reader<E::Leaf>>(
+    plan: &Plan,
+    i: u64,
+    field: u32,
+    edition: &E,
+    loading: &mut Loading,
+    reader: &mut R,
+    out: &mut [u8],
+) -> Result<Fetched, QueryFault>
+    requires key { i < length plan.now.keys }
+    requires field { field < length (E.shape edition.now).lengths }
+    requires exist { All (λ key. key.block < (E.shape edition.now).blocks) plan.now.keys }
+    requires bytes { loading.old.bytes ≡ slice_index (E.shape edition.now).lengths field }
+    requires block { loading.old.bytes ≡ plan.now.size * 2 ^ plan.now.bits }
+    requires room { length out.old ≡ plan.now.bytes }
+    ensures loaded { OnOk result ((key : Key) → slice_get plan.now.keys i ≡ Some key → (bytes : _) ×
+        IsBlock loading.old.bytes field (E.stored edition.now) (key, bytes) ×
+        (loading.new ≡ with_block (key, bytes) loading.old) ×
+        IsScattered plan.now.asked plan.now.bits key.block plan.now.size bytes out.old out.new) }
     ensures absent { IfOk result (λ fetched. (key : Key) → slice_get plan.now.keys i ≡ Some key →
         (fetched ≡ Fetched.Absent) ↔ (E.has edition.now field key.block ≡ false)) }
     ensures no_read { IfOk result (λ fetched. fetched ≡ Fetched.Absent → reader.new ≡ reader.old) }
@@ -71,10 +111,18 @@ fn copy_block<E: Blocks, R: Reader<E::Leaf>>(
         MadeReads (R.reads reader.old) (R.reads reader.new) 1) }
     ensures count { NeverFalls (R.faults reader.old) (R.faults reader.new) }
     ensures quiet { OnOk result (R.faults reader.new ≡ R.faults reader.old) }
-    ensures cause { OnErr result (Rose (R.faults reader.old) (R.faults reader.new)) }
+    ensures cause { IfErr result (IsStoreFault (R.faults reader.old) (R.faults reader.new)) }
 {
     let key = plan.keys()[i as usize];
-    let fetched = edition.fetch(reader, field, key.block, block)?;
-    plan.copy(i, block, out);
-    Ok(fetched)
+    let mut block = loading.buffer()?;
+    match edition.fetch(reader, field, key.block, &mut block) {
+        Ok(fetched) => {
+            plan.copy(i, &block, out);
+            loading.keep(key, block)?;
+            Ok(fetched)
+        }
+        Err(Outage) => Err(QueryFault::StoreFault {
+            faults: reader.faults(),
+        }),
+    }
 }

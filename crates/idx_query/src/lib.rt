@@ -1,13 +1,16 @@
-//! Answers to questions, out of the blocks of a step.
+//! Answers to questions, out of the published steps and the cache of their blocks.
 #![tactic(auto)]
 
 mod answering;
 mod copying;
-mod once;
+mod loading;
 mod query_fault;
+mod report;
+mod rounds;
+mod taking;
 #[cfg(test)]
 mod tests;
 
-pub use answering::answer_from;
-pub use once::Once;
+pub use answering::answer;
 pub use query_fault::QueryFault;
+pub use report::Report;

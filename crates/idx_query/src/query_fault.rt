@@ -13,6 +13,12 @@ pub enum QueryFault {
     /// The question has no plan. It is not for want of memory.
     #[error("the question has no plan")]
     Plan(PlanFault),
+    /// No step of the time was published in the hall that was taken.
+    #[error("the step is not published")]
+    NotPublished {
+        /// How many steps were published in it.
+        board: u64,
+    },
     /// A read of a block failed. The reader's count of faults is now this.
     #[error("a call on the store failed")]
     StoreFault {

@@ -1,13 +1,16 @@
-//! Answers out of the blocks of a step in memory.
-ghost use Rattle.std.specs.Prelude.{◌≡◌, ◌*◌, ◌==◌, ◌∷◌, [], Some, drop, if◌then◌else◌, length, not, replicate, take};
+//! Answers out of a hall of steps in memory.
+ghost use Rattle.std.specs.Prelude.{◌≡◌, ◌≤◌, ◌*◌, ◌==◌, ◌∷◌, [], IfOk, OnOk, Some, drop, if◌then◌else◌, length, not, replicate, take};
 
-use crate::{Once, QueryFault, answer_from};
+use crate::{QueryFault, Report, answer};
 use idx_geom::{Point, Region};
+use idx_hall::Hall;
 use idx_header::Header;
 use idx_outside::{Blocks, Bytes, Fetched, MemLeaf, MemReader, Outage, Reader};
 use idx_plan::{Ask, PlanFault};
+use idx_turn::Solo;
 use std::alloc::Global;
 use std::process::Abort;
+use std::sync::Arc;
 use std::test::Fail;
 
 /// A box of sixteen points in four blocks of four samples of one byte.
@@ -17,12 +20,16 @@ const BASE: &[u8] =
 /// The blocks of the volume whose samples are 00 to 0f.
 const STORED: [u8; 16] = [0, 2, 8, 10, 1, 9, 3, 11, 4, 5, 12, 13, 6, 7, 14, 15];
 
-/// No block has this number.
+/// The samples of the whole box.
+const WHOLE: [u8; 16] = [0, 1, 2, 3, 4, 5, 6, 7, 8, 9, 10, 11, 12, 13, 14, 15];
+
+/// No block and no read has this number.
 const NONE: u64 = 9;
 
 /// Four blocks of four bytes of one field, one after another in a file, of which one is taken to be absent.
 #[derive(Drop)]
 struct Step {
+    time: u64,
     leaf: MemLeaf,
     lacks: u64,
     ghost whole: { length leaf ≡ 16 },
@@ -31,7 +38,7 @@ struct Step {
 impl Blocks for Step {
     type Leaf = MemLeaf;
 
-    ghost time = { λ s. 0 };
+    ghost time = { λ s. s.time };
 
     ghost shape = { λ s. record { blocks = 4; lengths = 4 ∷ [] } };
 
@@ -41,7 +48,7 @@ impl Blocks for Step {
         if block == s.lacks then replicate 4 0 else take 4 (drop (4 * block) s.leaf)) };
 
     fn time(&self) -> u64 {
-        0
+        self.time
     }
 
     fn fetch<R: Reader<MemLeaf>>(
@@ -60,12 +67,12 @@ impl Blocks for Step {
     }
 }
 
-/// A question for the points between two corners.
-fn question(rt: &impl Abort, lo: &[u64], hi: &[u64], levels: (u32, u32)) -> Ask {
+/// A question for the points of a step between two corners.
+fn question(rt: &impl Abort, time: u64, lo: &[u64], hi: &[u64], levels: (u32, u32)) -> Ask {
     let lo = Point::new(lo).expect(rt, "a lower end");
     let hi = Point::new(hi).expect(rt, "an upper end");
     Ask {
-        time: 0,
+        time,
         field: 0,
         region: Region::new(lo, hi).expect(rt, "a region"),
         lo: levels.0,
@@ -73,42 +80,158 @@ fn question(rt: &impl Abort, lo: &[u64], hi: &[u64], levels: (u32, u32)) -> Ask 
     }
 }
 
-/// How a question is answered out of the step that lacks this block, where this read fails.
-#[tactic(auto, using(crate::proofs::ShapeLemmas::shape_one))]
-fn answered(
+/// A question for all points of a step on some levels.
+fn box_of(rt: &impl Abort, time: u64, lo: u32, hi: u32) -> Ask {
+    question(rt, time, &[0, 0], &[3, 3], (lo, hi))
+}
+
+/// A hall without a step, and with room for so many cached blocks.
+fn hall_with_room(alloc: Global, capacity: u32) -> Result<Hall<Step>, Fail>
+    requires some { 1 ≤ capacity }
+    requires few { capacity ≤ 65536 }
+    ensures { IfOk result (λ hall. hall.shape ≡ record { blocks = 4; lengths = 4 ∷ [] }) }
+{
+    Ok(Hall::new(alloc, capacity, 4, vec![in alloc; 4]?)?)
+}
+
+/// Publishes the step of a time, which lacks this block.
+fn publish(
     alloc: Global,
     rt: &impl Abort,
-    ask: &Ask,
+    hall: &mut Hall<Step>,
+    time: u64,
     lacks: u64,
+) -> Result<(), Fail>
+    requires { hall.old.shape ≡ record { blocks = 4; lengths = 4 ∷ [] } }
+    ensures { OnOk result (hall.new.shape ≡ record { blocks = 4; lengths = 4 ∷ [] }) }
+{
+    let leaf = MemLeaf::new(Bytes::from_slice(alloc, &STORED)?);
+    let step = Arc::new(alloc, Step { time, leaf, lacks })?;
+    assert!(rt; hall.publish(step).is_ok());
+    Ok(())
+}
+
+/// What came of a question: the answer, how many reads were tried, and the hall.
+#[derive(Drop)]
+struct Outcome {
+    answer: Result<Report, QueryFault>,
+    reads: u64,
+    hall: Hall<Step>,
+}
+
+/// Asks a question of a hall, where this read fails.
+#[tactic(auto, using(crate::proofs::ShapeLemmas::shape_one))]
+fn ask_hall(
+    alloc: Global,
+    rt: &impl Abort,
+    hall: Hall<Step>,
+    ask: &Ask,
     fails: u64,
     out: &mut Bytes,
-) -> Result<Result<Once, QueryFault>, Fail> {
+) -> Result<Outcome, Fail>
+    requires { hall.shape ≡ record { blocks = 4; lengths = 4 ∷ [] } }
+    ensures { IfOk result (λ outcome. outcome.hall.shape ≡ record { blocks = 4; lengths = 4 ∷ [] }) }
+{
     let header = Header::read(alloc, BASE).ok().expect(rt, "a header");
-    let step = Step {
-        leaf: MemLeaf::new(Bytes::from_slice(alloc, &STORED)?),
-        lacks,
-    };
     let mut reader = MemReader::new(Vec::from_slice(alloc, &[fails])?);
+    let mut solo = Solo::new(hall);
     assert_eq!(rt; header.field_count(), 1);
     assert_eq!(rt; header.block_count(), 4);
     assert_eq!(rt; header.block_bytes(0), 4);
     assert_eq!(rt; ask.field, 0);
     assert!(rt; ask.region.axes() == header.axes());
-    Ok(answer_from(alloc, &header, ask, &step, &mut reader, out))
+    let answer = answer(alloc, &header, ask, &mut solo, &mut reader, out);
+    Ok(Outcome {
+        answer,
+        reads: reader.reads(),
+        hall: solo.end(),
+    })
+}
+
+/// How a question is answered twice out of a hall, where no read fails: both reports, and how many blocks are cached
+/// then.
+fn twice(
+    alloc: Global,
+    rt: &impl Abort,
+    hall: Hall<Step>,
+    ask: &Ask,
+    out: &mut Bytes,
+) -> Result<(Report, Report, u64), Fail>
+    requires { hall.shape ≡ record { blocks = 4; lengths = 4 ∷ [] } }
+{
+    let first = ask_hall(alloc, rt, hall, ask, NONE, out)?;
+    let report = first.answer.ok().expect(rt, "a report");
+    assert_eq!(rt; first.reads, report.reads);
+    let second = ask_hall(alloc, rt, first.hall, ask, NONE, out)?;
+    let again = second.answer.ok().expect(rt, "a report");
+    assert_eq!(rt; second.reads, again.reads);
+    Ok((report, again, second.hall.cache_len()))
+}
+
+/// A report of an answer out of step number 0.
+fn report(hits: u64, reads: u64, absent: u64) -> Report {
+    Report {
+        post: 0,
+        hits,
+        reads,
+        absent,
+    }
+}
+
+/// How the whole box is answered twice, with room for so many cached blocks.
+fn whole_twice(alloc: Global, rt: &impl Abort, capacity: u32) -> Result<(Report, Report, u64), Fail>
+    requires some { 1 ≤ capacity }
+    requires few { capacity ≤ 65536 }
+{
+    let mut out = Bytes::new(alloc);
+    let mut hall = hall_with_room(alloc, capacity)?;
+    publish(alloc, rt, &mut hall, 0, NONE)?;
+    let reports = twice(alloc, rt, hall, &box_of(rt, 0, 0, 4), &mut out)?;
+    assert!(rt; out.as_slice().iter().eq(WHOLE.iter().chain(WHOLE.iter())));
+    Ok(reports)
 }
 
 #[test]
-fn fine_levels_come_out_of_three_blocks(rt: HostRuntime) -> Result<(), Fail> {
-    let mut out = Bytes::from_slice(rt.alloc(), &[7])?;
-    let ask = question(&rt, &[0, 0], &[3, 3], (3, 4));
-    let once = answered(rt.alloc(), &rt, &ask, NONE, 0, &mut out)?;
+fn a_cached_block_costs_no_read(rt: HostRuntime) -> Result<(), Fail> {
+    let all_cached = (report(0, 4, 0), report(4, 0, 0), 4);
+    assert_eq!(rt; whole_twice(rt.alloc(), &rt, 4)?, all_cached);
+    assert_eq!(rt; whole_twice(rt.alloc(), &rt, 9)?, all_cached);
+    Ok(())
+}
+
+#[test]
+fn a_cache_of_one_block_keeps_the_last(rt: HostRuntime) -> Result<(), Fail> {
     assert_eq!(rt;
-        once,
-        Ok(Once {
-            reads: 3,
-            absent: 0
-        })
+        whole_twice(rt.alloc(), &rt, 1)?,
+        (report(0, 4, 0), report(1, 3, 0), 1)
     );
+    Ok(())
+}
+
+#[test]
+fn an_absent_block_is_zeros_and_is_cached(rt: HostRuntime) -> Result<(), Fail> {
+    let alloc = rt.alloc();
+    let ask = box_of(&rt, 0, 3, 4);
+    let mut out = Bytes::new(alloc);
+    let mut hall = hall_with_room(alloc, 4)?;
+    publish(alloc, &rt, &mut hall, 0, 1)?;
+    let reports = twice(alloc, &rt, hall, &ask, &mut out)?;
+    assert_eq!(rt; reports, (report(0, 2, 1), report(3, 0, 0), 3));
+    let zeros: [u8; 12] = [0, 0, 4, 5, 6, 7, 0, 0, 12, 13, 14, 15];
+    assert!(rt; out.as_slice().iter().eq(zeros.iter().chain(zeros.iter())));
+    Ok(())
+}
+
+#[test]
+fn fine_levels_stand_behind_what_was_there(rt: HostRuntime) -> Result<(), Fail> {
+    let alloc = rt.alloc();
+    let ask = box_of(&rt, 0, 3, 4);
+    let mut out = Bytes::from_slice(alloc, &[7])?;
+    let mut hall = hall_with_room(alloc, 4)?;
+    publish(alloc, &rt, &mut hall, 0, NONE)?;
+    let asked = ask_hall(alloc, &rt, hall, &ask, NONE, &mut out)?;
+    assert_eq!(rt; asked.answer, Ok(report(0, 3, 0)));
+    assert_eq!(rt; asked.reads, 3);
     assert_eq!(rt;
         out.as_slice(),
         [7, 1, 3, 4, 5, 6, 7, 9, 11, 12, 13, 14, 15].as_slice()
@@ -117,62 +240,84 @@ fn fine_levels_come_out_of_three_blocks(rt: HostRuntime) -> Result<(), Fail> {
 }
 
 #[test]
-fn an_absent_block_is_zeros(rt: HostRuntime) -> Result<(), Fail> {
-    let mut out = Bytes::new(rt.alloc());
-    let ask = question(&rt, &[0, 0], &[3, 3], (3, 4));
-    let once = answered(rt.alloc(), &rt, &ask, 1, 0, &mut out)?;
-    assert_eq!(rt;
-        once,
-        Ok(Once {
-            reads: 2,
-            absent: 1
-        })
-    );
-    assert_eq!(rt;
-        out.as_slice(),
-        [0, 0, 4, 5, 6, 7, 0, 0, 12, 13, 14, 15].as_slice()
-    );
-    Ok(())
-}
-
-#[test]
-fn a_failed_read_leaves_the_bytes(rt: HostRuntime) -> Result<(), Fail> {
-    let ask = question(&rt, &[0, 0], &[3, 3], (0, 4));
-    for fails in [1, 2, 3, 4] {
-        let mut out = Bytes::from_slice(rt.alloc(), &[7])?;
-        let once = answered(rt.alloc(), &rt, &ask, NONE, fails, &mut out)?;
-        assert_eq!(rt; once, Err(QueryFault::StoreFault { faults: 1 }));
-        assert_eq!(rt; out.as_slice(), [7].as_slice());
-    }
-    Ok(())
-}
-
-#[test]
 fn no_sample_costs_no_read(rt: HostRuntime) -> Result<(), Fail> {
-    let mut out = Bytes::new(rt.alloc());
-    let ask = question(&rt, &[1, 1], &[1, 1], (0, 0));
-    let once = answered(rt.alloc(), &rt, &ask, NONE, 1, &mut out)?;
-    assert_eq!(rt;
-        once,
-        Ok(Once {
-            reads: 0,
-            absent: 0
-        })
-    );
+    let alloc = rt.alloc();
+    let ask = question(&rt, 0, &[1, 1], &[1, 1], (0, 0));
+    let mut out = Bytes::new(alloc);
+    let mut hall = hall_with_room(alloc, 4)?;
+    publish(alloc, &rt, &mut hall, 0, NONE)?;
+    let asked = ask_hall(alloc, &rt, hall, &ask, 1, &mut out)?;
+    assert_eq!(rt; asked.answer, Ok(report(0, 0, 0)));
+    assert_eq!(rt; asked.reads, 0);
     assert!(rt; out.is_empty());
     Ok(())
 }
 
 #[test]
-fn a_question_without_a_plan_is_refused(rt: HostRuntime) -> Result<(), Fail> {
-    let mut out = Bytes::new(rt.alloc());
-    let ask = question(&rt, &[0, 0], &[3, 3], (3, 2));
-    let once = answered(rt.alloc(), &rt, &ask, NONE, 1, &mut out)?;
+fn a_failed_read_leaves_the_bytes_and_the_cache(rt: HostRuntime) -> Result<(), Fail> {
+    let alloc = rt.alloc();
+    let ask = box_of(&rt, 0, 0, 4);
+    for fails in [1, 2, 3, 4] {
+        let mut out = Bytes::new(alloc);
+        let mut hall = hall_with_room(alloc, 4)?;
+        publish(alloc, &rt, &mut hall, 0, NONE)?;
+        let failed = ask_hall(alloc, &rt, hall, &ask, fails, &mut out)?;
+        assert_eq!(rt; failed.answer, Err(QueryFault::StoreFault { faults: 1 }));
+        assert_eq!(rt; failed.reads, fails);
+        assert_eq!(rt; failed.hall.cache_len(), 0);
+        assert!(rt; out.is_empty());
+        let asked = ask_hall(alloc, &rt, failed.hall, &ask, NONE, &mut out)?;
+        assert_eq!(rt; asked.answer, Ok(report(0, 4, 0)));
+        assert_eq!(rt; out.as_slice(), WHOLE.as_slice());
+    }
+    Ok(())
+}
+
+#[test]
+fn a_time_that_lacks_costs_no_read(rt: HostRuntime) -> Result<(), Fail> {
+    let alloc = rt.alloc();
+    let ask = box_of(&rt, 5, 0, 4);
+    let mut out = Bytes::from_slice(alloc, &[7])?;
+    let hall = hall_with_room(alloc, 4)?;
+    let empty = ask_hall(alloc, &rt, hall, &ask, 1, &mut out)?;
+    assert_eq!(rt; empty.answer, Err(QueryFault::NotPublished { board: 0 }));
+    let mut hall = empty.hall;
+    publish(alloc, &rt, &mut hall, 0, NONE)?;
+    let lacks = ask_hall(alloc, &rt, hall, &ask, 1, &mut out)?;
+    assert_eq!(rt; lacks.answer, Err(QueryFault::NotPublished { board: 1 }));
+    assert_eq!(rt; (empty.reads, lacks.reads), (0, 0));
+    assert_eq!(rt; out.as_slice(), [7].as_slice());
+    Ok(())
+}
+
+#[test]
+fn a_question_without_a_plan_is_refused_first(rt: HostRuntime) -> Result<(), Fail> {
+    let alloc = rt.alloc();
+    let ask = box_of(&rt, 5, 3, 2);
+    let mut out = Bytes::new(alloc);
+    let hall = hall_with_room(alloc, 4)?;
+    let asked = ask_hall(alloc, &rt, hall, &ask, 1, &mut out)?;
     let fault = PlanFault::BadLevels {
         lo: 3,
         hi: 2,
         max: 4,
     };
-    assert_eq!(rt; once, Err(QueryFault::Plan(fault)));
+    assert_eq!(rt; asked.answer, Err(QueryFault::Plan(fault)));
+    assert_eq!(rt; asked.reads, 0);
+    Ok(())
+}
+
+#[test]
+fn the_report_has_the_number_of_the_step(rt: HostRuntime) -> Result<(), Fail> {
+    let alloc = rt.alloc();
+    let ask = box_of(&rt, 1, 0, 4);
+    let mut out = Bytes::new(alloc);
+    let mut hall = hall_with_room(alloc, 4)?;
+    publish(alloc, &rt, &mut hall, 0, 0)?;
+    publish(alloc, &rt, &mut hall, 1, NONE)?;
+    let asked = ask_hall(alloc, &rt, hall, &ask, NONE, &mut out)?;
+    let post = asked.answer.ok().map(|report| report.post);
+    assert_eq!(rt; post, Some(1));
+    assert_eq!(rt; out.as_slice(), WHOLE.as_slice());
     Ok(())
 }

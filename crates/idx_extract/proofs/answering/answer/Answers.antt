@@ -21,14 +21,14 @@ returns-in-Err-open_step-clause-cause g c =
     c.in-Err-open_step.ensures.cause c.args.query.now (sym (ap (λ (q : QueryValue). q.time) c.query.view_is))
     (c.in-Ok.ask, (c.in-Ok.ensures.asked, c.in-Ok.ensures.sound))
 
-pub returns-in-Ok-answer_from-clause-extracted : goal.returns-in-Ok-answer_from-clause-extracted
-returns-in-Ok-answer_from-clause-extracted g c =
+pub returns-in-Ok-answer_alone-clause-extracted : goal.returns-in-Ok-answer_alone-clause-extracted
+returns-in-Ok-answer_alone-clause-extracted g c =
     let bay = g.B.Bay in
     let ask = c.in-Ok.ask in
     let asked = c.in-Ok.ensures.asked in
     let opened = c.in-Ok-open_step.ensures in
     let edition = c.in-Ok-open_step.edition in
-    let done = c.in-Ok-answer_from.ensures in
+    let done = c.in-Ok-answer_alone.ensures in
     let leaves = shown g.B.Leaf.Leaf.contents edition.leaves.items in
     let time = ap (λ (q : QueryValue). q.time) c.query.view_is ∙ sym (ap (λ (a : Ask). a.time) asked.same) in
     record {
@@ -38,8 +38,8 @@ returns-in-Ok-answer_from-clause-extracted g c =
       many = omega (arith, done.length, ap length c.new-bytes.ensures);
       stored =
           is_answer_known (bay.files c.args.bay.now) c.args.header.now ask c.query.inside.time (shape_in edition.tables) (has_in_tables edition.tables)
-          (stored_in edition.tables leaves) leaves (length edition.leaves.items) c.in-Ok-answer_from.field-0
-          (g.R.Reader.reads c.args.reader.now) (g.R.Reader.reads c.open_step.new.reader) (g.R.Reader.reads c.answer_from.new.reader) c.new-bytes.result c.answer_from.new.out
+          (stored_in edition.tables leaves) leaves (length edition.leaves.items) c.in-Ok-answer_alone.field-0
+          (g.R.Reader.reads c.args.reader.now) (g.R.Reader.reads c.open_step.new.reader) (g.R.Reader.reads c.answer_alone.new.reader) c.new-bytes.result c.answer_alone.new.out
           time opened.holds opened.stands opened.shape asked.field c.in-Ok.ensures.valid.bits_within
           (sym (length-map edition.leaves.items (entry_shown g.B.Leaf.Leaf.contents)))
           opened.reads done.reads done.once done.absent c.new-bytes.ensures done.answer;

@@ -1,24 +1,35 @@
-use Rattle.std.proofs.Common.{◌<◌, List, length, ap, ◌∙◌, arith}
-use Rattle.idx_hall.specs.declared.key.Key.{Key}
-use Rattle.idx_query.proofs.CopyLemmas.{copied-more, counted-more, key_at, key-stands}
+use Rattle.std.proofs.Common.{refl, ap, sym, ◌∙◌, subst, arith, rules}
+use Rattle.idx_query.specs.declared.report.Report.{Report}
+use Rattle.idx_query.specs.Steps.{AreFound}
+use Rattle.idx_query.proofs.DoneLemmas.{came-post, done-bytes, done-first, done-more}
 use Rattle.idx_query.proofs.copying.copy_blocks.Goals as goal
+
+pub loop-i-init : goal.loop-i-init
+loop-i-init g c =
+    let report = c.new-report.ensures in
+    record {
+      within = omega arith;
+      room = refl;
+      post = ap (λ (r : Report). r.post) report;
+      quiet = refl;
+      done = done-first c.args.plan.now c.args.field (g.E.Blocks.has c.args.edition.now c.args.field) (g.E.Blocks.stored c.args.edition.now) c.args.looked.now.found (g.R.Reader.reads c.args.reader.now)
+          c.args.loading.now c.args.post c.new-report.result c.args.out.now report;
+    }
+
+pub copy_key-requires-clause-found : goal.copy_key-requires-clause-found
+copy_key-requires-clause-found g c =
+    subst (λ n. AreFound n c.args.field (g.E.Blocks.stored c.args.edition.now) c.args.plan.now.keys c.args.looked.now.found) (sym (done-bytes c.loop-i.invariant.done)) c.requires.found
 
 pub loop-i-preserved : goal.loop-i-preserved
 loop-i-preserved g c =
-    let plan = c.args.plan.now in
-    let i = c.loop-i.i in
     let before = c.loop-i.invariant in
-    let came = c.in_ok-fetched.ensures in
-    let within : i < length plan.keys = omega (arith, ap (λ (ks : List Key). length ks) c.keys-i-end.ensures) in
-    let key = key_at plan.keys i in
-    let at = key-stands plan.keys i within in
+    let came = c.in_ok-report.ensures in
     record {
-      within = omega arith;
-      block = omega arith;
-      room = omega arith;
+      within = search rules;
+      room = search rules;
+      post = came-post came.came ∙ before.post;
       quiet = came.quiet ∙ before.quiet;
-      counted = counted-more (g.E.Blocks.has c.args.edition.now c.args.field) plan.keys i (g.R.Reader.reads c.args.reader.now) (g.R.Reader.reads c.loop-i.reader) (g.R.Reader.reads c.copy_block.new.reader)
-          c.loop-i.once c.with-once.result c.in_ok-fetched.fetched within before.counted c.with-once.ensures.read c.with-once.ensures.absent (came.absent key at)
-          (λ e. ap g.R.Reader.reads (came.no_read e)) came.one_read;
-      copied = copied-more (g.E.Blocks.stored c.args.edition.now) plan c.args.field i c.copy_block.new.block c.loop-i.out c.copy_block.new.out within (came.copied key at) (came.bytes key at) before.copied;
+      done = done-more c.args.plan.now c.args.field (g.E.Blocks.has c.args.edition.now c.args.field) (g.E.Blocks.stored c.args.edition.now) c.args.looked.now.found c.loop-i.i
+          (g.R.Reader.reads c.args.reader.now) (g.R.Reader.reads c.loop-i.reader) (g.R.Reader.reads c.copy_key.new.reader) c.args.loading.now c.loop-i.loading c.copy_key.new.loading
+          c.loop-i.report c.in_ok-report.report c.loop-i.out c.copy_key.new.out before.done came.came;
     }

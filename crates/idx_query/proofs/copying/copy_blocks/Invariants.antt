@@ -1,15 +1,14 @@
-use Rattle.std.proofs.Common.{◌≡◌, ◌≤◌, length, take}
-use Rattle.idx_query.specs.Blocks.{blocks_of}
-use Rattle.idx_query.proofs.CopyLemmas.{AreCounted, KnownCopied}
+use Rattle.std.proofs.Common.{◌≡◌, ◌≤◌, length}
+use Rattle.idx_query.specs.Steps.{AreDone}
 use Rattle.idx_query.proofs.copying.copy_blocks.Given as goal
 
--- the first i blocks have come and are copied
+-- the first i keys have come
 abbrev pub invariant-loop-i : goal.invariant-loop-i
 invariant-loop-i g l = record {
   within : l.i ≤ length l.plan.keys;
-  block : length l.block ≡ length l.fn.block;
   room : length l.out ≡ length l.fn.out;
+  post : l.report.post ≡ l.post;
   quiet : g.R.Reader.faults l.reader ≡ g.R.Reader.faults l.fn.reader;
-  counted : AreCounted (g.E.Blocks.has l.edition l.field) l.plan.keys l.i (g.R.Reader.reads l.fn.reader) (g.R.Reader.reads l.reader) l.once;
-  copied : KnownCopied (g.E.Blocks.stored l.edition) l.plan l.field (blocks_of (take l.i l.plan.keys)) l.out;
+  done : AreDone l.plan l.field (g.E.Blocks.has l.edition l.field) (g.E.Blocks.stored l.edition) l.looked.found l.i
+      (g.R.Reader.reads l.fn.reader) (g.R.Reader.reads l.reader) l.fn.loading l.loading l.report l.out;
 }
