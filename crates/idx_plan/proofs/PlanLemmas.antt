@@ -1,11 +1,10 @@
 -- What is true of a plan that was made.
-use Rattle.std.proofs.Common.{◌≡◌, ℕ, ◌+◌, ◌-◌, ◌*◌, ◌^◌, ◌<◌, ◌≤◌, List, length, map, filter, sym, ap, ◌∙◌, subst, arith}
+use Rattle.std.proofs.Common.{◌≡◌, ℕ, ◌-◌, ◌*◌, ◌^◌, ◌<◌, ◌≤◌, List, length, filter, sym, ap, ◌∙◌, subst, arith}
 use Rattle.std.specs.Prelude.{All}
 use Rattle.std.specs.List.{range_with_len}
 use Rattle.std.proofs.lemmas.List.Elements.{All-filter, All-map}
 use Rattle.std.proofs.Math.Nat.{mul_comm}
-use Rattle.idx_geom.specs.Region.{LiesIn, points, upper_ends}
-use Rattle.idx_hz.specs.Answer.{has_level}
+use Rattle.idx_geom.specs.Region.{LiesIn, upper_ends}
 use Rattle.idx_hz.specs.Mask.{HasAddress, IsMask}
 use Rattle.idx_hz.proofs.RegionLemmas.{HasAddress-from_end}
 use Rattle.idx_header.specs.Header.{HeaderValue, IsHeader, block_count}

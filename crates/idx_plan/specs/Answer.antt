@@ -1,20 +1,13 @@
 -- The answer to a question out of the blocks of a step.
-use Rattle.std.specs.Prelude.{◌≡◌, ℕ, ◌<◌, List, length, slice_get, Some}
+use Rattle.std.specs.Prelude.{ℕ, List}
 use Rattle.idx_hz.specs.Answer.{answer}
 use Rattle.idx_header.specs.Header.{HeaderValue}
-use Rattle.idx_layout.specs.Content.{field_in, sample_in}
+use Rattle.idx_layout.specs.Content.{field_in}
 use Rattle.idx_layout.specs.OfHeader.{layout_of}
-use Rattle.idx_scatter.specs.Asked.{asked_points}
-use Rattle.idx_scatter.specs.Scatter.{sample_of}
 use Rattle.idx_plan.specs.declared.ask.Ask.{Ask}
-use Rattle.idx_plan.specs.Needed.{needed}
-use Rattle.idx_plan.specs.Plan.{asked_of}
-use Rattle.idx_header.specs.Header.{sample_bytes_of}
-
--- A content gives the bytes of the block of a field and a number.
 
 -- the answer: the samples, in row-major order, of the region's points whose level is asked for, of the volume that the blocks
--- make
+-- make; `content` gives the bytes of the block of a field and a number
 abbrev pub answer_of : HeaderValue → Ask → (ℕ → ℕ → List ℕ) → List ℕ
 answer_of h ask content =
     answer h.mask h.box (field_in (layout_of h) content ask.field) ask.region ask.lo ask.hi
