@@ -1,5 +1,5 @@
 -- An answer out of a hall of its own: the one post is the step's, and nothing is cached.
-use Rattle.std.proofs.Common.{◌≡◌, ℕ, zero, suc, ◌+◌, ◌<◌, ◌≤◌, Bool, false, List, [], ◌∷◌, ◌++◌, length, map, refl, sym, ap, ◌∙◌, subst, arith, Some, None, Option}
+use Rattle.std.proofs.Common.{◌≡◌, ℕ, zero, suc, ◌+◌, ◌<◌, ◌≤◌, Bool, false, List, [], ◌∷◌, ◌++◌, length, refl, sym, ap, ◌∙◌, subst, arith, Some, None, Option}
 use Rattle.std.specs.Prelude.{Err, IfErr, IfOk, IfSome, Ok, OnOk, Result, option_map, slice_get}
 use Rattle.std.proofs.lemmas.Option.{same_Some, slice_get_within}
 use Rattle.idx_outside.specs.Shape.{Shape}
@@ -10,7 +10,7 @@ use Rattle.idx_hall.specs.Posts.{Lacks, Post, bytes_at, has_at, post_of, table_o
 use Rattle.idx_hall.specs.Hall.{HallValue, hall, noted}
 use Rattle.idx_cache.specs.Cached.{cached}
 use Rattle.idx_plan.specs.Answer.{answer_of}
-use Rattle.idx_plan.specs.Needed.{key_of, needed, needed_keys, plan_fault}
+use Rattle.idx_plan.specs.Needed.{needed, needed_keys, plan_fault}
 use Rattle.idx_plan.specs.declared.ask.Ask.{Ask}
 use Rattle.idx_query.specs.Answered.{IsAnswered, IsDone}
 use Rattle.idx_query.specs.Blocks.{blocks_of, lacking}
@@ -20,7 +20,7 @@ use Rattle.idx_query.specs.Steps.{IsStoreFault}
 use Rattle.idx_query.specs.declared.query_fault.QueryFault.{QueryFault}
 use Rattle.idx_query.specs.declared.query_fault.QueryFault.TheVariants as faults
 use Rattle.idx_query.specs.declared.report.Report.{Report}
-use Rattle.idx_query.proofs.AnswerLemmas.{has_field}
+use Rattle.idx_query.proofs.AnswerLemmas.{blocks-key_of, has_field}
 use Rattle.idx_query.proofs.FillLemmas.{lacking-agree}
 use Rattle.idx_query.proofs.PostLemmas.{entry-table, same_answer}
 use Rattle.idx_extract.proofs.StoredLemmas.{needed-exist}
@@ -29,10 +29,6 @@ use Rattle.idx_extract.proofs.StoredLemmas.{needed-exist}
 missed-fresh : (keys : List Key) → missed keys (noted keys []) ≡ keys
 missed-fresh [] = refl
 missed-fresh (key ∷ keys) = ap (λ (ks : List Key). key ∷ ks) (missed-fresh keys)
-
-blocks-keys : (ask : Ask) (blocks : List ℕ) → blocks_of (map (key_of ask) blocks) ≡ blocks
-blocks-keys ask [] = refl
-blocks-keys ask (block ∷ blocks) = ap (λ (bs : List ℕ). block ∷ bs) (blocks-keys ask blocks)
 
 -- the one post of a board
 only_post : (p q : Post) (board : List Post) (n : ℕ) → board ≡ p ∷ [] → slice_get board n ≡ Some q → q ≡ p
@@ -67,7 +63,7 @@ module _ (h : HeaderValue) (ask : Ask) (s : Shape) (time : ℕ) (has : ℕ → �
   pub alone-absent : (mid : Option HallValue) (report : Report) (board : List Post) (room : ℕ) → board ≡ seen → IsDone h ask (hall s board (cached [] room)) mid report → report.absent ≡ lacking (has ask.field) (needed h ask)
   alone-absent mid report board room is_board done =
       done.absent ∙ ap (λ ks. lacking (has_at done.post ask.field) (blocks_of ks)) (missed-fresh (needed_keys h ask))
-      ∙ ap (lacking (has_at done.post ask.field)) (blocks-keys ask (needed h ask))
+      ∙ ap (lacking (has_at done.post ask.field)) (blocks-key_of ask (needed h ask))
       ∙ lacking-agree (has_at done.post ask.field) (has ask.field) (λ b. b < block_count h)
       (λ b exists. ap (λ (p : Post). has_at p ask.field b) (only_post (post_of s time has stored) done.post board report.post (is_board ∙ one) done.is.at)
       ∙ entry-table false s has ask.field b there (subst (λ (x : Shape). b < x.blocks) (sym shaped) exists))

@@ -47,7 +47,7 @@ same_plan h ask plan of = λ i. record {
   size = of.size i;
 }
 
-blocks-key_of : (ask : Ask) (blocks : List ℕ) → blocks_of (map (key_of ask) blocks) ≡ blocks
+pub blocks-key_of : (ask : Ask) (blocks : List ℕ) → blocks_of (map (key_of ask) blocks) ≡ blocks
 blocks-key_of ask [] = refl
 blocks-key_of ask (block ∷ blocks) = ap (λ t. block ∷ t) (blocks-key_of ask blocks)
 

@@ -16,7 +16,7 @@ use Rattle.idx_plan.specs.Answer.{answer_of}
 use Rattle.idx_plan.specs.Needed.{answer_bytes, key_of, needed, needed_keys, plan_fault}
 use Rattle.idx_plan.specs.Plan.{IsPlan, PlanValue}
 use Rattle.idx_plan.specs.declared.ask.Ask.{Ask}
-use Rattle.idx_query.specs.Answered.{IsAnswered, IsDone, IsRound}
+use Rattle.idx_query.specs.Answered.{IsAnswered, IsDone}
 use Rattle.idx_query.specs.Blocks.{IsPlanOf, blocks_of, lacking}
 use Rattle.idx_query.specs.Fault.{HasPost, IsCaused}
 use Rattle.idx_query.specs.Rounds.{after_answer, missed, missed_in}
@@ -184,15 +184,15 @@ pub following : {A : Type 0} (P Q : A → Type 0) (o : Option A) → IfSome o P 
 following P Q None said next = tt
 following P Q (Some x) said next = next x said
 
--- a round's answer behind what was there
-pub round-appended : (h : HeaderValue) (ask : Ask) (seen : List Post) (before after out : List ℕ) (report : Report) → after ≡ before ++ out → IsRound h ask seen out report → length out ≡ answer_bytes h ask → IsAnswered h ask seen before after report
-round-appended h ask seen before after out report is round many = record {
-  post = round.post;
-  is = round.is;
-  answer = by_stored round.post.stored round.answer;
+-- an answer alone, and what it is behind what was there
+pub answered-behind : (h : HeaderValue) (ask : Ask) (seen : List Post) (before after out : List ℕ) (report : Report) → after ≡ before ++ out → IsAnswered h ask seen [] out report → IsAnswered h ask seen before after report
+answered-behind h ask seen before after out report is alone = record {
+  post = alone.post;
+  is = alone.is;
+  answer = by_stored alone.post.stored alone.answer;
   front = ap (take (length before)) is ∙ take-append_seam before out;
-  many = ap length is ∙ length-append before out ∙ ap (λ n. length before + n) many;
-  all = round.all;
+  many = let alone_many : length out ≡ answer_bytes h ask = omega (arith, alone.many) in ap length is ∙ length-append before out ∙ ap (λ n. length before + n) alone_many;
+  all = alone.all;
 }
   where
     by_stored : (o : Option (List (List (List ℕ)))) → IfSome o (λ t. out ≡ answer_of h ask (bytes_at t)) → IfSome o (λ t. after ≡ before ++ answer_of h ask (bytes_at t))

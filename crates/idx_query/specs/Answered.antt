@@ -22,13 +22,6 @@ pub record IsAnswered (h : HeaderValue) (ask : Ask) (seen : List Post) (before a
   pub many : length after ≡ length before + answer_bytes h ask
   pub all : report.hits + report.reads + report.absent ≡ length (needed h ask)
 
--- The same of the answer alone.
-pub record IsRound (h : HeaderValue) (ask : Ask) (seen : List Post) (out : List ℕ) (report : Report) : Type 0 where
-  pub post : Post
-  pub is : IsPostOf seen ask.time report.post post
-  pub answer : IfSome post.stored (λ stored. out ≡ answer_of h ask (bytes_at stored))
-  pub all : report.hits + report.reads + report.absent ≡ length (needed h ask)
-
 -- The hits are the keys that were cached in the hall before, and of the others those are absent that the post lacks. Where what
 -- it stores is known, the hall afterwards is exactly the one that the rounds leave.
 pub record IsDone (h : HeaderValue) (ask : Ask) (before : HallValue) (after : Option HallValue) (report : Report) : Type 0 where

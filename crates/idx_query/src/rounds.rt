@@ -12,7 +12,7 @@ ghost use Rattle.idx_plan.specs.Plan.{IsPlan};
 ghost use Rattle.idx_query.specs.Blocks.{IsPlanOf};
 ghost use Rattle.idx_query.specs.Rounds.{missed};
 ghost use Rattle.idx_query.specs.Steps.{AreDone, CanCopy, IsStoreFault, kept_last, load_state};
-ghost use Rattle.idx_query.specs.Answered.{IsDone, IsLeft, IsRound};
+ghost use Rattle.idx_query.specs.Answered.{IsAnswered, IsDone, IsLeft};
 ghost use Rattle.idx_query.specs.Fault.{IsCaused, IsUnread};
 
 use crate::copying::copy_blocks;
@@ -47,9 +47,8 @@ pub(crate) fn answer_round<E: Blocks + Drop, T: Turn<Hall<E>>, R: Reader<E::Leaf
     requires many { length plan.now.keys ≤ looked.room }
     requires loading { loading ≡ load_state 0 [] (block_bytes header.now ask.now.field) }
     requires room { length out.old ≡ plan.now.bytes }
-    ensures answer { IfOk result (λ report. IsRound header.now ask.now (T.seen turn.new) out.new report) }
+    ensures answered { IfOk result (λ report. IsAnswered header.now ask.now (T.seen turn.new) [] out.new report) }
     ensures reads { IfOk result (λ report. MadeReads (R.reads reader.old) (R.reads reader.new) report.reads) }
-    ensures room { OnOk result (length out.new ≡ plan.now.bytes) }
     ensures cause { IfErr result (IsCaused header.now ask.now (T.seen turn.new)
         (R.faults reader.old) (R.faults reader.new)) }
     ensures unpublished { T.may_add turn.old ≡ true → Lacks ask.now.time (T.seen turn.old) →

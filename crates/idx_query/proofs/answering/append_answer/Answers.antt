@@ -1,9 +1,8 @@
-use Rattle.std.proofs.Common.{◌∙◌, arith}
+use Rattle.std.proofs.Common.{arith}
 use Rattle.std.proofs.lemmas.Grind.{common_steps}
-use Rattle.idx_query.proofs.RoundLemmas.{round-appended}
+use Rattle.idx_query.proofs.RoundLemmas.{answered-behind}
 use Rattle.idx_query.proofs.answering.append_answer.Goals as goal
 
 pub returns-in-Ok-clause-answered : goal.returns-in-Ok-clause-answered
 returns-in-Ok-clause-answered g c =
-    round-appended c.args.header.now c.args.ask.now _ c.args.out.now.items _ c.answer_round.new.out c.in-Ok.report (grind (arith, common_steps)) c.in-Ok.ensures.answer
-    (c.in-Ok.ensures.room ∙ c.requires.plan.bytes)
+    answered-behind c.args.header.now c.args.ask.now _ c.args.out.now.items _ c.answer_round.new.out c.in-Ok.report (grind (arith, common_steps)) c.in-Ok.ensures.answered

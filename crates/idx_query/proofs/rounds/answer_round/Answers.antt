@@ -1,4 +1,4 @@
-use Rattle.std.proofs.Common.{◌≡◌, ◌++◌, ◌-◌, List, drop, length, refl, sym, ap, ◌∙◌, subst, Some}
+use Rattle.std.proofs.Common.{◌≡◌, ◌++◌, ◌-◌, List, drop, length, refl, sym, ap, ◌∙◌, subst, arith, Some}
 use Rattle.std.specs.Prelude.{All, IfSome, Option}
 use Rattle.idx_outside.specs.Shape.{Shape}
 use Rattle.idx_hall.specs.declared.key.Key.{Key}
@@ -9,6 +9,7 @@ use Rattle.idx_query.specs.Rounds.{missed}
 use Rattle.idx_hall.specs.Hall.{HallValue, IsBlockOf, after_fill, after_look}
 use Rattle.idx_hall.specs.Calls.{AreBlocksOf, pairs_of}
 use Rattle.idx_turn.proofs.BeginsLemmas.{begins_at}
+use Rattle.idx_plan.specs.Needed.{answer_bytes}
 use Rattle.idx_query.specs.Answered.{IsDone}
 use Rattle.idx_query.specs.Steps.{IsSeen, LoadingValue, kept_last}
 use Rattle.idx_query.proofs.RoundLemmas.{can-copy, following, pairs-are, plan-times, round-all, round-answer, round-done, store-caused}
@@ -56,8 +57,8 @@ fill_cache-requires-clause-blocks g c =
           seen.1.time))),
     )
 
-pub returns-in-Ok-clause-answer : goal.returns-in-Ok-clause-answer
-returns-in-Ok-clause-answer g c =
+pub returns-in-Ok-clause-answered : goal.returns-in-Ok-clause-answered
+returns-in-Ok-clause-answered g c =
     let seen = c.in_ok-seen.ensures.post in
     let post : Post = seen.0 in
     let done = c.in-Ok.ensures.done seen.3 seen.4 in
@@ -66,11 +67,13 @@ returns-in-Ok-clause-answer g c =
       is = subst (λ n. IsPostOf (g.T.Turn.seen c.fill_cache.new.turn) c.args.ask.now.time n post) (sym c.in-Ok.ensures.post)
           (record { at = begins_at c.in_ok-seen.seen.post post seen.1.at c.fill_cache.ensures.begins; time = seen.1.time });
       answer = round-answer g.E.Blocks.time g.E.Blocks.shape g.E.Blocks.has g.E.Blocks.stored c.args.header.now c.args.ask.now c.args.plan.now (g.T.Turn.shape c.args.turn.now) post seen.3 c.look_up.new.looked.found c.args.loading.bytes
-          c.requires.shape seen.5 c.requires.field c.requires.plan c.requires.valid (ap (λ (l : LoadingValue). l.bytes) c.requires.loading) (many g (goal.at.returns-in-Ok-clause-answer g c).After-into_loaded)
+          c.requires.shape seen.5 c.requires.field c.requires.plan c.requires.valid (ap (λ (l : LoadingValue). l.bytes) c.requires.loading) (many g (goal.at.returns-in-Ok-clause-answered g c).After-into_loaded)
           (g.R.Reader.reads c.args.reader.now) (g.R.Reader.reads c.copy_round.new.reader) (kept_last c.args.plan.now.keys c.look_up.new.looked.found c.in_ok-seen.seen.room c.args.loading) c.copy_round.new.loading c.in-Ok.report c.copy_round.new.out refl done
           c.requires.axes c.requires.sound c.in-Ok.ensures.room;
+      front = refl;
+      many = let whole : length c.copy_round.new.out ≡ answer_bytes c.args.header.now c.args.ask.now = c.in-Ok.ensures.room ∙ c.requires.plan.bytes in omega (arith, whole);
       all = round-all g.E.Blocks.time g.E.Blocks.shape g.E.Blocks.has g.E.Blocks.stored c.args.header.now c.args.ask.now c.args.plan.now (g.T.Turn.shape c.args.turn.now) post seen.3 c.look_up.new.looked.found c.args.loading.bytes
-          c.requires.shape seen.5 c.requires.field c.requires.plan c.requires.valid (ap (λ (l : LoadingValue). l.bytes) c.requires.loading) (many g (goal.at.returns-in-Ok-clause-answer g c).After-into_loaded)
+          c.requires.shape seen.5 c.requires.field c.requires.plan c.requires.valid (ap (λ (l : LoadingValue). l.bytes) c.requires.loading) (many g (goal.at.returns-in-Ok-clause-answered g c).After-into_loaded)
           (g.R.Reader.reads c.args.reader.now) (g.R.Reader.reads c.copy_round.new.reader) (kept_last c.args.plan.now.keys c.look_up.new.looked.found c.in_ok-seen.seen.room c.args.loading) c.copy_round.new.loading c.in-Ok.report c.copy_round.new.out refl done;
     }
 
