@@ -187,7 +187,8 @@ pub fn run<V: Source, B: Bay, R: Reader<B::Leaf>, K: Sink>(
     ensures query_alone { GiveQuery (map string_bytes words.now) → raws.new.items ≡ raws.old.items }
     ensures readers { OthersUntouched readers.old.items readers.new.items 0 }
     ensures reader_list { vec_len readers.new ≡ vec_len readers.old }
-    ensures reader_count { NeverFalls (faults_at R.faults readers.old.items 0) (faults_at R.faults readers.new.items 0) }
+    ensures reader_count { NeverFalls (faults_at R.faults readers.old.items 0)
+        (faults_at R.faults readers.new.items 0) }
 {
     Done::of(end_of_run(alloc, words, raws, bay, readers, out))
 }
@@ -230,7 +231,8 @@ fn end_of_run<V: Source, B: Bay, R: Reader<B::Leaf>, K: Sink>(
     ensures query_alone { GiveQuery (map string_bytes words.now) → raws.new.items ≡ raws.old.items }
     ensures readers { OthersUntouched readers.old.items readers.new.items 0 }
     ensures reader_list { vec_len readers.new ≡ vec_len readers.old }
-    ensures reader_count { NeverFalls (faults_at R.faults readers.old.items 0) (faults_at R.faults readers.new.items 0) }
+    ensures reader_count { NeverFalls (faults_at R.faults readers.old.items 0)
+        (faults_at R.faults readers.new.items 0) }
 {
     match read_words(words) {
         Ok(command) => run_command(alloc, &command, raws, bay, readers, out),
@@ -274,7 +276,8 @@ fn run_command<V: Source, B: Bay, R: Reader<B::Leaf>, K: Sink>(
     ensures query_alone { IsQuery command.now → raws.new.items ≡ raws.old.items }
     ensures readers { OthersUntouched readers.old.items readers.new.items 0 }
     ensures reader_list { vec_len readers.new ≡ vec_len readers.old }
-    ensures reader_count { NeverFalls (faults_at R.faults readers.old.items 0) (faults_at R.faults readers.new.items 0) }
+    ensures reader_count { NeverFalls (faults_at R.faults readers.old.items 0)
+        (faults_at R.faults readers.new.items 0) }
 {
     match command {
         Command::Cut(cut) => cut_volume(alloc, cut, &mut raws[0], out),
