@@ -5,3 +5,4 @@ pub mod AskedLemmas
 pub mod PointLemmas
 pub mod LevelLemmas
 pub mod PlanLemmas
+pub mod PaceLemmas

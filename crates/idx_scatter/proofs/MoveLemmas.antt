@@ -12,7 +12,7 @@ use Rattle.idx_block.specs.Copies.{HasCoordinate, IsRight}
 use Rattle.idx_block.proofs.CopyLemmas.{faster_of, kept-written, lines-are, placed-written, slowest_of}
 use Rattle.idx_scatter.specs.Legs.{AllFit, EachMove, Fits, leg_of, place_by, tally_at}
 use Rattle.idx_scatter.specs.Scatter.{sample_of}
-use Rattle.idx_scatter.specs.Moves.{AreMoved, IsRoom, IsWanted}
+use Rattle.idx_scatter.specs.Moves.{AreApart, AreMoved, IsRoom, IsSpot, IsWanted}
 use Rattle.idx_scatter.specs.declared.leg.Leg.{Leg}
 use Rattle.idx_scatter.specs.declared.tally.Tally.{Tally}
 
@@ -25,20 +25,30 @@ one_is n size some =
 pub add_one : (n size : ℕ) → (n + 1) * size ≡ n * size + size
 add_one n size = grind arith
 
+-- a sample makes the place right that it goes to, and what was right stays so
+pub record IsMade (want : ℕ → List ℕ) (size to : ℕ) (old new : List ℕ) : Type 0 where
+  pub kept : (o : ℕ) → IsRight want size old o → IsRight want size new o
+  pub placed : IsRight want size new to
+
+pub sample-made : (want : ℕ → List ℕ) (size place to from at : ℕ) (samples old new : List ℕ) → (to + 1) * size ≤ length old → (place + 1) * size ≤ length samples → from ≡ place * size → at ≡ to * size →
+    new ≡ written at (take size (drop from samples)) old → sample_of size samples place ≡ want to → IsMade want size to old new
+sample-made want size place to from at samples old new room there from_is at_is is right =
+    let piece : List ℕ = sample_of size samples place in
+    let more : (place + 1) * size ≡ place * size + size = grind arith in
+    let long : length piece ≡ size = length-take-le size (drop (place * size) samples) (omega (arith, there, more, length-drop (place * size) samples)) in
+    let here : new ≡ written (to * size) piece old =
+    is ∙ ap (λ n. written at (take size (drop n samples)) old) from_is ∙ ap (λ n. written n piece old) at_is in
+    record {
+      kept = λ q h. ap (λ t. take size (drop (q * size) t)) here ∙ kept-written want size to piece old long room right q h;
+      placed = ap (λ t. take size (drop (to * size) t)) here ∙ placed-written want size to piece old long room right;
+    }
+
 -- one sample is moved
 pub move-made : (want : ℕ → List ℕ) (size place from to : ℕ) (legs : List Leg) (tally : Tally) (samples old new : List ℕ) → (place_by tally + 1) * size ≤ length old → (place + 1) * size ≤ length samples → from ≡ place * size → to ≡ place_by tally * size →
     new ≡ written to (take size (drop from samples)) old → IsWanted want size samples place tally → AreMoved want size legs [] place tally old new
 move-made want size place from to legs tally samples old new room there from_is to_is is right =
-    let o : ℕ = place_by tally in
-    let piece : List ℕ = sample_of size samples place in
-    let more : (place + 1) * size ≡ place * size + size = grind arith in
-    let long : length piece ≡ size = length-take-le size (drop (place * size) samples) (omega (arith, there, more, length-drop (place * size) samples)) in
-    let here : new ≡ written (o * size) piece old =
-    is ∙ ap (λ n. written to (take size (drop n samples)) old) from_is ∙ ap (λ n. written n piece old) to_is in
-    record {
-      kept = λ q h. ap (λ t. take size (drop (q * size) t)) here ∙ kept-written want size o piece old long room right q h;
-      placed = ap (λ t. take size (drop (o * size) t)) here ∙ placed-written want size o piece old long room right;
-    }
+    let made = sample-made want size place (place_by tally) from to samples old new room there from_is to_is is right in
+    record { kept = made.kept; placed = made.placed }
 
 -- ---- moves along lines
 
@@ -74,10 +84,43 @@ fits-faster legs lines k rows some within fits =
     let whole : AllFit legs (slowest_of lines ∷ faster_of lines) rows = subst (λ (ls : List Line). AllFit legs ls rows) (sym (lines-are lines some)) fits in
     whole k within
 
--- the place in the answer of a coordinate of a row of equal steps
-pub spot : (legs : List Leg) (rows at : Tally) (first k more : ℕ) → at ≡ tally_at (leg_of legs []) rows 0 → first ≡ place_by at → place_by (tally_at (leg_of legs []) rows k) ≡ place_by (tally_at (leg_of legs []) rows 0) + k * more →
-    first + k * more ≡ place_by (tally_at (leg_of legs []) rows k)
-spot legs rows at first k more at_is first_is even = ap (λ n. n + k * more) (first_is ∙ ap place_by at_is) ∙ sym even
+-- ---- samples that lie equally far apart
+
+pub apart-none : (want : ℕ → List ℕ) (size first more : ℕ) (old : List ℕ) → AreApart want size 0 first more old old
+apart-none want size first more old = record { kept = λ o h. h; placed = λ k lt. absurd (omega arith) }
+
+-- one more of them
+pub apart-more : (want : ℕ → List ℕ) (size count first more : ℕ) (old mid new : List ℕ) → AreApart want size count first more old mid → IsMade want size (first + count * more) mid new → AreApart want size (count + 1) first more old new
+apart-more want size count first more old mid new before one = record {
+  kept = λ o h. one.kept o (before.kept o h);
+  placed = λ k lt. elim (cases_lt k count) [
+    | inl less ↦ one.kept (first + k * more) (before.placed k less)
+    | inr ge ↦
+        let last : count ≡ k = omega (arith, lt) in
+        subst (λ (n : ℕ). IsRight want size new (first + n * more)) last one.placed
+  ];
+}
+
+-- a line whose points lie so in the answer is moved
+pub apart-moved : (want : ℕ → List ℕ) (size : ℕ) (legs : List Leg) (line : Line) (place : ℕ) (rows : Tally) (first more : ℕ) (old new : List ℕ) →
+    ((k : ℕ) → k < line.count → place_by (tally_at (leg_of legs []) rows k) ≡ first + k * more) → AreApart want size line.count first more old new → AreMoved want size legs (line ∷ []) place rows old new
+apart-moved want size legs line place rows first more old new even made = record {
+  kept = made.kept;
+  placed = λ k lt. subst (λ (o : ℕ). IsRight want size new o) (sym (even k lt)) (made.placed k lt);
+}
+
+-- where each move along it is there, so are its places, and where each sample is what is to be there, so is that at its places
+pub spots-there : (size : ℕ) (samples into : List ℕ) (legs : List Leg) (line : Line) (place : ℕ) (rows : Tally) (first more : ℕ) →
+    ((k : ℕ) → k < line.count → place_by (tally_at (leg_of legs []) rows k) ≡ first + k * more) → EachMove (IsRoom size samples into) legs (line ∷ []) place rows →
+    (k : ℕ) → k < line.count → IsSpot size samples into (place + part_after line.bits line.first k) (first + k * more)
+spots-there size samples into legs line place rows first more even within k lt =
+    let fits = within k lt in
+    record { room = subst (λ (o : ℕ). (o + 1) * size ≤ length into) (even k lt) fits.room; read = fits.read }
+
+pub spots-wanted : (want : ℕ → List ℕ) (size : ℕ) (samples : List ℕ) (legs : List Leg) (line : Line) (place : ℕ) (rows : Tally) (first more : ℕ) →
+    ((k : ℕ) → k < line.count → place_by (tally_at (leg_of legs []) rows k) ≡ first + k * more) → EachMove (IsWanted want size samples) legs (line ∷ []) place rows →
+    (k : ℕ) → k < line.count → sample_of size samples (place + part_after line.bits line.first k) ≡ want (first + k * more)
+spots-wanted want size samples legs line place rows first more even right k lt = right k lt ∙ ap want (even k lt)
 
 -- the moves at the first coordinates of a line are made, and what was right stays so
 pub record AreSoFar (want : ℕ → List ℕ) (size : ℕ) (legs : List Leg) (line : Line) (faster : List Line) (place : ℕ) (rows : Tally) (count : ℕ) (old new : List ℕ) : Type 0 where

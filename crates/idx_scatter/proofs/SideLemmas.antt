@@ -21,9 +21,6 @@ use Rattle.idx_walk.proofs.ListLemmas.{filter-map, map-filter_and}
 use Rattle.idx_walk.specs.Progression.{count_of, on}
 use Rattle.idx_scatter.specs.declared.side.Earlier.{Earlier}
 use Rattle.idx_scatter.specs.declared.side.Side.{Side}
-use Rattle.idx_scatter.specs.declared.leg.Leg.{Leg}
-use Rattle.idx_scatter.specs.declared.tally.Tally.{Tally}
-use Rattle.idx_scatter.specs.Legs.{place_by, tally_at}
 use Rattle.idx_scatter.specs.Sides.{AreSides, IsBefore, IsSane, IsSide, count_before, in_row, multiples_in}
 
 -- ---- one axis
@@ -301,12 +298,6 @@ off-row side rows here apart = (
       (record { count = side.whole * rows.count; lies = false })).lies) apart,
 )
 
--- and one that does
-pub on-row : (side : Side) (rows : Earlier) (here : ℕ) → rows.lies ≡ true → (in_row side rows here).count ≡ side.whole * rows.count + multiples_in side.stride side.lo here
-on-row side rows here stands =
-    ap (λ (t : Bool). (cond {A = Earlier} t (record { count = side.whole * rows.count + multiples_in side.stride side.lo here; lies = eqb ((side.lo + here) % side.stride) 0 })
-    (record { count = side.whole * rows.count; lies = false })).count) stands
-
 -- where none comes before a row, and it lies on no strides, none comes before its places
 pub in_row-none : (side : Side) (rows : Earlier) (here : ℕ) → rows.count ≡ 0 → rows.lies ≡ false → ((in_row side rows here).count ≡ 0) × ((in_row side rows here).lies ≡ false)
 in_row-none side rows here none apart =
@@ -323,18 +314,6 @@ whole-steps step s shift power is some =
     let same : step / s * s ≡ step / 2 ^ shift * 2 ^ shift = λ i. step / power i * power i in
     let within : step / 2 ^ shift * 2 ^ shift < 2 ^ 64 = omega (arith, small, less, same) in
     omega (arith, div-add-mod' step s, same, is, mod-eq_of_lt within)
-
--- the places of a row of multiples, of which none is one of the coarser ones
-pub even-places : (leg : Leg) (rows : Tally) (k : ℕ) → IsSane leg.fine → rows.fine.lies ≡ true → rows.coarse.lies ≡ false → leg.step % leg.fine.stride ≡ 0 → (tally_at leg rows 0).coarse.count ≤ (tally_at leg rows 0).fine.count →
-    place_by (tally_at leg rows k) ≡ place_by (tally_at leg rows 0) + k * (leg.step / leg.fine.stride)
-even-places leg rows k sane stands apart whole ordered =
-    let far = on-row leg.fine rows.fine (leg.here + k * leg.step) stands in
-    let near = on-row leg.fine rows.fine (leg.here + 0 * leg.step) stands in
-    let far_coarse = (off-row leg.coarse rows.coarse (leg.here + k * leg.step) apart).0 in
-    let near_coarse = (off-row leg.coarse rows.coarse (leg.here + 0 * leg.step) apart).0 in
-    let more = multiples-on leg.fine.stride leg.fine.lo leg.here k leg.step sane.paced whole in
-    let none = multiples-on leg.fine.stride leg.fine.lo leg.here 0 leg.step sane.paced whole in
-    omega (arith, far, near, far_coarse, near_coarse, more, none, ordered)
 
 -- ---- the first side, and the others
 

@@ -53,6 +53,10 @@ tally_at leg rows k = record {
 abbrev pub place_by : Tally → ℕ
 place_by tally = tally.fine.count - tally.coarse.count
 
+-- what comes before, with so many points more on the finer strides
+abbrev pub later : ℕ → Tally → Tally
+later n tally = record { fine = record { count = tally.fine.count + n; lies = tally.fine.lies }; coarse = tally.coarse }
+
 -- the coordinate lies on the axis, and what comes before it can be counted
 pub record Fits (leg : Leg) (rows : Tally) (k : ℕ) : Type 0 where
   pub fine : IsSane leg.fine

@@ -33,6 +33,16 @@ pub record IsRoom (size : ℕ) (samples into : List ℕ) (place : ℕ) (tally : 
   pub room : (place_by tally + 1) * size ≤ length into
   pub read : (place + 1) * size ≤ length samples
 
+-- a sample's place in the answer is there, and so is its place in the block
+pub record IsSpot (size : ℕ) (samples into : List ℕ) (place to : ℕ) : Type 0 where
+  pub room : (to + 1) * size ≤ length into
+  pub read : (place + 1) * size ≤ length samples
+
+-- so many samples, `more` places apart, are right, and what was right stays so
+pub record AreApart (want : ℕ → List ℕ) (size count first more : ℕ) (old new : List ℕ) : Type 0 where
+  pub kept : (o : ℕ) → IsRight want size old o → IsRight want size new o
+  pub placed : (k : ℕ) → k < count → IsRight want size new (first + k * more)
+
 -- the block's sample is what the place in the answer is to hold
 abbrev pub IsWanted : (ℕ → List ℕ) → ℕ → List ℕ → ℕ → Tally → Type 0
 IsWanted want size samples place tally = sample_of size samples place ≡ want (place_by tally)

@@ -1,5 +1,5 @@
 ghost use Rattle.std.specs.Prelude.{◌≡◌, ℕ, ◌+◌, ◌*◌, ◌≤◌, IfSome};
-ghost use Rattle.idx_scatter.specs.Legs.{Fits, place_by, tally_at};
+ghost use Rattle.idx_scatter.specs.Legs.{Fits, later, place_by, tally_at};
 
 use crate::side::{NO_SIDE, Side, before_in_row};
 use crate::tally::Tally;
@@ -43,9 +43,8 @@ impl Leg {
     /// point of the row lies on the coarser strides.
     pub(crate) fn more_each(&self, rows: &Tally) -> Option<usize>
         requires { Fits self.now rows.now 0 }
-        ensures { IfSome result (λ more. (k : ℕ) → (tally_at self.now rows.now 0).coarse.count ≤
-            (tally_at self.now rows.now 0).fine.count →
-            place_by (tally_at self.now rows.now k) ≡ place_by (tally_at self.now rows.now 0) + k * more) }
+        ensures { IfSome result (λ more. (k : ℕ) →
+            tally_at self.now rows.now k ≡ later (k * more) (tally_at self.now rows.now 0)) }
     {
         let more = self.step >> self.fine.shift;
         if rows.fine.lies && !rows.coarse.lies && more << self.fine.shift == self.step {
@@ -53,5 +52,23 @@ impl Leg {
         } else {
             None
         }
+    }
+
+    /// How many places the rows at the coordinates of this leg lie apart in the answer, and the points of each row, which
+    /// are those of the faster leg, where they all lie equally far apart.
+    pub(crate) fn paces(&self, faster: &Leg, rows: &Tally) -> Option<(usize, usize)>
+        requires rows { Fits self.now rows.now 0 }
+        requires row { Fits faster.now (tally_at self.now rows.now 0) 0 }
+        ensures { IfSome result (λ paces. (j k : ℕ) →
+            (tally_at faster.now (tally_at self.now rows.now 0) 0).coarse.count ≤
+            (tally_at faster.now (tally_at self.now rows.now 0) 0).fine.count →
+            place_by (tally_at faster.now (tally_at self.now rows.now j) k) ≡
+            place_by (tally_at faster.now (tally_at self.now rows.now 0) 0) + j * paces.0 + k * paces.1) }
+    {
+        let along = faster.more_each(&self.at(rows, 0))?;
+        let across = self
+            .more_each(rows)?
+            .checked_mul(faster.fine.whole as usize)?;
+        Some((across, along))
     }
 }

@@ -1,7 +1,9 @@
 ghost use Rattle.std.specs.Prelude.{◌≡◌, ℕ, ◌+◌, ◌*◌, ◌<◌, ◌≤◌, All, List, [], ◌∷◌, length};
 ghost use Rattle.idx_block.specs.Copies.{HasCoordinate};
+ghost use Rattle.idx_block.specs.Spread.{part_after};
 ghost use Rattle.idx_scatter.specs.Legs.{AllFit, EachMove, leg_of, place_by, tally_at};
-ghost use Rattle.idx_scatter.specs.Moves.{AreMoved, IsRoom, IsWanted};
+ghost use Rattle.idx_scatter.specs.Scatter.{sample_of};
+ghost use Rattle.idx_scatter.specs.Moves.{AreApart, AreMoved, IsRoom, IsSpot, IsWanted};
 
 use crate::leg::Leg;
 use crate::tally::Tally;
@@ -35,6 +37,7 @@ pub(crate) fn walk<S: Sample>(
     match lines {
         [] => move_sample(sample, legs, samples, place, into, rows),
         [line] => row(sample, legs, line, samples, place, into, rows),
+        [slower, line] => plane(sample, legs, slower, line, samples, place, into, rows),
         [slowest, faster @ ..] => {
             let leg = &legs[faster.len()];
             let mut part = slowest.first;
@@ -44,6 +47,114 @@ pub(crate) fn walk<S: Sample>(
                 part = next_part(slowest.bits, part);
             }
         }
+    }
+}
+
+/// Moves the samples along two lines, those of the axes 1 and 0.
+fn plane<S: Sample>(
+    sample: S,
+    legs: &[Leg; MAX_AXES],
+    slower: &Line,
+    line: &Line,
+    samples: &[u8],
+    place: usize,
+    into: &mut [u8],
+    rows: &Tally,
+)
+    requires some { 0 < S.bytes sample }
+    requires few { S.bytes sample ≤ 64 }
+    requires slower { HasCoordinate slower.now }
+    requires counted { HasCoordinate line.now }
+    requires fits { AllFit legs.now (slower.now ∷ line.now ∷ []) rows.now }
+    requires within { EachMove (IsRoom (S.bytes sample) samples.now into.old) legs.now (slower.now ∷ line.now ∷ [])
+        place rows.now }
+    ensures { (want : ℕ → List ℕ) →
+        EachMove (IsWanted want (S.bytes sample) samples.now) legs.now (slower.now ∷ line.now ∷ []) place rows.now →
+        AreMoved want (S.bytes sample) legs.now (slower.now ∷ line.now ∷ []) place rows.now into.old into.new }
+{
+    match legs[1].paces(&legs[0], rows) {
+        Some((across, along)) => even_plane(
+            sample, legs, slower, line, samples, place, into, rows, across, along,
+        ),
+        None => odd_plane(sample, legs, slower, line, samples, place, into, rows),
+    }
+}
+
+/// Moves the samples along two lines, where the rows lie `across` places apart in the answer, and the points of each
+/// row `along`.
+#[inline(always)]
+fn even_plane<S: Sample>(
+    sample: S,
+    legs: &[Leg; MAX_AXES],
+    slower: &Line,
+    line: &Line,
+    samples: &[u8],
+    place: usize,
+    into: &mut [u8],
+    rows: &Tally,
+    across: usize,
+    along: usize,
+)
+    requires some { 0 < S.bytes sample }
+    requires few { S.bytes sample ≤ 64 }
+    requires slower { HasCoordinate slower.now }
+    requires counted { HasCoordinate line.now }
+    requires fits { AllFit legs.now (slower.now ∷ line.now ∷ []) rows.now }
+    requires within { EachMove (IsRoom (S.bytes sample) samples.now into.old) legs.now (slower.now ∷ line.now ∷ [])
+        place rows.now }
+    requires even { (j k : ℕ) → j < slower.now.count → k < line.now.count →
+        place_by (tally_at (leg_of legs.now []) (tally_at (leg_of legs.now (line.now ∷ [])) rows.now j) k) ≡
+        place_by (tally_at (leg_of legs.now []) (tally_at (leg_of legs.now (line.now ∷ [])) rows.now 0) 0) +
+        j * across + k * along }
+    ensures { (want : ℕ → List ℕ) →
+        EachMove (IsWanted want (S.bytes sample) samples.now) legs.now (slower.now ∷ line.now ∷ []) place rows.now →
+        AreMoved want (S.bytes sample) legs.now (slower.now ∷ line.now ∷ []) place rows.now into.old into.new }
+{
+    let first = legs[0].at(&legs[1].at(rows, 0), 0).place();
+    let bits = slower.bits;
+    let mut part = slower.first;
+    for j in 0..slower.count {
+        even_row(
+            sample,
+            line,
+            samples,
+            place + part,
+            into,
+            first + j * across,
+            along,
+        );
+        part = next_part(bits, part);
+    }
+}
+
+/// Moves the samples along two lines, row by row.
+fn odd_plane<S: Sample>(
+    sample: S,
+    legs: &[Leg; MAX_AXES],
+    slower: &Line,
+    line: &Line,
+    samples: &[u8],
+    place: usize,
+    into: &mut [u8],
+    rows: &Tally,
+)
+    requires some { 0 < S.bytes sample }
+    requires few { S.bytes sample ≤ 64 }
+    requires counted { HasCoordinate line.now }
+    requires fits { AllFit legs.now (slower.now ∷ line.now ∷ []) rows.now }
+    requires within { EachMove (IsRoom (S.bytes sample) samples.now into.old) legs.now (slower.now ∷ line.now ∷ [])
+        place rows.now }
+    ensures { (want : ℕ → List ℕ) →
+        EachMove (IsWanted want (S.bytes sample) samples.now) legs.now (slower.now ∷ line.now ∷ []) place rows.now →
+        AreMoved want (S.bytes sample) legs.now (slower.now ∷ line.now ∷ []) place rows.now into.old into.new }
+{
+    let leg = legs[1];
+    let bits = slower.bits;
+    let mut part = slower.first;
+    for k in 0..slower.count {
+        let tally = leg.at(rows, k);
+        row(sample, legs, line, samples, place + part, into, &tally);
+        part = next_part(bits, part);
     }
 }
 
@@ -67,36 +178,36 @@ fn row<S: Sample>(
         AreMoved want (S.bytes sample) legs.now (line.now ∷ []) place rows.now into.old into.new }
 {
     match legs[0].more_each(rows) {
-        Some(more) => even_row(sample, legs, line, samples, place, into, rows, more),
+        Some(more) => {
+            let first = legs[0].at(rows, 0).place();
+            even_row(sample, line, samples, place, into, first, more);
+        }
         None => odd_row(sample, legs, line, samples, place, into, rows),
     }
 }
 
-/// Moves the samples along one line, whose places in the answer lie `more` apart.
+/// Moves the samples along one line to the places from `first` on that lie `more` apart.
+#[inline(always)]
 fn even_row<S: Sample>(
     sample: S,
-    legs: &[Leg; MAX_AXES],
     line: &Line,
     samples: &[u8],
     place: usize,
     into: &mut [u8],
-    rows: &Tally,
+    first: usize,
     more: usize,
 )
     requires some { 0 < S.bytes sample }
     requires few { S.bytes sample ≤ 64 }
-    requires counted { HasCoordinate line.now }
-    requires fits { AllFit legs.now (line.now ∷ []) rows.now }
-    requires within { EachMove (IsRoom (S.bytes sample) samples.now into.old) legs.now (line.now ∷ []) place rows.now }
-    requires even { (k : ℕ) → k < line.now.count →
-        place_by (tally_at (leg_of legs.now []) rows.now k) ≡
-        place_by (tally_at (leg_of legs.now []) rows.now 0) + k * more }
+    requires within { (k : ℕ) → k < line.now.count → IsSpot (S.bytes sample) samples.now into.old
+        (place + part_after line.now.bits line.now.first k) (first + k * more) }
     ensures { (want : ℕ → List ℕ) →
-        EachMove (IsWanted want (S.bytes sample) samples.now) legs.now (line.now ∷ []) place rows.now →
-        AreMoved want (S.bytes sample) legs.now (line.now ∷ []) place rows.now into.old into.new }
+        ((k : ℕ) → k < line.now.count →
+        sample_of (S.bytes sample) samples.now (place + part_after line.now.bits line.now.first k) ≡
+        want (first + k * more)) →
+        AreApart want (S.bytes sample) line.now.count first more into.old into.new }
 {
     let size = sample.bytes();
-    let first = legs[0].at(rows, 0).place();
     let bits = line.bits;
     let mut part = line.first;
     for k in 0..line.count {

@@ -2,7 +2,7 @@ use Rattle.std.proofs.Common.{◌≡◌, ℕ, suc, ◌+◌, ◌≤◌, List, [],
 use Rattle.idx_block.specs.Spread.{next_part, part_after}
 use Rattle.idx_block.specs.declared.line.Line.{Line}
 use Rattle.idx_block.specs.Copies.{HasCoordinate}
-use Rattle.idx_block.proofs.CopyLemmas.{All-faster, faster_of, lines-are, no_line-is, one_line-is, slowest_of}
+use Rattle.idx_block.proofs.CopyLemmas.{All-faster, faster_of, lines-are, no_line-is, one_line-is, slowest_of, two_lines-are}
 use Rattle.idx_scatter.specs.Legs.{AllFit, EachMove, leg_of, tally_at}
 use Rattle.idx_scatter.specs.Moves.{AreMoved, IsRoom, IsWanted}
 use Rattle.idx_scatter.specs.declared.tally.Tally.{Tally}
@@ -97,3 +97,16 @@ returns-after-loop-k g t c = λ want right.
     subst (λ (ls : List Line). AreMoved want size c.args.legs.now ls c.args.place c.args.rows.now c.args.into.now c.loop-k.into) whole
     (so_far-all want size c.args.legs.now (slowest_of lines) (faster_of lines) c.args.place c.args.rows.now c.loop-k.k c.args.into.now c.loop-k.into (omega (arith, c.loop-k-test.false))
     (c.loop-k.invariant.made want (subst (λ (ls : List Line). EachMove (IsWanted want size c.args.samples.now) c.args.legs.now ls c.args.place c.args.rows.now) (sym whole) right)))
+
+pub plane-requires-clause-fits : goal.plane-requires-clause-fits
+plane-requires-clause-fits g t c =
+    let lines : List Line = c.args.lines.now in
+    subst (λ (ls : List Line). AllFit c.args.legs.now ls c.args.rows.now) (sym (two_lines-are lines (omega (arith, c.in-len2.len_at_least)) c.in-len2.len_below)) c.requires.fits
+
+pub returns-in-len2 : goal.returns-in-len2
+returns-in-len2 g t c = λ want right.
+    let lines : List Line = c.args.lines.now in
+    let size : ℕ = g.S.Sample.bytes c.args.sample in
+    let two = two_lines-are lines (omega (arith, c.in-len2.len_at_least)) c.in-len2.len_below in
+    subst (λ (ls : List Line). AreMoved want size c.args.legs.now ls c.args.place c.args.rows.now c.args.into.now c.plane.new.into) two
+    (c.plane.ensures want (subst (λ (ls : List Line). EachMove (IsWanted want size c.args.samples.now) c.args.legs.now ls c.args.place c.args.rows.now) (sym two) right))

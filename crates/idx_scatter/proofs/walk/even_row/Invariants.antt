@@ -1,14 +1,13 @@
-use Rattle.std.proofs.Common.{◌≡◌, ℕ, List, [], ◌∷◌}
+use Rattle.std.proofs.Common.{◌≡◌, ℕ, ◌+◌, ◌*◌, ◌<◌, List}
 use Rattle.idx_block.specs.Spread.{part_after}
-use Rattle.idx_scatter.specs.Legs.{EachMove}
-use Rattle.idx_scatter.specs.Moves.{IsWanted}
-use Rattle.idx_scatter.proofs.MoveLemmas.{AreSoFar}
+use Rattle.idx_scatter.specs.Moves.{AreApart}
+use Rattle.idx_scatter.specs.Scatter.{sample_of}
 use Rattle.idx_scatter.proofs.walk.even_row.Given as goal
 
--- the moves so far are made
+-- the first samples are placed
 abbrev pub invariant-loop-k : goal.invariant-loop-k
 invariant-loop-k g l = record {
   part : l.part ≡ part_after l.line.bits l.line.first l.k;
-  made : (want : ℕ → List ℕ) → EachMove (IsWanted want (g.S.Sample.bytes l.sample) l.samples) l.legs (l.line ∷ []) l.place l.rows →
-      AreSoFar want (g.S.Sample.bytes l.sample) l.legs l.line [] l.place l.rows l.k l.initial.into l.into;
+  made : (want : ℕ → List ℕ) → ((k : ℕ) → k < l.line.count → sample_of (g.S.Sample.bytes l.sample) l.samples (l.place + part_after l.line.bits l.line.first k) ≡ want (l.first + k * l.more)) →
+      AreApart want (g.S.Sample.bytes l.sample) l.k l.first l.more l.initial.into l.into;
 }
