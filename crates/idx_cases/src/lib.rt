@@ -1,4 +1,4 @@
-//! Tables of cases that go through the top call over forms in memory.
+//! Laws of the top call, and tables of cases that go through it over forms in memory.
 #![tactic(auto)]
 
 #[cfg(test)]
@@ -7,7 +7,10 @@ mod convert_cases;
 mod cut_cases;
 #[cfg(test)]
 mod info_cases;
+mod laws;
 #[cfg(test)]
 mod query_cases;
 #[cfg(test)]
 mod setting;
+
+pub use laws::ask_twice;
