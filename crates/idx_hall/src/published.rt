@@ -34,7 +34,7 @@ impl<E: Blocks + Drop> Published<E> {
         }
     }
 
-    /// The step's number.
+    /// The step's time.
     pub(crate) fn time(&self) -> u64
         ensures { result ≡ E.time self.now }
     {
