@@ -1,4 +1,4 @@
-ghost use Rattle.std.specs.Prelude.{◌≡◌, IfOk};
+ghost use Rattle.std.specs.Prelude.{◌≡◌, ◌<◌, length};
 ghost use Rattle.idx_layout.specs.Shape.{shape_of};
 ghost use Rattle.idx_edition.specs.Tables.{shape_in};
 
@@ -122,109 +122,137 @@ fn ending(
     Ok((files, reader.reads()))
 }
 
-/// Fetches a block of the first field.
+/// Fetches the blocks of the first field, one after another: their bytes, and which of them were read.
 fn fetched(
     alloc: Global,
-    rt: &impl Abort,
     header: &Header,
     step: &Edition<MemLeaf>,
     reader: &mut MemReader,
-    block: u64,
-) -> Result<(Fetched, Vec<u8>), Fail>
-    requires { shape_in step.now.tables ≡ shape_of header.now }
+) -> Result<(Vec<u8>, Vec<Fetched>), Fail>
+    requires some { 0 < length header.now.fields }
+    requires shape { shape_in step.now.tables ≡ shape_of header.now }
 {
-    assert!(rt; block < header.block_count());
-    assert!(rt; header.field_count() > 0);
-    let mut bytes = vec![in alloc; 9u8; header.block_bytes(0) as usize]?;
-    let fetched = step.fetch(reader, 0, block, &mut bytes)?;
-    Ok((fetched, bytes))
+    let mut all = Vec::new(alloc);
+    let mut ways = Vec::new(alloc);
+    for block in 0..header.block_count() {
+        let mut bytes = vec![in alloc; 9u8; header.block_bytes(0) as usize]?;
+        ways.push(step.fetch(reader, 0, block, &mut bytes)?)?;
+        all.extend_from_slice(&bytes)?;
+    }
+    Ok((all, ways))
 }
 
-/// The step 0 of what is left of the files.
-fn step_of(
+/// What a step is read as whose second file is there or not: the bytes of its blocks, which of them were read, and how many
+/// reads there were.
+fn read_back(
     alloc: Global,
     rt: &impl Abort,
-    header: &Header,
     second: bool,
-    reader: &mut MemReader,
-) -> Result<Edition<MemLeaf>, Fail>
-    ensures { IfOk result (λ step. shape_in step.tables ≡ shape_of header.now) }
-{
-    let damage = Damage { second, ..WHOLE };
-    let mut bay = bay_of(alloc, damage, 0)?;
-    let loaded = Edition::load(alloc, header, 0, &mut bay, reader)?;
-    Ok(loaded.expect(rt, "a step"))
+) -> Result<(Vec<u8>, Vec<Fetched>, u64), Fail> {
+    let header = Header::read(alloc, HEADER).ok().expect(rt, "a header");
+    let mut reader = MemReader::new(Vec::new(alloc));
+    let mut bay = bay_of(alloc, Damage { second, ..WHOLE }, 0)?;
+    let loaded = Edition::load(alloc, &header, 0, &mut bay, &mut reader)?;
+    let step = loaded.expect(rt, "a step");
+    assert!(rt; header.field_count() > 0);
+    let (bytes, ways) = fetched(alloc, &header, &step, &mut reader)?;
+    Ok((bytes, ways, reader.reads()))
 }
 
 #[test]
 fn a_step_is_read_block_by_block(rt: HostRuntime) -> Result<(), Fail> {
-    let alloc = rt.alloc();
-    let header = Header::read(alloc, HEADER).ok().expect(&rt, "a header");
-    let mut reader = MemReader::new(Vec::new(alloc));
-    let step = step_of(alloc, &rt, &header, true, &mut reader)?;
-    assert_eq!(rt; (step.time(), reader.reads()), (0, 2));
-    for (block, samples) in BLOCKS.iter().enumerate() {
-        let (way, bytes) = fetched(alloc, &rt, &header, &step, &mut reader, block as u64)?;
-        assert_eq!(rt; way, Fetched::Read);
-        assert_eq!(rt; bytes.as_slice(), samples.as_slice());
-    }
-    assert_eq!(rt; reader.reads(), 6);
+    let (bytes, ways, reads) = read_back(rt.alloc(), &rt, true)?;
+    assert_eq!(rt; bytes.as_slice(), BLOCKS.as_flattened());
+    assert_eq!(rt; ways.as_slice(), [Fetched::Read; 4].as_slice());
+    assert_eq!(rt; reads, 6);
     Ok(())
 }
 
 #[test]
 fn blocks_of_a_missing_file_are_zeros(rt: HostRuntime) -> Result<(), Fail> {
-    let alloc = rt.alloc();
-    let header = Header::read(alloc, HEADER).ok().expect(&rt, "a header");
-    let mut reader = MemReader::new(Vec::new(alloc));
-    let step = step_of(alloc, &rt, &header, false, &mut reader)?;
-    for block in 2..4 {
-        let (way, bytes) = fetched(alloc, &rt, &header, &step, &mut reader, block)?;
-        assert_eq!(rt; way, Fetched::Absent);
-        assert_eq!(rt; bytes.as_slice(), [0; 4].as_slice());
-    }
-    assert_eq!(rt; reader.reads(), 1);
+    let (bytes, ways, reads) = read_back(rt.alloc(), &rt, false)?;
+    let first = [0, 2, 8, 10, 1, 9, 3, 11, 0, 0, 0, 0, 0, 0, 0, 0];
+    assert_eq!(rt; bytes.as_slice(), first.as_slice());
+    let came = [
+        Fetched::Read,
+        Fetched::Read,
+        Fetched::Absent,
+        Fetched::Absent,
+    ];
+    assert_eq!(rt; ways.as_slice(), came.as_slice());
+    assert_eq!(rt; reads, 3);
     Ok(())
 }
 
+/// The step with this first row, and so many bytes of the first file.
+fn damaged(first: Row, kept: usize) -> Damage {
+    Damage {
+        first,
+        kept,
+        second: true,
+    }
+}
+
+/// A faulty row of the first file.
+fn bad(row: u64, kind: TableKind) -> Result<Option<usize>, LoadFault> {
+    Err(LoadFault::BadTable { file: 0, row, kind })
+}
+
+/// The first faulty row is answered after the read of its table, and a failing call of the bay or of the reader at once; a
+/// step stands or not.
 #[test]
-fn the_first_faulty_row_is_answered(rt: HostRuntime) -> Result<(), Fail> {
-    for (first, kept, row, kind) in [
-        (FIRST, 127, 1, TableKind::OutsideFile),
-        (FIRST, 79, 0, TableKind::CutShort),
-        (FIRST, 0, 0, TableKind::CutShort),
-        (row(4, 3), 128, 0, TableKind::Compressed),
-        (row(4, 16), 128, 0, TableKind::RowMajor),
-        (row(5, 0), 128, 0, TableKind::WrongSize),
+fn a_step_is_opened_or_refused(rt: HostRuntime) -> Result<(), Fail> {
+    let failed = Err(LoadFault::StoreFault { faults: 1 });
+    for (step, damage, fails, answer, reads) in [
+        (
+            0,
+            damaged(FIRST, 127),
+            (0, 0),
+            bad(1, TableKind::OutsideFile),
+            1,
+        ),
+        (
+            0,
+            damaged(FIRST, 79),
+            (0, 0),
+            bad(0, TableKind::CutShort),
+            1,
+        ),
+        (0, damaged(FIRST, 0), (0, 0), bad(0, TableKind::CutShort), 1),
+        (
+            0,
+            damaged(row(4, 3), 128),
+            (0, 0),
+            bad(0, TableKind::Compressed),
+            1,
+        ),
+        (
+            0,
+            damaged(row(4, 16), 128),
+            (0, 0),
+            bad(0, TableKind::RowMajor),
+            1,
+        ),
+        (
+            0,
+            damaged(row(5, 0), 128),
+            (0, 0),
+            bad(0, TableKind::WrongSize),
+            1,
+        ),
+        (0, WHOLE, (1, 0), failed, 0),
+        (0, WHOLE, (2, 0), failed, 0),
+        (0, WHOLE, (3, 0), failed, 1),
+        (0, WHOLE, (0, 1), failed, 1),
+        (0, WHOLE, (0, 2), failed, 2),
+        (0, WHOLE, (0, 0), Ok(Some(2)), 2),
+        (5, WHOLE, (0, 0), Ok(None), 0),
+        (10, WHOLE, (0, 0), Ok(None), 0),
     ] {
-        let damage = Damage {
-            first,
-            kept,
-            second: true,
-        };
-        let (answer, reads) = ending(rt.alloc(), &rt, 0, damage, (0, 0))?;
-        assert_eq!(rt; answer, Err(LoadFault::BadTable { file: 0, row, kind }));
-        assert_eq!(rt; reads, 1);
-    }
-    Ok(())
-}
-
-#[test]
-fn a_failing_call_is_answered(rt: HostRuntime) -> Result<(), Fail> {
-    for (bay, reader, wanted) in [(1, 0, 0), (2, 0, 0), (3, 0, 1), (0, 1, 1), (0, 2, 2)] {
-        let (answer, reads) = ending(rt.alloc(), &rt, 0, WHOLE, (bay, reader))?;
-        assert_eq!(rt; answer, Err(LoadFault::StoreFault { faults: 1 }));
-        assert_eq!(rt; reads, wanted);
-    }
-    Ok(())
-}
-
-#[test]
-fn a_step_stands_or_not(rt: HostRuntime) -> Result<(), Fail> {
-    for (step, files, wanted) in [(0, Some(2), 2), (5, None, 0), (10, None, 0)] {
-        let (answer, reads) = ending(rt.alloc(), &rt, step, WHOLE, (0, 0))?;
-        assert_eq!(rt; answer, Ok(files));
-        assert_eq!(rt; reads, wanted);
+        assert_eq!(rt;
+            ending(rt.alloc(), &rt, step, damage, fails)?,
+            (answer, reads)
+        );
     }
     Ok(())
 }

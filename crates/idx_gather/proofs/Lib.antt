@@ -2,3 +2,4 @@ pub mod TableLemmas
 pub mod ContentLemmas
 pub mod StepLemmas
 pub mod EditionLemmas
+pub mod SomeFileLemmas

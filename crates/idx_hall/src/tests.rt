@@ -95,130 +95,78 @@ fn byte(found: Option<&Arc<Bytes>>) -> Option<u8> {
     bytes.as_slice().first().copied()
 }
 
-/// The bytes of the blocks that a look at three of them finds.
+/// What a look at three blocks finds: how many hold the step then, and the byte of each block.
 fn look(
     alloc: Global,
     rt: &impl Abort,
     hall: &mut Hall<Step>,
     blocks: [u64; 3],
-) -> Result<[Option<u8>; 3], Fail>
+) -> Result<(Option<usize>, [Option<u8>; 3]), Fail>
     requires { HasOneStep hall.old }
     ensures { OnOk result (HasOneStep hall.new) }
 {
     let mut looked = Looked::new(alloc, 3)?;
     let number = hall.look(0, &blocks.map(key), &mut looked)?;
     assert_eq!(rt; number, Some(0));
-    assert_eq!(rt; looked.len(), 3);
-    Ok([
+    let bytes = [
         byte(looked.found(0)),
         byte(looked.found(1)),
         byte(looked.found(2)),
-    ])
+    ];
+    Ok((looked.edition().map(Arc::strong_count), bytes))
+}
+
+/// How the step of time 0 is refused again: why, the time of the step that comes back, and how many hold it.
+fn refused_again(
+    alloc: Global,
+    rt: &impl Abort,
+    hall: &mut Hall<Step>,
+) -> Result<(PublishRefusal, u64, usize), Fail>
+    requires { HasOneStep hall.old }
+{
+    let again = step_of(alloc, 0)?;
+    let same = Arc::try_clone(&again)?;
+    let (returned, refusal) = hall.publish(again).err().expect(rt, "a refusal");
+    Ok((refusal, returned.time(), Arc::strong_count(&same)))
 }
 
 #[test]
 fn a_time_is_published_once(rt: HostRuntime) -> Result<(), Fail> {
-    let alloc = rt.alloc();
-    let mut hall = hall_with_room(alloc, &rt, 4)?;
-    let again = step_of(alloc, 0)?;
-    let same = Arc::try_clone(&again)?;
-    let (returned, refusal) = hall.publish(again).err().expect(&rt, "a refusal");
-    assert_eq!(rt; refusal, PublishRefusal::AlreadyPublished { post: 0 });
-    assert_eq!(rt; Arc::strong_count(&same), 2);
-    assert_eq!(rt; returned.time(), 0);
-    assert_eq!(rt; hall.board_len(), 1);
-    assert_eq!(rt; hall.publish(step_of(alloc, 5)?).ok(), Some(1));
-    assert_eq!(rt; hall.board_len(), 2);
-    Ok(())
-}
-
-#[test]
-fn a_time_that_lacks_leaves_a_look_empty(rt: HostRuntime) -> Result<(), Fail> {
-    let alloc = rt.alloc();
-    let mut hall = hall_with_room(alloc, &rt, 4)?;
-    let mut looked = Looked::new(alloc, 1)?;
-    let number = hall.look(
-        1,
-        &[Key {
-            time: 1,
-            field: 0,
-            block: 0,
-        }],
-        &mut looked,
-    )?;
-    assert_eq!(rt; number, None);
-    assert!(rt; looked.edition().is_none());
-    assert_eq!(rt; looked.len(), 0);
-    Ok(())
-}
-
-#[test]
-fn a_look_shares_the_step_and_the_blocks(rt: HostRuntime) -> Result<(), Fail> {
-    let alloc = rt.alloc();
-    let mut hall = hall_with_room(alloc, &rt, 2)?;
-    fill(alloc, &mut hall, 4)?;
-    let mut looked = Looked::new(alloc, 2)?;
-    let number = hall.look(0, &[key(4), key(5)], &mut looked)?;
-    assert_eq!(rt; number, Some(0));
-    assert_eq!(rt; looked.len(), 2);
-    assert_eq!(rt; looked.edition().map(Arc::strong_count), Some(2));
-    assert_eq!(rt; looked.found(0).map(Arc::strong_count), Some(2));
-    assert_eq!(rt; byte(looked.found(0)), Some(4));
-    assert!(rt; looked.found(1).is_none());
-    looked.clear();
-    assert!(rt; looked.edition().is_none());
-    assert_eq!(rt; looked.len(), 0);
-    Ok(())
-}
-
-#[test]
-fn the_most_recently_used_blocks_stay(rt: HostRuntime) -> Result<(), Fail> {
-    let alloc = rt.alloc();
-    let mut hall = hall_with_room(alloc, &rt, 4)?;
-    fill(alloc, &mut hall, 0)?;
-    fill(alloc, &mut hall, 1)?;
-    fill(alloc, &mut hall, 2)?;
-    fill(alloc, &mut hall, 3)?;
-    assert_eq!(rt; (hall.capacity(), hall.cache_len()), (4, 4));
-    assert_eq!(rt; hall.evict(3), 3);
+    let mut hall = hall_with_room(rt.alloc(), &rt, 4)?;
     assert_eq!(rt;
-        look(alloc, &rt, &mut hall, [2, 3, 0])?,
-        [None, Some(3), None]
-    );
-    assert_eq!(rt; hall.evict(9), 1);
-    assert_eq!(rt; hall.cache_len(), 0);
-    Ok(())
-}
-
-#[test]
-fn a_cache_of_one_block_keeps_the_last(rt: HostRuntime) -> Result<(), Fail> {
-    let alloc = rt.alloc();
-    let mut hall = hall_with_room(alloc, &rt, 1)?;
-    fill(alloc, &mut hall, 0)?;
-    fill(alloc, &mut hall, 1)?;
-    assert_eq!(rt;
-        look(alloc, &rt, &mut hall, [0, 1, 2])?,
-        [None, Some(1), None]
+        refused_again(rt.alloc(), &rt, &mut hall)?,
+        (PublishRefusal::AlreadyPublished { post: 0 }, 0, 2)
     );
     Ok(())
 }
 
 #[test]
-fn a_look_moves_blocks_to_the_front_in_order(rt: HostRuntime) -> Result<(), Fail> {
-    let alloc = rt.alloc();
-    let mut hall = hall_with_room(alloc, &rt, 3)?;
-    fill(alloc, &mut hall, 0)?;
-    fill(alloc, &mut hall, 1)?;
-    fill(alloc, &mut hall, 2)?;
+fn a_look_shares_the_step_and_moves_blocks_to_the_front(rt: HostRuntime) -> Result<(), Fail> {
+    let mut hall = hall_with_room(rt.alloc(), &rt, 3)?;
+    fill(rt.alloc(), &mut hall, 0)?;
+    fill(rt.alloc(), &mut hall, 1)?;
+    fill(rt.alloc(), &mut hall, 2)?;
     assert_eq!(rt;
-        look(alloc, &rt, &mut hall, [2, 5, 0])?,
-        [Some(2), None, Some(0)]
+        look(rt.alloc(), &rt, &mut hall, [2, 5, 0])?,
+        (Some(2), [Some(2), None, Some(0)])
     );
-    fill(alloc, &mut hall, 3)?;
-    fill(alloc, &mut hall, 4)?;
+    assert_eq!(rt; hall.evict(2), 2);
     assert_eq!(rt;
-        look(alloc, &rt, &mut hall, [1, 2, 0])?,
-        [None, None, Some(0)]
+        look(rt.alloc(), &rt, &mut hall, [1, 2, 0])?,
+        (Some(2), [None, None, Some(0)])
+    );
+    Ok(())
+}
+
+#[test]
+fn a_full_cache_keeps_the_last_blocks(rt: HostRuntime) -> Result<(), Fail> {
+    let mut hall = hall_with_room(rt.alloc(), &rt, 1)?;
+    fill(rt.alloc(), &mut hall, 0)?;
+    fill(rt.alloc(), &mut hall, 1)?;
+    assert_eq!(rt; (hall.capacity(), hall.cache_len(), hall.board_len()), (1, 1, 1));
+    assert_eq!(rt;
+        look(rt.alloc(), &rt, &mut hall, [0, 1, 2])?,
+        (Some(2), [None, Some(1), None])
     );
     Ok(())
 }

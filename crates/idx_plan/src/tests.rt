@@ -16,10 +16,6 @@ const ROW: &[u8] =
 const CUBE: &[u8] =
     b"(version)\n6\n(box)\n0 255 0 255 0 255\n(fields)\na float32\n(bits)\nV012012012012012012012012\n(bitsperblock)\n16\n(blocksperfile)\n256\n(filename_template)\n./%06x.bin\n";
 
-fn header(alloc: Global, rt: &impl Abort, text: &[u8]) -> Header {
-    Header::read(alloc, text).ok().expect(rt, "a header")
-}
-
 /// A question for the first field of the first step.
 fn question(rt: &impl Abort, lo: &[u64], hi: &[u64], levels: (u32, u32)) -> Ask {
     let lo = Point::new(lo).expect(rt, "a lower end");
@@ -33,127 +29,101 @@ fn question(rt: &impl Abort, lo: &[u64], hi: &[u64], levels: (u32, u32)) -> Ask 
     }
 }
 
-/// The plan of a question; it has one.
-fn planned(alloc: Global, rt: &impl Abort, header: &Header, ask: &Ask) -> Plan {
+/// The plan of a question under the header of a text: how many samples and bytes its answer has, and the numbers of the
+/// needed blocks.
+fn planned(
+    alloc: Global,
+    rt: &impl Abort,
+    text: &[u8],
+    ask: &Ask,
+) -> Result<(u64, u64, Vec<u64>), PlanFault> {
+    let header = Header::read(alloc, text).ok().expect(rt, "a header");
     assert!(rt; ask.field < header.field_count());
     assert!(rt; ask.region.axes() == header.axes());
-    plan(alloc, header, ask).ok().expect(rt, "a plan")
+    let plan = plan(alloc, &header, ask)?;
+    let blocks = plan.keys().iter().map(|key| key.block).collect(alloc)?;
+    Ok((plan.samples(), plan.bytes(), blocks))
 }
 
-/// Why a question has no plan.
-fn refused(alloc: Global, rt: &impl Abort, header: &Header, ask: &Ask) -> PlanFault {
+/// How many samples the answer to a question has, and the answer, 255 in each byte, behind the copy of the block of a key.
+fn copied(
+    alloc: Global,
+    rt: &impl Abort,
+    ask: &Ask,
+    key: u64,
+    block: &[u8],
+) -> Result<(u64, [u8; 8]), PlanFault> {
+    let header = Header::read(alloc, SQUARE).ok().expect(rt, "a header");
     assert!(rt; ask.field < header.field_count());
     assert!(rt; ask.region.axes() == header.axes());
-    plan(alloc, header, ask).err().expect(rt, "a fault")
-}
-
-fn has_blocks(plan: &Plan, blocks: &[u64]) -> bool {
-    plan.keys().len() == blocks.len()
-        && plan
-            .keys()
-            .iter()
-            .zip(blocks.iter())
-            .all(|(key, block)| key.block == *block)
-}
-
-#[test]
-fn blocks_of_the_levels_are_needed(rt: HostRuntime) {
-    let header = header(rt.alloc(), &rt, SQUARE);
-    let all = planned(
-        rt.alloc(),
-        &rt,
-        &header,
-        &question(&rt, &[0, 0], &[3, 3], (0, 4)),
-    );
-    assert!(rt; has_blocks(&all, &[0, 1, 2, 3]));
-    let fine = planned(
-        rt.alloc(),
-        &rt,
-        &header,
-        &question(&rt, &[0, 0], &[3, 3], (3, 4)),
-    );
-    assert!(rt; has_blocks(&fine, &[1, 2, 3]));
-    assert_eq!(rt; fine.samples(), 12);
-}
-
-#[test]
-fn faults_are_told_in_order(rt: HostRuntime) {
-    let header = header(rt.alloc(), &rt, SQUARE);
-    let outside = refused(
-        rt.alloc(),
-        &rt,
-        &header,
-        &question(&rt, &[0, 0], &[4, 3], (0, 5)),
-    );
-    assert_eq!(rt; outside, PlanFault::OutsideVolume { axis: 0 });
-    for (lo, hi) in [(3, 2), (0, 5)] {
-        let levels = refused(
-            rt.alloc(),
-            &rt,
-            &header,
-            &question(&rt, &[0, 0], &[3, 3], (lo, hi)),
-        );
-        assert_eq!(rt; levels, PlanFault::BadLevels { lo, hi, max: 4 });
-    }
-}
-
-#[test]
-fn answers_have_at_most_so_many_bytes(rt: HostRuntime) {
-    let header = header(rt.alloc(), &rt, ROW);
-    let most = planned(
-        rt.alloc(),
-        &rt,
-        &header,
-        &question(&rt, &[0, 0], &[4_194_303, 0], (0, 23)),
-    );
-    assert_eq!(rt; most.bytes(), 268_435_456);
-    let more = refused(
-        rt.alloc(),
-        &rt,
-        &header,
-        &question(&rt, &[0, 0], &[4_194_304, 0], (0, 23)),
-    );
-    assert_eq!(rt; more, PlanFault::TooLarge { bytes: 268_435_520 });
-}
-
-#[test]
-fn a_coarse_slice_needs_two_blocks(rt: HostRuntime) {
-    let header = header(rt.alloc(), &rt, CUBE);
-    let slice = planned(
-        rt.alloc(),
-        &rt,
-        &header,
-        &question(&rt, &[0, 0, 128], &[255, 255, 128], (0, 18)),
-    );
-    assert_eq!(rt; slice.samples(), 4096);
-    assert!(rt; has_blocks(&slice, &[0, 1]));
-}
-
-/// An answer of eight bytes, 255 each, behind the copy of the block of a key.
-fn copied(rt: &impl Abort, plan: &Plan, key: u64, block: &[u8]) -> [u8; 8] {
+    let samples = count_samples(&header, ask)?;
+    let plan = plan(alloc, &header, ask)?;
     let mut out = [255; 8];
     assert!(rt; key < plan.keys().len() as u64);
     assert!(rt; plan.block_bytes() == block.len() as u64);
     assert!(rt; plan.bytes() == out.len() as u64);
     plan.copy(key, block, &mut out);
-    out
+    Ok((samples, out))
+}
+
+#[test]
+fn blocks_of_the_levels_are_needed(rt: HostRuntime) {
+    let square = [3u64, 3];
+    let rows: [(&[u8], &[u64], &[u64], (u32, u32), (u64, u64), &[u64]); 3] = [
+        (SQUARE, &[0, 0], &square, (0, 4), (16, 16), &[0, 1, 2, 3]),
+        (SQUARE, &[0, 0], &square, (3, 4), (12, 12), &[1, 2, 3]),
+        (
+            CUBE,
+            &[0, 0, 128],
+            &[255, 255, 128],
+            (0, 18),
+            (4096, 16384),
+            &[0, 1],
+        ),
+    ];
+    for (text, lo, hi, levels, (samples, bytes), blocks) in rows {
+        let ask = question(&rt, lo, hi, levels);
+        let plan = planned(rt.alloc(), &rt, text, &ask)
+            .ok()
+            .expect(&rt, "a plan");
+        assert_eq!(rt; (plan.0, plan.1), (samples, bytes));
+        assert_eq!(rt; plan.2.as_slice(), blocks);
+    }
+}
+
+/// Faults in their order, and the largest answer beside the first that is too large.
+#[test]
+fn questions_without_a_plan_are_refused(rt: HostRuntime) {
+    let levels = |lo, hi| PlanFault::BadLevels { lo, hi, max: 4 };
+    let rows: [(&[u8], &[u64], (u32, u32), Option<PlanFault>); 5] = [
+        (
+            SQUARE,
+            &[4, 3],
+            (0, 5),
+            Some(PlanFault::OutsideVolume { axis: 0 }),
+        ),
+        (SQUARE, &[3, 3], (3, 2), Some(levels(3, 2))),
+        (SQUARE, &[3, 3], (0, 5), Some(levels(0, 5))),
+        (ROW, &[4_194_303, 0], (0, 23), None),
+        (
+            ROW,
+            &[4_194_304, 0],
+            (0, 23),
+            Some(PlanFault::TooLarge { bytes: 268_435_520 }),
+        ),
+    ];
+    for (text, hi, levels, fault) in rows {
+        let ask = question(&rt, &[0, 0], hi, levels);
+        assert_eq!(rt; planned(rt.alloc(), &rt, text, &ask).err(), fault);
+    }
 }
 
 /// The samples of a block go to their places among those that are asked for; the others stay.
 #[test]
 fn a_block_is_copied_to_its_places(rt: HostRuntime) {
-    let header = header(rt.alloc(), &rt, SQUARE);
     let ask = question(&rt, &[0, 0], &[3, 3], (0, 3));
-    let plan = planned(rt.alloc(), &rt, &header, &ask);
     assert_eq!(rt;
-        copied(&rt, &plan, 1, &[1, 9, 3, 11]),
-        [255, 1, 255, 3, 255, 9, 255, 11]
+        copied(rt.alloc(), &rt, &ask, 1, &[1, 9, 3, 11]).ok(),
+        Some((8, [255, 1, 255, 3, 255, 9, 255, 11]))
     );
-    assert_eq!(rt; counted(&rt, &header, &ask), Ok(8));
-}
-
-fn counted(rt: &impl Abort, header: &Header, ask: &Ask) -> Result<u64, PlanFault> {
-    assert!(rt; ask.field < header.field_count());
-    assert!(rt; ask.region.axes() == header.axes());
-    count_samples(header, ask)
 }

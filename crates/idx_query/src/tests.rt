@@ -6,7 +6,7 @@ use idx_geom::{Point, Region};
 use idx_hall::Hall;
 use idx_header::Header;
 use idx_outside::{Blocks, Bytes, Fetched, MemLeaf, MemReader, Outage, Reader};
-use idx_plan::{Ask, PlanFault};
+use idx_plan::Ask;
 use idx_turn::Solo;
 use std::alloc::Global;
 use std::process::Abort;
@@ -111,11 +111,12 @@ fn publish(
     Ok(())
 }
 
-/// What came of a question: the answer, how many reads were tried, and the hall.
+/// What came of a question: the answer, how many reads were tried, the bytes, and the hall.
 #[derive(Drop)]
 struct Outcome {
     answer: Result<Report, QueryFault>,
     reads: u64,
+    out: Bytes,
     hall: Hall<Step>,
 }
 
@@ -127,7 +128,6 @@ fn ask_hall(
     hall: Hall<Step>,
     ask: &Ask,
     fails: u64,
-    out: &mut Bytes,
 ) -> Result<Outcome, Fail>
     requires { hall.shape ≡ record { blocks = 4; lengths = 4 ∷ [] } }
     ensures { IfOk result (λ outcome. outcome.hall.shape ≡ record { blocks = 4; lengths = 4 ∷ [] }) }
@@ -135,189 +135,122 @@ fn ask_hall(
     let header = Header::read(alloc, BASE).ok().expect(rt, "a header");
     let mut reader = MemReader::new(Vec::from_slice(alloc, &[fails])?);
     let mut solo = Solo::new(hall);
+    let mut out = Bytes::new(alloc);
     assert_eq!(rt; header.field_count(), 1);
     assert_eq!(rt; header.block_count(), 4);
     assert_eq!(rt; header.block_bytes(0), 4);
     assert_eq!(rt; ask.field, 0);
     assert!(rt; ask.region.axes() == header.axes());
-    let answer = answer(alloc, &header, ask, &mut solo, &mut reader, out);
+    let answer = answer(alloc, &header, ask, &mut solo, &mut reader, &mut out);
     Ok(Outcome {
         answer,
         reads: reader.reads(),
+        out,
         hall: solo.end(),
     })
 }
 
-/// How a question is answered twice out of a hall, where no read fails: both reports, and how many blocks are cached
-/// then.
+/// What came of a question, in numbers: the answer, how many reads were tried, and how many blocks are cached.
+type Numbers = (Result<Report, QueryFault>, u64, u64);
+
+/// How a question is answered twice out of a step that lacks this block, with room for so many cached blocks, where this
+/// read fails the first time; and the bytes of both answers, one behind the other.
 fn twice(
     alloc: Global,
     rt: &impl Abort,
-    hall: Hall<Step>,
     ask: &Ask,
-    out: &mut Bytes,
-) -> Result<(Report, Report, u64), Fail>
-    requires { hall.shape ≡ record { blocks = 4; lengths = 4 ∷ [] } }
+    capacity: u32,
+    lacks: u64,
+    fails: u64,
+) -> Result<(Numbers, Numbers, Vec<u8>), Fail>
+    requires some { 1 ≤ capacity }
+    requires few { capacity ≤ 65536 }
 {
-    let first = ask_hall(alloc, rt, hall, ask, NONE, out)?;
-    let report = first.answer.ok().expect(rt, "a report");
-    assert_eq!(rt; first.reads, report.reads);
-    let second = ask_hall(alloc, rt, first.hall, ask, NONE, out)?;
-    let again = second.answer.ok().expect(rt, "a report");
-    assert_eq!(rt; second.reads, again.reads);
-    Ok((report, again, second.hall.cache_len()))
+    let mut hall = hall_with_room(alloc, capacity)?;
+    publish(alloc, rt, &mut hall, 0, lacks)?;
+    let first = ask_hall(alloc, rt, hall, ask, fails)?;
+    let cached = first.hall.cache_len();
+    let second = ask_hall(alloc, rt, first.hall, ask, NONE)?;
+    let mut bytes = Vec::from_slice(alloc, first.out.as_slice())?;
+    bytes.extend_from_slice(second.out.as_slice())?;
+    Ok((
+        (first.answer, first.reads, cached),
+        (second.answer, second.reads, second.hall.cache_len()),
+        bytes,
+    ))
 }
 
-/// A report of an answer out of step number 0.
-fn report(hits: u64, reads: u64, absent: u64) -> Report {
-    Report {
+/// An answer out of step number 0, after as many reads as it tells, with so many blocks cached then.
+fn answered(hits: u64, reads: u64, absent: u64, cached: u64) -> Numbers {
+    let report = Report {
         post: 0,
         hits,
         reads,
         absent,
-    }
-}
-
-/// How the whole box is answered twice, with room for so many cached blocks.
-fn whole_twice(alloc: Global, rt: &impl Abort, capacity: u32) -> Result<(Report, Report, u64), Fail>
-    requires some { 1 ≤ capacity }
-    requires few { capacity ≤ 65536 }
-{
-    let mut out = Bytes::new(alloc);
-    let mut hall = hall_with_room(alloc, capacity)?;
-    publish(alloc, rt, &mut hall, 0, NONE)?;
-    let reports = twice(alloc, rt, hall, &box_of(rt, 0, 0, 4), &mut out)?;
-    assert!(rt; out.as_slice().iter().eq(WHOLE.iter().chain(WHOLE.iter())));
-    Ok(reports)
+    };
+    (Ok(report), reads, cached)
 }
 
 #[test]
 fn a_cached_block_costs_no_read(rt: HostRuntime) -> Result<(), Fail> {
-    let all_cached = (report(0, 4, 0), report(4, 0, 0), 4);
-    assert_eq!(rt; whole_twice(rt.alloc(), &rt, 4)?, all_cached);
-    assert_eq!(rt; whole_twice(rt.alloc(), &rt, 9)?, all_cached);
-    Ok(())
-}
-
-#[test]
-fn a_cache_of_one_block_keeps_the_last(rt: HostRuntime) -> Result<(), Fail> {
-    assert_eq!(rt;
-        whole_twice(rt.alloc(), &rt, 1)?,
-        (report(0, 4, 0), report(1, 3, 0), 1)
-    );
+    let whole = box_of(&rt, 0, 0, 4);
+    for (capacity, hits, cached) in [(4, 4, 4), (9, 4, 4), (1, 1, 1)] {
+        let (first, second, bytes) = twice(rt.alloc(), &rt, &whole, capacity, NONE, NONE)?;
+        assert_eq!(rt; first, answered(0, 4, 0, cached));
+        assert_eq!(rt; second, answered(hits, 4 - hits, 0, cached));
+        assert!(rt; bytes.iter().eq(WHOLE.iter().chain(WHOLE.iter())));
+    }
     Ok(())
 }
 
 #[test]
 fn an_absent_block_is_zeros_and_is_cached(rt: HostRuntime) -> Result<(), Fail> {
-    let alloc = rt.alloc();
-    let ask = box_of(&rt, 0, 3, 4);
-    let mut out = Bytes::new(alloc);
-    let mut hall = hall_with_room(alloc, 4)?;
-    publish(alloc, &rt, &mut hall, 0, 1)?;
-    let reports = twice(alloc, &rt, hall, &ask, &mut out)?;
-    assert_eq!(rt; reports, (report(0, 2, 1), report(3, 0, 0), 3));
+    let fine = box_of(&rt, 0, 3, 4);
+    let (first, second, bytes) = twice(rt.alloc(), &rt, &fine, 4, 1, NONE)?;
+    assert_eq!(rt; first, answered(0, 2, 1, 3));
+    assert_eq!(rt; second, answered(3, 0, 0, 3));
     let zeros: [u8; 12] = [0, 0, 4, 5, 6, 7, 0, 0, 12, 13, 14, 15];
-    assert!(rt; out.as_slice().iter().eq(zeros.iter().chain(zeros.iter())));
-    Ok(())
-}
-
-#[test]
-fn fine_levels_stand_behind_what_was_there(rt: HostRuntime) -> Result<(), Fail> {
-    let alloc = rt.alloc();
-    let ask = box_of(&rt, 0, 3, 4);
-    let mut out = Bytes::from_slice(alloc, &[7])?;
-    let mut hall = hall_with_room(alloc, 4)?;
-    publish(alloc, &rt, &mut hall, 0, NONE)?;
-    let asked = ask_hall(alloc, &rt, hall, &ask, NONE, &mut out)?;
-    assert_eq!(rt; asked.answer, Ok(report(0, 3, 0)));
-    assert_eq!(rt; asked.reads, 3);
-    assert_eq!(rt;
-        out.as_slice(),
-        [7, 1, 3, 4, 5, 6, 7, 9, 11, 12, 13, 14, 15].as_slice()
-    );
-    Ok(())
-}
-
-#[test]
-fn no_sample_costs_no_read(rt: HostRuntime) -> Result<(), Fail> {
-    let alloc = rt.alloc();
-    let ask = question(&rt, 0, &[1, 1], &[1, 1], (0, 0));
-    let mut out = Bytes::new(alloc);
-    let mut hall = hall_with_room(alloc, 4)?;
-    publish(alloc, &rt, &mut hall, 0, NONE)?;
-    let asked = ask_hall(alloc, &rt, hall, &ask, 1, &mut out)?;
-    assert_eq!(rt; asked.answer, Ok(report(0, 0, 0)));
-    assert_eq!(rt; asked.reads, 0);
-    assert!(rt; out.is_empty());
+    assert!(rt; bytes.iter().eq(zeros.iter().chain(zeros.iter())));
     Ok(())
 }
 
 #[test]
 fn a_failed_read_leaves_the_bytes_and_the_cache(rt: HostRuntime) -> Result<(), Fail> {
-    let alloc = rt.alloc();
-    let ask = box_of(&rt, 0, 0, 4);
+    let whole = box_of(&rt, 0, 0, 4);
     for fails in [1, 2, 3, 4] {
-        let mut out = Bytes::new(alloc);
-        let mut hall = hall_with_room(alloc, 4)?;
-        publish(alloc, &rt, &mut hall, 0, NONE)?;
-        let failed = ask_hall(alloc, &rt, hall, &ask, fails, &mut out)?;
-        assert_eq!(rt; failed.answer, Err(QueryFault::StoreFault { faults: 1 }));
-        assert_eq!(rt; failed.reads, fails);
-        assert_eq!(rt; failed.hall.cache_len(), 0);
-        assert!(rt; out.is_empty());
-        let asked = ask_hall(alloc, &rt, failed.hall, &ask, NONE, &mut out)?;
-        assert_eq!(rt; asked.answer, Ok(report(0, 4, 0)));
-        assert_eq!(rt; out.as_slice(), WHOLE.as_slice());
+        let (first, second, bytes) = twice(rt.alloc(), &rt, &whole, 4, NONE, fails)?;
+        assert_eq!(rt;
+            first,
+            (Err(QueryFault::StoreFault { faults: 1 }), fails, 0)
+        );
+        assert_eq!(rt; second, answered(0, 4, 0, 4));
+        assert_eq!(rt; bytes.as_slice(), WHOLE.as_slice());
     }
     Ok(())
 }
 
 #[test]
-fn a_time_that_lacks_costs_no_read(rt: HostRuntime) -> Result<(), Fail> {
-    let alloc = rt.alloc();
-    let ask = box_of(&rt, 5, 0, 4);
-    let mut out = Bytes::from_slice(alloc, &[7])?;
-    let hall = hall_with_room(alloc, 4)?;
-    let empty = ask_hall(alloc, &rt, hall, &ask, 1, &mut out)?;
-    assert_eq!(rt; empty.answer, Err(QueryFault::NotPublished { board: 0 }));
-    let mut hall = empty.hall;
-    publish(alloc, &rt, &mut hall, 0, NONE)?;
-    let lacks = ask_hall(alloc, &rt, hall, &ask, 1, &mut out)?;
-    assert_eq!(rt; lacks.answer, Err(QueryFault::NotPublished { board: 1 }));
-    assert_eq!(rt; (empty.reads, lacks.reads), (0, 0));
-    assert_eq!(rt; out.as_slice(), [7].as_slice());
+fn no_sample_costs_no_read(rt: HostRuntime) -> Result<(), Fail> {
+    let none = question(&rt, 0, &[1, 1], &[1, 1], (0, 0));
+    let (first, _, bytes) = twice(rt.alloc(), &rt, &none, 4, NONE, 1)?;
+    assert_eq!(rt; first, answered(0, 0, 0, 0));
+    assert!(rt; bytes.is_empty());
     Ok(())
 }
 
+/// A time that lacks costs no read; another one is answered out of the step of its number.
 #[test]
-fn a_question_without_a_plan_is_refused_first(rt: HostRuntime) -> Result<(), Fail> {
-    let alloc = rt.alloc();
-    let ask = box_of(&rt, 5, 3, 2);
-    let mut out = Bytes::new(alloc);
-    let hall = hall_with_room(alloc, 4)?;
-    let asked = ask_hall(alloc, &rt, hall, &ask, 1, &mut out)?;
-    let fault = PlanFault::BadLevels {
-        lo: 3,
-        hi: 2,
-        max: 4,
-    };
-    assert_eq!(rt; asked.answer, Err(QueryFault::Plan(fault)));
-    assert_eq!(rt; asked.reads, 0);
-    Ok(())
-}
-
-#[test]
-fn the_report_has_the_number_of_the_step(rt: HostRuntime) -> Result<(), Fail> {
-    let alloc = rt.alloc();
-    let ask = box_of(&rt, 1, 0, 4);
-    let mut out = Bytes::new(alloc);
-    let mut hall = hall_with_room(alloc, 4)?;
-    publish(alloc, &rt, &mut hall, 0, 0)?;
-    publish(alloc, &rt, &mut hall, 1, NONE)?;
-    let asked = ask_hall(alloc, &rt, hall, &ask, NONE, &mut out)?;
-    let post = asked.answer.ok().map(|report| report.post);
-    assert_eq!(rt; post, Some(1));
-    assert_eq!(rt; out.as_slice(), WHOLE.as_slice());
+fn the_step_of_the_time_answers(rt: HostRuntime) -> Result<(), Fail> {
+    let mut hall = hall_with_room(rt.alloc(), 4)?;
+    publish(rt.alloc(), &rt, &mut hall, 0, 0)?;
+    publish(rt.alloc(), &rt, &mut hall, 1, NONE)?;
+    let lacks = ask_hall(rt.alloc(), &rt, hall, &box_of(&rt, 5, 0, 4), 1)?;
+    assert_eq!(rt;
+        (lacks.answer, lacks.reads),
+        (Err(QueryFault::NotPublished { board: 2 }), 0)
+    );
+    let other = ask_hall(rt.alloc(), &rt, lacks.hall, &box_of(&rt, 1, 0, 4), NONE)?;
+    assert_eq!(rt; other.answer.ok().map(|report| report.post), Some(1));
+    assert_eq!(rt; other.out.as_slice(), WHOLE.as_slice());
     Ok(())
 }
