@@ -1,15 +1,17 @@
 -- Each step has a file.
-use Rattle.std.proofs.Common.{◌≡◌, ℕ, ◌+◌, ◌-◌, ◌/◌, ◌^◌, ◌<◌, ◌≤◌, ◌==◌, ◌&&◌, Bool, true, false, List, length, map, refl, sym, ap, subst, ◌∙◌, arith, eq-eqb, length-map}
-use Rattle.std.specs.Prelude.{nat_lt, Some, filter, slice_get}
+use Rattle.std.proofs.Common.{◌≡◌, ℕ, ◌/◌, ◌^◌, ◌<◌, ◌≤◌, ◌==◌, ◌&&◌, Bool, true, false, List, length, refl, sym, ap, subst, ◌∙◌, arith, eq-eqb, zero-add}
+use Rattle.std.specs.Prelude.{nat_lt, Some}
 use Rattle.std.specs.List.{list_any, range_with_len}
 use Rattle.std.proofs.Math.Nat.{lt_of_not-le}
+use Rattle.std.proofs.lemmas.Bool.{ltb-true}
+use Rattle.std.proofs.lemmas.List.{length-map}
 use Rattle.std.proofs.lemmas.List.FromFn.{get_or-range_with_len, length-range_with_len}
 use Rattle.std.proofs.lemmas.Option.{slice_get-get_or}
 use Rattle.idx_geom.specs.Region.{upper_ends}
 use Rattle.idx_geom.proofs.LiesInLemmas.{LiesIn-upper_ends}
 use Rattle.idx_hz.specs.Address.{hz_address}
 use Rattle.idx_header.specs.Header.{HeaderValue, IsHeader}
-use Rattle.idx_layout.specs.Layout.{Layout, block_count, file_numbers, file_of, has_point_in, is_present}
+use Rattle.idx_layout.specs.Layout.{Layout, block_count, file_numbers, file_of, is_present}
 use Rattle.idx_layout.specs.OfHeader.{layout_of}
 use Rattle.idx_layout.specs.Step.{step_file, step_files}
 use Rattle.idx_layout.proofs.ListLemmas.{counted, list_any-slice_get}
@@ -20,7 +22,7 @@ any_in_range : (test : ℕ → Bool) (n k : ℕ) → k < n → test k ≡ true �
 any_in_range test n k below passes =
     list_any-slice_get test (range_with_len 0 n) k k
     (slice_get-get_or (range_with_len 0 n) k 0 (subst (λ (m : ℕ). k < m) (sym (length-range_with_len 0 n)) below)
-    ∙ ap Some (get_or-range_with_len 0 n k 0 below))
+    ∙ ap Some (get_or-range_with_len 0 n k 0 below ∙ zero-add k))
     passes
 
 -- a block that is present exists
@@ -51,7 +53,7 @@ some_file h valid =
     any_in_range (λ file. list_any (λ b. is_present l b && (file_of l b == file)) (range_with_len 0 (block_count l))) (block_count l) (file_of l block) (omega (arith, begins, exists)) has in
     let many : nat_lt 0 (length (file_numbers l)) ≡ true =
     counted (λ file. list_any (λ b. is_present l b && (file_of l b == file)) (range_with_len 0 (block_count l))) (range_with_len 0 (block_count l)) ∙ found in
-    search (many)
+    ltb-true 0 (length (file_numbers l)) many
 
 -- so a step has a file, whatever its volume
 pub some_step_file : (h : HeaderValue) (volume : List (List (List ℕ))) (step : ℕ) → IsHeader h → 0 < length (step_files h volume step)
