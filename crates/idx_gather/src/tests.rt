@@ -4,9 +4,8 @@ ghost use Rattle.idx_layout.specs.Shape.{shape_of};
 use crate::{GatherFault, gather};
 use idx_edition::Edition;
 use idx_header::Header;
-use idx_outside::{
-    Bay, Blocks, Bytes, Fetched, FreeGate, MemBay, MemLeaf, MemReader, MemSource, Source,
-};
+use idx_memory::{MemBay, MemLeaf, MemReader, MemSource};
+use idx_outside::{Bay, Blocks, Bytes, Fetched, FreeGate, Source};
 use std::alloc::Global;
 use std::process::Abort;
 use std::test::Fail;
