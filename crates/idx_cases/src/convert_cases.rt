@@ -4,7 +4,8 @@ use crate::setting::{
 };
 use idx_commands::{Cause, Done};
 use idx_header::HeaderKind;
-use idx_outside::{Bytes, MemBay, MemFile};
+use idx_memory::MemBay;
+use idx_outside::{Bytes, MemFile};
 use std::alloc::{AllocError, Global};
 use std::test::Fail;
 

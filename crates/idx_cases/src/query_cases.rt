@@ -5,7 +5,7 @@ use crate::setting::{
 };
 use idx_commands::{Cause, Done};
 use idx_header::HeaderKind;
-use idx_outside::MemBay;
+use idx_memory::MemBay;
 use idx_table::TableKind;
 use std::alloc::{AllocError, Global};
 use std::test::Fail;

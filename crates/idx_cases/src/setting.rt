@@ -1,6 +1,7 @@
 //! Words, and runs over forms in memory.
 use idx_commands::{Done, run};
-use idx_outside::{Bytes, MemBay, MemFile, MemReader, MemSink, MemSource};
+use idx_memory::{MemBay, MemReader, MemSink, MemSource};
+use idx_outside::{Bytes, MemFile};
 use std::alloc::{AllocError, Global};
 
 /// The header text of a dataset of one byte a sample: two axes of two bits each, blocks of four samples, files of two

@@ -1,6 +1,7 @@
 use crate::{ConvertFault, convert};
 use idx_header::HeaderKind;
-use idx_outside::{Bytes, MemBay, MemSource};
+use idx_memory::{MemBay, MemSource};
+use idx_outside::Bytes;
 use std::alloc::Global;
 use std::test::Fail;
 

@@ -4,7 +4,8 @@ ghost use Rattle.idx_edition.specs.Tables.{shape_in};
 
 use crate::{Edition, LoadFault};
 use idx_header::Header;
-use idx_outside::{Blocks, Bytes, Fetched, MemBay, MemFile, MemLeaf, MemReader, NoMemory, Reader};
+use idx_memory::{MemBay, MemLeaf, MemReader};
+use idx_outside::{Blocks, Bytes, Fetched, MemFile, NoMemory, Reader};
 use idx_table::{ROW_BYTES, Row, TableKind, write_row};
 use std::alloc::Global;
 use std::process::Abort;

@@ -2,7 +2,8 @@
 use crate::{ExtractFault, extract};
 use idx_geom::{Point, Region};
 use idx_header::HeaderKind;
-use idx_outside::{Bytes, MemBay, MemFile, MemReader, NoMemory};
+use idx_memory::{MemBay, MemReader};
+use idx_outside::{Bytes, MemFile, NoMemory};
 use idx_plan::PlanFault;
 use idx_table::{ROW_BYTES, Row, TableKind, write_row};
 use idx_words::QueryWords;

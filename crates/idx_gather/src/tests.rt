@@ -1,6 +1,7 @@
 use crate::{GatherFault, gather};
 use idx_header::Header;
-use idx_outside::{Bay, Bytes, FreeGate, MemBay, MemFile, MemSource, Source};
+use idx_memory::{MemBay, MemSource};
+use idx_outside::{Bay, Bytes, FreeGate, MemFile, Source};
 use std::alloc::Global;
 use std::process::Abort;
 use std::test::Fail;

@@ -4,7 +4,8 @@ ghost use Rattle.std.specs.Arc.{arc_value};
 ghost use Rattle.idx_hall.specs.Examples.{key_at, six_blocks, HasOneStep};
 
 use crate::{Hall, Key, Looked, PublishRefusal};
-use idx_outside::{Blocks, Bytes, Fetched, MemLeaf, Outage, Reader};
+use idx_memory::MemLeaf;
+use idx_outside::{Blocks, Bytes, Fetched, Outage, Reader};
 use std::alloc::Global;
 use std::process::Abort;
 use std::sync::Arc;

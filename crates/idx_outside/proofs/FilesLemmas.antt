@@ -1,10 +1,10 @@
 -- Leaves that hold the bytes of files, and what they are as committed files.
-use Rattle.std.specs.Prelude.{◌≡◌, ℕ, ◌+◌, ◌<◌, List, [], ◌∷◌, ◌++◌, take, drop, length, slice_index_or, Option, Some, None, true, bytes_eq, if◌then◌else◌, refl}
+use Rattle.std.specs.Prelude.{◌≡◌, ℕ, ◌+◌, ◌<◌, List, [], ◌∷◌, ◌++◌, take, length, slice_index_or, Option, Some, None, refl}
 use Rattle.std.proofs.Common.{sym, ap, subst, ◌∙◌, add-one}
 use Rattle.std.proofs.Math.Seq.{take-suc}
-use Rattle.std.proofs.lemmas.List.{get_or-map, length-map, map-append, drop_more}
+use Rattle.std.proofs.lemmas.List.{get_or-map, length-map, map-append}
 use Rattle.idx_outside.specs.declared.mem_file.MemFile.{MemFile}
-use Rattle.idx_outside.specs.Files.{added, known_with, entry_shown, shown, known_files, files_of, file_of, leaf_file, leaf_files, has_folder, file_at, LiesIn, AllLieIn, Mirrors, HoldFiles}
+use Rattle.idx_outside.specs.Files.{added, known_with, entry_shown, shown, known_files, files_of, file_of, leaf_file, leaf_files, LiesIn, AllLieIn, Mirrors, HoldFiles}
 
 of_files : (old : List MemFile) (folder : List ℕ) (files : List (List ℕ × List ℕ)) → leaf_files (λ o. o) folder (known_files (Some old) files) ≡ files_of folder files
 of_files old folder [] = refl
@@ -56,13 +56,3 @@ module _ {L : Type 0} (contents : L → Option (List ℕ)) where
 
 -- for `#[tactic(auto, using(..))]` on a function that makes the leaves of files in their order
 pub ruleset writing = (Mirrors-none, Mirrors-next, HoldFiles-of)
-
--- the first file of a list
-pub has_folder-drop : (folder : List ℕ) (files : List MemFile) (i : ℕ) (d : MemFile) → i < length files → has_folder folder (drop i files) ≡ (if bytes_eq (slice_index_or files i d).folder folder then true else has_folder folder (drop (i + 1) files))
-has_folder-drop folder files i d within = ap (has_folder folder) (drop_more files i d within)
-
-pub file_at-drop : (path : List ℕ) (files : List MemFile) (i : ℕ) (d : MemFile) → i < length files → file_at path (drop i files) ≡ (if bytes_eq (slice_index_or files i d).path path then Some (slice_index_or files i d).bytes else file_at path (drop (i + 1) files))
-file_at-drop path files i d within = ap (file_at path) (drop_more files i d within)
-
--- for `#[tactic(auto, using(..))]` on a function that goes over files
-pub ruleset searching = (has_folder-drop, file_at-drop)

@@ -3,6 +3,5 @@ pub mod Cause
 pub mod Contents
 pub mod Counts
 pub mod Files
-pub mod Memory
 pub mod Objects
 pub mod Shape

@@ -2,7 +2,7 @@ use crate::report::report;
 use crate::usage::{text_asked_for, write_text};
 use idx_commands::{Cause, Done};
 use idx_header::HeaderKind;
-use idx_outside::MemSink;
+use idx_memory::MemSink;
 use idx_real::{Fault, Reason};
 use std::alloc::{AllocError, Global};
 use std::test::Fail;

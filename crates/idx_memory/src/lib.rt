@@ -1,0 +1,35 @@
+//! Forms in memory of what lies outside: those that fail at given calls and tell what they hold, and those that never
+//! fail and tell nothing.
+#![tactic(auto)]
+
+mod fault_script;
+mod files;
+mod mem_bay;
+mod mem_draft;
+mod mem_leaf;
+mod mem_reader;
+mod mem_sink;
+mod mem_source;
+mod range;
+mod sure_bay;
+mod sure_draft;
+mod sure_leaf;
+mod sure_reader;
+mod sure_sink;
+mod sure_source;
+
+pub use mem_bay::MemBay;
+pub use mem_draft::MemDraft;
+pub use mem_leaf::MemLeaf;
+pub use mem_reader::MemReader;
+pub use mem_sink::MemSink;
+pub use mem_source::MemSource;
+pub use sure_bay::SureBay;
+pub use sure_draft::SureDraft;
+pub use sure_leaf::SureLeaf;
+pub use sure_reader::SureReader;
+pub use sure_sink::SureSink;
+pub use sure_source::SureSource;
+
+#[cfg(test)]
+mod tests;
