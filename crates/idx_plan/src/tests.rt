@@ -29,20 +29,29 @@ fn question(rt: &impl Abort, lo: &[u64], hi: &[u64], levels: (u32, u32)) -> Ask 
     }
 }
 
-/// The plan of a question under the header of a text: how many samples and bytes its answer has, and the numbers of the
-/// needed blocks.
+/// The plan of a question under the header of a text: how many samples and bytes its answer has, and whether the needed
+/// blocks are these.
 fn planned(
     alloc: Global,
     rt: &impl Abort,
     text: &[u8],
     ask: &Ask,
-) -> Result<(u64, u64, Vec<u64>), PlanFault> {
+    blocks: &[u64],
+) -> Result<(u64, u64, bool), PlanFault> {
     let header = Header::read(alloc, text).ok().expect(rt, "a header");
     assert!(rt; ask.field < header.field_count());
     assert!(rt; ask.region.axes() == header.axes());
     let plan = plan(alloc, &header, ask)?;
-    let blocks = plan.keys().iter().map(|key| key.block).collect(alloc)?;
-    Ok((plan.samples(), plan.bytes(), blocks))
+    let keys = plan.keys();
+    let same = keys
+        .iter()
+        .zip(blocks.iter())
+        .all(|(key, block)| key.block == *block);
+    Ok((
+        plan.samples(),
+        plan.bytes(),
+        same && keys.len() == blocks.len(),
+    ))
 }
 
 /// How many samples the answer to a question has, and the answer, 255 in each byte, behind the copy of the block of a key.
@@ -83,11 +92,8 @@ fn blocks_of_the_levels_are_needed(rt: HostRuntime) {
     ];
     for (text, lo, hi, levels, (samples, bytes), blocks) in rows {
         let ask = question(&rt, lo, hi, levels);
-        let plan = planned(rt.alloc(), &rt, text, &ask)
-            .ok()
-            .expect(&rt, "a plan");
-        assert_eq!(rt; (plan.0, plan.1), (samples, bytes));
-        assert_eq!(rt; plan.2.as_slice(), blocks);
+        let plan = planned(rt.alloc(), &rt, text, &ask, blocks);
+        assert_eq!(rt; plan, Ok((samples, bytes, true)));
     }
 }
 
@@ -114,7 +120,7 @@ fn questions_without_a_plan_are_refused(rt: HostRuntime) {
     ];
     for (text, hi, levels, fault) in rows {
         let ask = question(&rt, &[0, 0], hi, levels);
-        assert_eq!(rt; planned(rt.alloc(), &rt, text, &ask).err(), fault);
+        assert_eq!(rt; planned(rt.alloc(), &rt, text, &ask, &[]).err(), fault);
     }
 }
 
