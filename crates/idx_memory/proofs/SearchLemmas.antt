@@ -1,5 +1,5 @@
 -- Files that are gone over in their order, in search of a folder or a path.
-use Rattle.std.specs.Prelude.{◌≡◌, ℕ, ◌+◌, ◌<◌, List, length, drop, slice_index_or, Option, Some, true, bytes_eq, if◌then◌else◌}
+use Rattle.std.specs.Prelude.{◌≡◌, ℕ, ◌+◌, ◌<◌, List, length, drop, slice_index_or, Some, true, bytes_eq, if◌then◌else◌}
 use Rattle.std.proofs.Common.{ap}
 use Rattle.std.proofs.lemmas.List.{drop_more}
 use Rattle.idx_outside.specs.declared.mem_file.MemFile.{MemFile}

@@ -1,9 +1,12 @@
 -- The forms in memory: bytes, and the calls that are to fail.
-use Rattle.std.specs.Prelude.{ℕ, List, [], ◌∷◌, ◌++◌, length, take, drop, replicate, Contains, Bool, true, false, Option, Result, Ok, Err, nat_lt, if◌then◌else◌}
+use Rattle.std.specs.Prelude.{ℕ, ◌+◌, ◌%◌, ◌^◌, List, [], ◌∷◌, ◌++◌, length, take, drop, replicate, Contains, Bool, Option, nat_lt, if◌then◌else◌}
 use Rattle.idx_outside.specs.Cause.{counted}
+use Rattle.idx_outside.specs.declared.bay_call.BayCall.{BayCall}
 use Rattle.idx_outside.specs.declared.mem_file.MemFile.{MemFile}
-use Rattle.idx_outside.specs.declared.bay_fault.BayFault.{BayFault}
-use Rattle.idx_outside.specs.declared.bay_fault.BayFault.TheVariants.{Outage, NoMemory}
+
+-- so many more, modulo 2 ^ 64
+abbrev pub more : ℕ → ℕ → ℕ
+more count n = (count + n) % 2 ^ 64
 
 -- the numbers of the calls that are to fail, how many calls there were, and how many faults
 pub record FaultState : Type 0 where
@@ -29,23 +32,32 @@ pub record MemState : Type 0 where
   pub bytes : List ℕ
   pub script : FaultState
 
--- whether a call of a bay counted no fault, by its answer
-abbrev pub counts_none : {T : Type 0} → Result T BayFault → Bool
-counts_none (Ok _) = true
-counts_none (Err Outage) = false
-counts_none (Err NoMemory) = true
+-- a source in memory that never fails: its bytes, and how many of them were asked for, modulo 2 ^ 64
+pub record SourceBytes : Type 0 where
+  pub bytes : List ℕ
+  pub asked : ℕ
 
--- the header's text, empty where none stands, and the committed files
+-- a source in memory: its bytes, how many of them were asked for, modulo 2 ^ 64, and which of its calls fail
+pub record SourceState : Type 0 where
+  pub bytes : List ℕ
+  pub asked : ℕ
+  pub script : FaultState
+
+-- the header's text, empty where none stands, the committed files, and how many calls changed the bay, modulo 2 ^ 64
 pub record BayContents : Type 0 where
   pub header : List ℕ
   pub files : List MemFile
+  pub changes : ℕ
 
--- A bay in memory, and which of its calls fail: `begun` is the folder that was last begun, and `drafts` are the numbers of
--- the failing calls of each draft to come.
+-- A bay in memory, and which of its calls fail: `begun` is the folder that was last begun, `changes` how many calls
+-- changed the bay, modulo 2 ^ 64, `failed` the call that counted the last fault, and `drafts` are the numbers of the
+-- failing calls of each draft to come.
 pub record BayState : Type 0 where
   pub header : List ℕ
   pub files : List MemFile
   pub begun : Option (List ℕ)
+  pub changes : ℕ
+  pub failed : Option BayCall
   pub drafts : List (List ℕ)
   pub script : FaultState
 
@@ -59,9 +71,22 @@ abbrev pub after_retire : ℕ → FaultState → FaultState
 after_retire faults s =
     record { fails = s.fails; calls = s.calls; faults = (if nat_lt 0 faults then counted s.faults else s.faults) }
 
--- a reader in memory: how many calls there were, modulo 2 ^ 64, and which of them fail
+-- what was read: how many calls there were, and how many bytes they asked for, both modulo 2 ^ 64
+pub record Reads : Type 0 where
+  pub calls : ℕ
+  pub bytes : ℕ
+
+-- before the first read
+abbrev pub no_reads : Reads
+no_reads = record { calls = 0; bytes = 0 }
+
+-- after one more read, of so many bytes
+abbrev pub after_read : ℕ → Reads → Reads
+after_read count reads = record { calls = more reads.calls 1; bytes = more reads.bytes count }
+
+-- a reader in memory: what was read, and which of its calls fail
 pub record ReaderState : Type 0 where
-  pub reads : ℕ
+  pub reads : Reads
   pub script : FaultState
 
 -- a file of which nothing is told: its length, and the bytes that are kept of it, behind which it reads as zeros

@@ -11,6 +11,7 @@ mod mem_reader;
 mod mem_sink;
 mod mem_source;
 mod range;
+mod reads;
 mod sure_bay;
 mod sure_draft;
 mod sure_leaf;

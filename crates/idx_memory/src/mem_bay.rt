@@ -1,12 +1,14 @@
-ghost use Rattle.std.specs.Prelude.{◌≡◌, ◌↔◌, ◌++◌, [], map, drop, Some, None, refl, IsTrue, IsErr, is_ok, IfOk, IfErr, OnOk, OnErr, IsErrOf, MatchOption, if◌then◌else◌};
-ghost use Rattle.idx_outside.specs.Cause.{NeverFalls, Rose, OnlyWhereRose};
+ghost use Rattle.std.specs.Prelude.{◌≡◌, ◌↔◌, ◌++◌, [], map, drop, nat_lt, Some, None, refl, IsTrue, IsErr, is_ok, IfOk, IfErr, OnOk, OnErr, IsErrOf, MatchOption, if◌then◌else◌};
+ghost use Rattle.std.specs.Option.{option_map};
+ghost use Rattle.idx_outside.specs.Calls.{counts_none, last_failed};
+ghost use Rattle.idx_outside.specs.Cause.{counted, NeverFalls, Rose, OnlyWhereRose};
 ghost use Rattle.idx_outside.specs.Files.{HasStep, file_at, LiesIn, AllLieIn, leaf_files};
-ghost use Rattle.idx_memory.specs.Memory.{untouched, NextFails, after_call, after_retire, counts_none, next_draft};
+ghost use Rattle.idx_memory.specs.Memory.{untouched, more, NextFails, after_call, after_retire, next_draft};
 
 use crate::fault_script::FaultScript;
 use crate::files::{copy_of, files_of_leaves, has_folder, take_next};
 use crate::{MemDraft, MemLeaf};
-use idx_outside::{Bay, BayFault, Bytes, MemFile, Outage};
+use idx_outside::{Bay, BayCall, BayFault, Bytes, MemFile, Outage};
 use std::alloc::Global;
 use std::marker::Model;
 
@@ -18,6 +20,8 @@ pub struct MemBay {
     header: Bytes,
     files: Vec<MemFile>,
     begun: Option<Bytes>,
+    changes: u64,
+    failed: Option<BayCall>,
     drafts: Vec<Vec<u64>>,
     script: FaultScript,
 }
@@ -32,6 +36,8 @@ impl Model for MemBay {
       header = s.header;
       files = s.files.items;
       begun = s.begun;
+      changes = s.changes;
+      failed = s.failed;
       drafts = map (λ fails. fails.items) s.drafts.items;
       script = s.script;
     } };
@@ -46,6 +52,8 @@ impl MemBay {
           header = header;
           files = files.items;
           begun = None;
+          changes = 0;
+          failed = None;
           drafts = map (λ fails. fails.items) drafts.items;
           script = untouched fails.items;
         } }
@@ -54,6 +62,8 @@ impl MemBay {
             header,
             files,
             begun: None,
+            changes: 0,
+            failed: None,
             drafts,
             script: FaultScript::new(fails),
         }
@@ -73,8 +83,73 @@ impl MemBay {
         &self.files
     }
 
+    /// The folder that was last begun.
+    pub fn begun(&self) -> Option<&Bytes>
+        ensures { option_map (λ folder. folder.now) result ≡ self.now.begun }
+    {
+        self.begun.as_ref()
+    }
+
+    /// How many calls were made that change the bay, modulo 2^64.
+    pub fn changes(&self) -> u64
+        ensures { result ≡ self.now.changes }
+    {
+        self.changes
+    }
+
+    /// The call that counted the last fault.
+    pub fn failed(&self) -> Option<BayCall>
+        ensures { result ≡ self.now.failed }
+    {
+        self.failed
+    }
+
     fn alloc(&self) -> Global {
         *self.files.allocator()
+    }
+
+    /// Counts a call.
+    fn call(&mut self, call: BayCall) -> Result<(), Outage>
+        ensures fails { IsErr result ↔ NextFails self.old.script }
+        ensures state { self.new ≡ record self.old {
+          failed = last_failed call (is_ok result) self.old.failed;
+          script = after_call (is_ok result) self.old.script;
+        } }
+        ensures quiet { OnOk result (self.new.script.faults ≡ self.old.script.faults) }
+        ensures cause { OnErr result (Rose self.old.script.faults self.new.script.faults) }
+    {
+        let counted = self.script.call();
+        if counted.is_err() {
+            self.failed = Some(call);
+        }
+        counted
+    }
+
+    /// Counts a fault of a call that was counted already.
+    fn fault(&mut self, call: BayCall) -> Outage
+        ensures state { self.new ≡ record self.old {
+          failed = Some call;
+          script = record self.old.script { faults = counted self.old.script.faults };
+        } }
+        ensures cause { Rose self.old.script.faults self.new.script.faults }
+    {
+        self.failed = Some(call);
+        self.script.fault()
+    }
+
+    /// Counts a call that changes the bay.
+    fn change(&mut self, call: BayCall) -> Result<(), Outage>
+        ensures fails { IsErr result ↔ NextFails self.old.script }
+        ensures state { self.new ≡ record self.old {
+          changes = more self.old.changes 1;
+          failed = last_failed call (is_ok result) self.old.failed;
+          script = after_call (is_ok result) self.old.script;
+        } }
+        ensures quiet { OnOk result (self.new.script.faults ≡ self.old.script.faults) }
+        ensures cause { OnErr result (Rose self.old.script.faults self.new.script.faults) }
+    {
+        self.changes = self.changes.wrapping_add(1);
+        self.call(call)
     }
 }
 
@@ -89,21 +164,29 @@ impl Bay for MemBay {
 
     ghost admits = { λ s path. MatchOption s.begun ⊥ (λ folder. LiesIn folder path) };
 
+    ghost begun = { λ s. s.begun };
+
+    ghost changes = { λ s. s.changes };
+
+    ghost failed = { λ s. s.failed };
+
     ghost faults = { λ s. s.script.faults };
 
     fn header(&mut self, into: &mut Bytes) -> Result<(), BayFault>
         ensures text { OnOk result (into.new ≡ into.old ++ self.old.header) }
         ensures refused { OnErr result (into.new ≡ into.old) }
         ensures fails { IsErrOf result BayFault.Outage ↔ NextFails self.old.script }
-        ensures state { self.new ≡ record self.old { script = after_call (counts_none result) self.old.script } }
+        ensures state { self.new ≡ record self.old {
+          failed = last_failed BayCall.Header (counts_none result) self.old.failed;
+          script = after_call (counts_none result) self.old.script;
+        } }
         ensures count { NeverFalls self.old.script.faults self.new.script.faults }
         ensures quiet { OnOk result (self.new.script.faults ≡ self.old.script.faults) }
         ensures no_memory { IsErrOf result BayFault.NoMemory → self.new.script.faults ≡ self.old.script.faults }
         ensures cause { OnlyWhereRose result BayFault.Outage self.old.script.faults self.new.script.faults }
     {
-        let text = self.header.as_slice();
-        self.script.call()?;
-        into.append(text)?;
+        self.call(BayCall::Header)?;
+        into.append(self.header.as_slice())?;
         Ok(())
     }
 
@@ -111,31 +194,36 @@ impl Bay for MemBay {
         ensures fails { NextFails self.old.script → IsErr result }
         ensures state { self.new ≡ record self.old {
           header = (if is_ok result then text.now else self.old.header);
+          changes = more self.old.changes 1;
+          failed = last_failed BayCall.SetHeader (is_ok result) self.old.failed;
           script = after_call (is_ok result) self.old.script;
         } }
         ensures count { NeverFalls self.old.script.faults self.new.script.faults }
         ensures quiet { OnOk result (self.new.script.faults ≡ self.old.script.faults) }
         ensures cause { OnErr result (Rose self.old.script.faults self.new.script.faults) }
     {
-        self.script.call()?;
+        self.change(BayCall::SetHeader)?;
         match Bytes::from_slice(self.alloc(), text) {
             Ok(text) => {
                 self.header = text;
                 Ok(())
             }
-            Err(_) => Err(self.script.fault()),
+            Err(_) => Err(self.fault(BayCall::SetHeader)),
         }
     }
 
     fn has_step(&mut self, folder: &[u8]) -> Result<bool, Outage>
         ensures stands { IfOk result (λ stands. IsTrue stands ↔ HasStep folder.now self.old.files) }
         ensures fails { IsErr result ↔ NextFails self.old.script }
-        ensures state { self.new ≡ record self.old { script = after_call (is_ok result) self.old.script } }
+        ensures state { self.new ≡ record self.old {
+          failed = last_failed BayCall.HasStep (is_ok result) self.old.failed;
+          script = after_call (is_ok result) self.old.script;
+        } }
         ensures count { NeverFalls self.old.script.faults self.new.script.faults }
         ensures quiet { OnOk result (self.new.script.faults ≡ self.old.script.faults) }
         ensures cause { OnErr result (Rose self.old.script.faults self.new.script.faults) }
     {
-        self.script.call()?;
+        self.call(BayCall::HasStep)?;
         Ok(has_folder(self.files.as_slice(), folder))
     }
 
@@ -143,19 +231,21 @@ impl Bay for MemBay {
         ensures fails { NextFails self.old.script → IsErr result }
         ensures state { self.new ≡ record self.old {
           begun = (if is_ok result then Some folder.now else self.old.begun);
+          changes = more self.old.changes 1;
+          failed = last_failed BayCall.BeginStep (is_ok result) self.old.failed;
           script = after_call (is_ok result) self.old.script;
         } }
         ensures count { NeverFalls self.old.script.faults self.new.script.faults }
         ensures quiet { OnOk result (self.new.script.faults ≡ self.old.script.faults) }
         ensures cause { OnErr result (Rose self.old.script.faults self.new.script.faults) }
     {
-        self.script.call()?;
+        self.change(BayCall::BeginStep)?;
         match Bytes::from_slice(self.alloc(), folder) {
             Ok(folder) => {
                 self.begun = Some(folder);
                 Ok(())
             }
-            Err(_) => Err(self.script.fault()),
+            Err(_) => Err(self.fault(BayCall::BeginStep)),
         }
     }
 
@@ -167,26 +257,31 @@ impl Bay for MemBay {
         ensures outage { IfErr result (λ fault. fault ≡ BayFault.Outage) }
         ensures state { self.new ≡ record self.old {
           drafts = (if is_ok result then drop 1 self.old.drafts else self.old.drafts);
+          changes = more self.old.changes 1;
+          failed = last_failed BayCall.Create (is_ok result) self.old.failed;
           script = after_call (is_ok result) self.old.script;
         } }
         ensures count { NeverFalls self.old.script.faults self.new.script.faults }
         ensures quiet { OnOk result (self.new.script.faults ≡ self.old.script.faults) }
         ensures cause { OnErr result (Rose self.old.script.faults self.new.script.faults) }
     {
-        self.script.call()?;
+        self.change(BayCall::Create)?;
         Ok(MemDraft::new(take_next(&mut self.drafts)))
     }
 
     fn leaf(&mut self, path: &[u8]) -> Result<Option<MemLeaf>, BayFault>
         ensures found { IfOk result (λ found. found ≡ file_at path.now self.old.files) }
         ensures fails { IsErrOf result BayFault.Outage ↔ NextFails self.old.script }
-        ensures state { self.new ≡ record self.old { script = after_call (counts_none result) self.old.script } }
+        ensures state { self.new ≡ record self.old {
+          failed = last_failed BayCall.Leaf (counts_none result) self.old.failed;
+          script = after_call (counts_none result) self.old.script;
+        } }
         ensures count { NeverFalls self.old.script.faults self.new.script.faults }
         ensures quiet { OnOk result (self.new.script.faults ≡ self.old.script.faults) }
         ensures no_memory { IsErrOf result BayFault.NoMemory → self.new.script.faults ≡ self.old.script.faults }
         ensures cause { OnlyWhereRose result BayFault.Outage self.old.script.faults self.new.script.faults }
     {
-        self.script.call()?;
+        self.call(BayCall::Leaf)?;
         let found = copy_of(self.alloc(), self.files.as_slice(), path)?;
         Ok(found.map(MemLeaf::new))
     }
@@ -197,6 +292,8 @@ impl Bay for MemBay {
           files = (if is_ok result
               then self.old.files ++ leaf_files (λ leaf. Some leaf) folder.now leaves.now.items
               else self.old.files);
+          changes = more self.old.changes 1;
+          failed = last_failed BayCall.Commit (counts_none result) self.old.failed;
           script = after_call (counts_none result) self.old.script;
         } }
         ensures count { NeverFalls self.old.script.faults self.new.script.faults }
@@ -204,18 +301,23 @@ impl Bay for MemBay {
         ensures no_memory { IsErrOf result BayFault.NoMemory → self.new.script.faults ≡ self.old.script.faults }
         ensures cause { OnlyWhereRose result BayFault.Outage self.old.script.faults self.new.script.faults }
     {
-        self.script.call()?;
+        self.change(BayCall::Commit)?;
         let mut files = files_of_leaves(self.alloc(), folder, leaves)?;
         self.files.append(&mut files)?;
         Ok(())
     }
 
     fn retire(&mut self, draft: MemDraft)
-        ensures state { self.new ≡ record self.old { script = after_retire draft.script.faults self.old.script } }
+        ensures state { self.new ≡ record self.old {
+          changes = more self.old.changes 1;
+          failed = (if nat_lt 0 draft.script.faults then Some BayCall.Retire else self.old.failed);
+          script = after_retire draft.script.faults self.old.script;
+        } }
         ensures count { NeverFalls self.old.script.faults self.new.script.faults }
     {
+        self.changes = self.changes.wrapping_add(1);
         if draft.end() > 0 {
-            let _outage = self.script.fault();
+            let _outage = self.fault(BayCall::Retire);
         }
     }
 

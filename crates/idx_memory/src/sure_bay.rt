@@ -1,7 +1,7 @@
 ghost use Rattle.std.specs.Prelude.{◌≡◌, ◌↔◌, ◌++◌, None, Ok, IsOk, IsTrue, OnOk, OnErr, IfOk, IfErr, ⊤};
 ghost use Rattle.std.specs.Option.{option_map};
 ghost use Rattle.idx_outside.specs.Files.{HasStep, file_at};
-ghost use Rattle.idx_memory.specs.Memory.{kept_whole};
+ghost use Rattle.idx_memory.specs.Memory.{more, kept_whole};
 
 use crate::files::{copy_of, has_folder};
 use crate::{SureDraft, SureLeaf};
@@ -10,11 +10,12 @@ use std::alloc::Global;
 use std::marker::Model;
 
 /// A bay in memory, of which nothing is told and no call of which is ever an `Outage`. It answers from the header and
-/// the files that it was made with, and drops what is written.
+/// the files that it was made with, and drops what is written. A contract also sees how many calls changed it, modulo 2^64.
 #[derive(Drop)]
 pub struct SureBay {
     header: Bytes,
     files: Vec<MemFile>,
+    changes: u64,
 }
 
 impl Model for SureBay {
@@ -22,15 +23,26 @@ impl Model for SureBay {
 
     ghost Value = { BayContents };
 
-    ghost view = { λ s. record { header = s.header; files = s.files.items } };
+    ghost view = { λ s. record { header = s.header; files = s.files.items; changes = s.changes } };
 }
 
 impl SureBay {
     /// An empty header is none. Takes no memory.
     pub fn new(header: Bytes, files: Vec<MemFile>) -> SureBay
-        ensures { result ≡ record { header = header; files = files.items } }
+        ensures { result ≡ record { header = header; files = files.items; changes = 0 } }
     {
-        SureBay { header, files }
+        SureBay {
+            header,
+            files,
+            changes: 0,
+        }
+    }
+
+    /// Counts a call that changes the bay.
+    fn change(&mut self)
+        ensures { self.new ≡ record self.old { changes = more self.old.changes 1 } }
+    {
+        self.changes = self.changes.wrapping_add(1);
     }
 
     fn alloc(&self) -> Global {
@@ -49,6 +61,12 @@ impl Bay for SureBay {
 
     ghost admits = { λ _ _. ⊤ };
 
+    ghost begun = { λ _. None };
+
+    ghost changes = { λ s. s.changes };
+
+    ghost failed = { λ _. None };
+
     ghost faults = { λ _. 0 };
 
     fn header(&mut self, into: &mut Bytes) -> Result<(), BayFault>
@@ -63,8 +81,9 @@ impl Bay for SureBay {
 
     fn set_header(&mut self, _text: &[u8]) -> Result<(), Outage>
         ensures sure { IsOk result }
-        ensures same { self.new ≡ self.old }
+        ensures change { self.new ≡ record self.old { changes = more self.old.changes 1 } }
     {
+        self.change();
         Ok(())
     }
 
@@ -78,15 +97,17 @@ impl Bay for SureBay {
 
     fn begin_step(&mut self, _folder: &[u8]) -> Result<(), Outage>
         ensures sure { IsOk result }
-        ensures same { self.new ≡ self.old }
+        ensures change { self.new ≡ record self.old { changes = more self.old.changes 1 } }
     {
+        self.change();
         Ok(())
     }
 
     fn create(&mut self, _path: &[u8]) -> Result<SureDraft, BayFault>
         ensures empty { result ≡ Ok 0 }
-        ensures same { self.new ≡ self.old }
+        ensures change { self.new ≡ record self.old { changes = more self.old.changes 1 } }
     {
+        self.change();
         Ok(SureDraft::new(self.alloc()))
     }
 
@@ -101,14 +122,16 @@ impl Bay for SureBay {
 
     fn commit(&mut self, _folder: &[u8], _leaves: &Vec<(Bytes, SureLeaf)>) -> Result<(), BayFault>
         ensures sure { IsOk result }
-        ensures same { self.new ≡ self.old }
+        ensures change { self.new ≡ record self.old { changes = more self.old.changes 1 } }
     {
+        self.change();
         Ok(())
     }
 
     fn retire(&mut self, draft: SureDraft)
-        ensures { self.new ≡ self.old }
+        ensures { self.new ≡ record self.old { changes = more self.old.changes 1 } }
     {
+        self.change();
         draft.end();
     }
 

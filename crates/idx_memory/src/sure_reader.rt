@@ -1,21 +1,22 @@
-ghost use Rattle.std.specs.Prelude.{◌≡◌, ◌+◌, ◌%◌, ◌^◌, ◌++◌, length, take, drop, replicate, IsOk};
-ghost use Rattle.idx_memory.specs.Memory.{kept_range};
+ghost use Rattle.std.specs.Prelude.{◌≡◌, ◌++◌, length, take, drop, replicate, IsOk};
+ghost use Rattle.idx_memory.specs.Memory.{no_reads, after_read, kept_range};
 
 use crate::SureLeaf;
+use crate::reads::Reads;
 use idx_outside::{Bytes, Outage, Reader};
 use std::marker::Model;
 
 /// A reader of leaves in memory that never fails. Behind the bytes that a leaf has kept it reads zeros. A contract sees
-/// how many calls of `read_at` were made, modulo 2^64.
+/// what was read.
 #[derive(Drop)]
 pub struct SureReader {
-    reads: u64,
+    reads: Reads,
 }
 
 impl Model for SureReader {
-    ghost use Rattle.std.specs.Prelude.{ℕ};
+    ghost use Rattle.idx_memory.specs.Memory.{Reads};
 
-    ghost Value = { ℕ };
+    ghost Value = { Reads };
 
     ghost view = { λ s. s.reads };
 }
@@ -23,30 +24,41 @@ impl Model for SureReader {
 impl SureReader {
     /// Takes no memory.
     pub fn new() -> SureReader
-        ensures { result ≡ 0 }
+        ensures { result ≡ no_reads }
     {
-        SureReader { reads: 0 }
+        SureReader {
+            reads: Reads::new(),
+        }
     }
 
     /// How many calls of `read_at` were made, modulo 2^64.
     pub fn reads(&self) -> u64
-        ensures { result ≡ self.now }
+        ensures { result ≡ self.now.calls }
     {
-        self.reads
+        self.reads.calls()
+    }
+
+    /// How many bytes were asked for, modulo 2^64.
+    pub fn asked(&self) -> u64
+        ensures { result ≡ self.now.bytes }
+    {
+        self.reads.bytes()
     }
 }
 
 impl Reader<SureLeaf> for SureReader {
     ghost faults = { λ _. 0 };
 
-    ghost reads = { λ s. s };
+    ghost reads = { λ s. s.calls };
+
+    ghost asked = { λ s. s.bytes };
 
     fn read_at(&mut self, leaf: &SureLeaf, at: u64, into: &mut [u8]) -> Result<(), Outage>
         ensures sure { IsOk result }
         ensures read { into.new ≡ kept_range leaf.now at (length into.old) }
-        ensures reads { self.new ≡ (self.old + 1) % 2 ^ 64 }
+        ensures reads { self.new ≡ after_read (length into.old) self.old }
     {
-        self.reads = self.reads.wrapping_add(1);
+        self.reads.add(into.len());
         let kept = behind(leaf.bytes(), at);
         fill(kept, into);
         Ok(())

@@ -1,4 +1,5 @@
 pub mod Bytes
+pub mod Calls
 pub mod Cause
 pub mod Contents
 pub mod Counts

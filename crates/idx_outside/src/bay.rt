@@ -1,11 +1,13 @@
-ghost use Rattle.std.specs.Prelude.{◌≡◌, ◌↔◌, ◌⊎◌, ℕ, ◌<◌, ◌++◌, [], List, Option, None, IsSome, IsTrue, IfSome, IfOk, OnOk, OnErr, IsErrOf};
+ghost use Rattle.std.specs.Prelude.{◌≡◌, ◌↔◌, ◌⊎◌, ℕ, ◌<◌, ◌+◌, ◌%◌, ◌^◌, ◌++◌, [], List, Option, None, Some, IsSome, IsTrue, IfSome, IfOk, OnOk, OnErr, IsErrOf, is_ok, vec_len};
 ghost use Rattle.std.specs.Io.{StartsWith};
 ghost use Rattle.std.specs.Option.{ForSome};
+ghost use Rattle.idx_outside.specs.Calls.{counts_none, last_failed};
 ghost use Rattle.idx_outside.specs.Cause.{NeverFalls, Rose, OnlyWhereRose};
 ghost use Rattle.idx_outside.specs.Files.{retold, added, known_with, HasStep, LiesIn, AllLieIn, StillAdmits, file_at, stored_at, leaf_files};
+ghost use Rattle.idx_outside.specs.declared.bay_call.BayCall.{BayCall};
 ghost use Rattle.idx_outside.specs.declared.mem_file.MemFile.{MemFile};
 
-use crate::{BayFault, Bytes, Draft, Leaf, Outage};
+use crate::{BayCall, BayFault, Bytes, Draft, Leaf, Outage};
 
 /// Where a dataset stands: its header, beside the files of its steps.
 ///
@@ -29,6 +31,16 @@ pub trait Bay {
     /// A draft of this path may be made: where the files are known, it lies in the folder that was last begun.
     ghost admits: { Self → List ℕ → Type 0 };
 
+    /// The folder that was last begun, known where the files are.
+    ghost begun: { Self → Option (List ℕ) };
+
+    /// How many calls were made that change the bay, also those that failed, modulo 2^64: `set_header`, `begin_step`,
+    /// `create`, `commit` and `retire`.
+    ghost changes: { Self → ℕ };
+
+    /// The call that counted the last fault.
+    ghost failed: { Self → Option BayCall };
+
     /// How many faults were counted. The count stands still at `u64::MAX`.
     ghost faults: { Self → ℕ };
 
@@ -40,6 +52,9 @@ pub trait Bay {
         ensures header { header self.new ≡ header self.old }
         ensures files { files self.new ≡ files self.old }
         ensures admits { StillAdmits admits self.old self.new }
+        ensures begun { begun self.new ≡ begun self.old }
+        ensures changes { changes self.new ≡ changes self.old }
+        ensures failed { failed self.new ≡ last_failed BayCall.Header (counts_none result) (failed self.old) }
         ensures count { NeverFalls (faults self.old) (faults self.new) }
         ensures quiet { OnOk result (faults self.new ≡ faults self.old) }
         ensures no_memory { IsErrOf result BayFault.NoMemory → faults self.new ≡ faults self.old }
@@ -52,6 +67,9 @@ pub trait Bay {
             ⊎ (header self.new ≡ retold (header self.old) text.now)) }
         ensures files { files self.new ≡ files self.old }
         ensures admits { StillAdmits admits self.old self.new }
+        ensures begun { begun self.new ≡ begun self.old }
+        ensures changes { changes self.new ≡ (changes self.old + 1) % 2 ^ 64 }
+        ensures failed { failed self.new ≡ last_failed BayCall.SetHeader (is_ok result) (failed self.old) }
         ensures count { NeverFalls (faults self.old) (faults self.new) }
         ensures quiet { OnOk result (faults self.new ≡ faults self.old) }
         ensures cause { OnErr result (Rose (faults self.old) (faults self.new)) };
@@ -63,6 +81,9 @@ pub trait Bay {
         ensures header { header self.new ≡ header self.old }
         ensures files { files self.new ≡ files self.old }
         ensures admits { StillAdmits admits self.old self.new }
+        ensures begun { begun self.new ≡ begun self.old }
+        ensures changes { changes self.new ≡ changes self.old }
+        ensures failed { failed self.new ≡ last_failed BayCall.HasStep (is_ok result) (failed self.old) }
         ensures count { NeverFalls (faults self.old) (faults self.new) }
         ensures quiet { OnOk result (faults self.new ≡ faults self.old) }
         ensures cause { OnErr result (Rose (faults self.old) (faults self.new)) };
@@ -74,6 +95,10 @@ pub trait Bay {
         ensures refused { OnErr result (StillAdmits admits self.old self.new) }
         ensures header { header self.new ≡ header self.old }
         ensures files { files self.new ≡ files self.old }
+        ensures folder { OnOk result (begun self.new ≡ known_with (files self.old) folder.now) }
+        ensures kept { OnErr result (begun self.new ≡ begun self.old) }
+        ensures changes { changes self.new ≡ (changes self.old + 1) % 2 ^ 64 }
+        ensures failed { failed self.new ≡ last_failed BayCall.BeginStep (is_ok result) (failed self.old) }
         ensures count { NeverFalls (faults self.old) (faults self.new) }
         ensures quiet { OnOk result (faults self.new ≡ faults self.old) }
         ensures cause { OnErr result (Rose (faults self.old) (faults self.new)) };
@@ -86,6 +111,9 @@ pub trait Bay {
         ensures header { header self.new ≡ header self.old }
         ensures files { files self.new ≡ files self.old }
         ensures admits { StillAdmits admits self.old self.new }
+        ensures begun { begun self.new ≡ begun self.old }
+        ensures changes { changes self.new ≡ (changes self.old + 1) % 2 ^ 64 }
+        ensures failed { failed self.new ≡ last_failed BayCall.Create (counts_none result) (failed self.old) }
         ensures count { NeverFalls (faults self.old) (faults self.new) }
         ensures quiet { OnOk result (faults self.new ≡ faults self.old) }
         ensures no_memory { IsErrOf result BayFault.NoMemory → faults self.new ≡ faults self.old }
@@ -100,14 +128,18 @@ pub trait Bay {
         ensures header { header self.new ≡ header self.old }
         ensures files { files self.new ≡ files self.old }
         ensures admits { StillAdmits admits self.old self.new }
+        ensures begun { begun self.new ≡ begun self.old }
+        ensures changes { changes self.new ≡ changes self.old }
+        ensures failed { failed self.new ≡ last_failed BayCall.Leaf (counts_none result) (failed self.old) }
         ensures count { NeverFalls (faults self.old) (faults self.new) }
         ensures quiet { OnOk result (faults self.new ≡ faults self.old) }
         ensures no_memory { IsErrOf result BayFault.NoMemory → faults self.new ≡ faults self.old }
         ensures cause { OnlyWhereRose result BayFault.Outage (faults self.old) (faults self.new) };
 
-    /// Makes all leaves stand at once under their paths, as the files of a step. After a refusal they stand wholly or
-    /// not at all, and after `NoMemory` not at all.
+    /// Makes all leaves, one at least, stand at once under their paths, as the files of a step. After a refusal they
+    /// stand wholly or not at all, and after `NoMemory` not at all.
     fn commit(&mut self, folder: &[u8], leaves: &Vec<(Bytes, Self::Leaf)>) -> Result<(), BayFault>
+        requires some { 0 < vec_len leaves.now }
         requires new { ForSome (files self.old) (λ files. ¬ (HasStep folder.now files)) }
         requires within { ForSome (files self.old) (λ _. AllLieIn folder.now leaves.now.items) }
         ensures stands { OnOk result (files self.new
@@ -117,6 +149,9 @@ pub trait Bay {
         ensures none { IsErrOf result BayFault.NoMemory → files self.new ≡ files self.old }
         ensures header { header self.new ≡ header self.old }
         ensures admits { StillAdmits admits self.old self.new }
+        ensures begun { begun self.new ≡ begun self.old }
+        ensures changes { changes self.new ≡ (changes self.old + 1) % 2 ^ 64 }
+        ensures failed { failed self.new ≡ last_failed BayCall.Commit (counts_none result) (failed self.old) }
         ensures count { NeverFalls (faults self.old) (faults self.new) }
         ensures quiet { OnOk result (faults self.new ≡ faults self.old) }
         ensures no_memory { IsErrOf result BayFault.NoMemory → faults self.new ≡ faults self.old }
@@ -129,6 +164,10 @@ pub trait Bay {
         ensures count { NeverFalls (faults self.old) (faults self.new) }
         ensures header { header self.new ≡ header self.old }
         ensures files { files self.new ≡ files self.old }
+        ensures begun { begun self.new ≡ begun self.old }
+        ensures changes { changes self.new ≡ (changes self.old + 1) % 2 ^ 64 }
+        ensures failed { 0 < Self.Draft.faults draft → failed self.new ≡ Some BayCall.Retire }
+        ensures unfailed { Self.Draft.faults draft ≡ 0 → failed self.new ≡ failed self.old }
         ensures admits { StillAdmits admits self.old self.new };
 
     /// How many faults were counted.

@@ -34,7 +34,7 @@ pub trait Blocks {
     fn time(&self) -> u64
         ensures { result ≡ time self.now };
 
-    /// Fills `into` with a block of a field, by one read of the reader, or by none where the step lacks the block. After
+    /// Fills `into` with a block of a field, by one read of the block's length, or by none where the step lacks the block. After
     /// `Outage`, which is the reader's, nothing is known of the bytes of `into`. Takes no memory.
     fn fetch<R: Reader<Self::Leaf>>(
         &self,
@@ -52,6 +52,9 @@ pub trait Blocks {
         ensures no_read { IfOk result (λ fetched. fetched ≡ Fetched.Absent → reader.new ≡ reader.old) }
         ensures one_read { IfOk result (λ fetched. fetched ≡ Fetched.Read
             → R.reads reader.new ≡ (R.reads reader.old + 1) % 2 ^ 64) }
+        ensures asked { IfOk result (λ fetched. fetched ≡ Fetched.Read
+            → R.asked reader.new ≡ (R.asked reader.old + length into.old) % 2 ^ 64) }
+        ensures failed_asked { OnErr result (R.asked reader.new ≡ (R.asked reader.old + length into.old) % 2 ^ 64) }
         ensures failed_read { OnErr result (R.reads reader.new ≡ (R.reads reader.old + 1) % 2 ^ 64) }
         ensures count { NeverFalls (R.faults reader.old) (R.faults reader.new) }
         ensures quiet { OnOk result (R.faults reader.new ≡ R.faults reader.old) }

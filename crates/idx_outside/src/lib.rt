@@ -3,6 +3,7 @@
 #![tactic(auto)]
 
 mod bay;
+mod bay_call;
 mod bay_fault;
 mod blocks;
 mod bytes;
@@ -17,6 +18,7 @@ mod sink;
 mod source;
 
 pub use bay::Bay;
+pub use bay_call::BayCall;
 pub use bay_fault::BayFault;
 pub use blocks::{Blocks, Fetched};
 pub use bytes::Bytes;

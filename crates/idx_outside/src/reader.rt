@@ -14,6 +14,9 @@ pub trait Reader<L: Leaf> {
     /// How many calls of `read_at` were made, modulo 2^64.
     ghost reads: { Self → ℕ };
 
+    /// How many bytes were asked for, also by calls that failed, modulo 2^64.
+    ghost asked: { Self → ℕ };
+
     /// Fills `into` with the leaf's bytes from place `at` on, counted from 0. After `Outage` nothing is known of the
     /// bytes of `into`.
     fn read_at(&mut self, leaf: &L, at: u64, into: &mut [u8]) -> Result<(), Outage>
@@ -21,6 +24,7 @@ pub trait Reader<L: Leaf> {
         ensures read { OnOk result (IfSome (L.contents leaf.now)
             (λ bytes. into.new ≡ take (length into.old) (drop at bytes))) }
         ensures reads { reads self.new ≡ (reads self.old + 1) % 2 ^ 64 }
+        ensures asked { asked self.new ≡ (asked self.old + length into.old) % 2 ^ 64 }
         ensures count { NeverFalls (faults self.old) (faults self.new) }
         ensures quiet { OnOk result (faults self.new ≡ faults self.old) }
         ensures cause { OnErr result (Rose (faults self.old) (faults self.new)) };

@@ -1,4 +1,4 @@
-ghost use Rattle.std.specs.Prelude.{◌≡◌, ℕ, ◌+◌, ◌≤◌, List, Option, length, take, drop, IfSome, IfOk, OnOk, OnErr};
+ghost use Rattle.std.specs.Prelude.{◌≡◌, ℕ, ◌+◌, ◌≤◌, ◌%◌, ◌^◌, List, Option, length, take, drop, IfSome, IfOk, OnOk, OnErr};
 ghost use Rattle.std.specs.Option.{ForSome};
 ghost use Rattle.idx_outside.specs.Cause.{NeverFalls, Rose};
 
@@ -11,6 +11,9 @@ pub trait Source {
     /// The bytes, where they are known.
     ghost contents: { Self → Option (List ℕ) };
 
+    /// How many bytes were asked for, also by calls that failed, modulo 2^64.
+    ghost asked: { Self → ℕ };
+
     /// How many faults were counted. The count stands still at `u64::MAX`.
     ghost faults: { Self → ℕ };
 
@@ -18,6 +21,7 @@ pub trait Source {
     fn len(&mut self) -> Result<u64, Outage>
         ensures length { IfOk result (λ n. IfSome (contents self.old) (λ bytes. n ≡ length bytes)) }
         ensures contents { contents self.new ≡ contents self.old }
+        ensures asked { asked self.new ≡ asked self.old }
         ensures count { NeverFalls (faults self.old) (faults self.new) }
         ensures quiet { OnOk result (faults self.new ≡ faults self.old) }
         ensures cause { OnErr result (Rose (faults self.old) (faults self.new)) };
@@ -29,6 +33,7 @@ pub trait Source {
         ensures read { OnOk result (IfSome (contents self.old)
             (λ bytes. into.new ≡ take (length into.old) (drop at bytes))) }
         ensures contents { contents self.new ≡ contents self.old }
+        ensures asked { asked self.new ≡ (asked self.old + length into.old) % 2 ^ 64 }
         ensures count { NeverFalls (faults self.old) (faults self.new) }
         ensures quiet { OnOk result (faults self.new ≡ faults self.old) }
         ensures cause { OnErr result (Rose (faults self.old) (faults self.new)) };
