@@ -92,7 +92,7 @@ fn blocks_have_their_samples_in_hierarchical_order(rt: HostRuntime) -> Result<()
 }
 
 #[test]
-fn lines_and_addresses_make_the_same_blocks(rt: HostRuntime) -> Result<(), Fail> {
+fn lanes_and_addresses_make_the_same_blocks(rt: HostRuntime) -> Result<(), Fail> {
     for text in OTHERS {
         let header = header_of(&rt, text)?;
         assert!(rt; header.field_count() == 1);
@@ -103,11 +103,11 @@ fn lines_and_addresses_make_the_same_blocks(rt: HostRuntime) -> Result<(), Fail>
         }
         for block in 0..header.block_count() {
             let bytes = header.block_bytes(0) as usize;
-            let mut by_lines = vec![in rt.alloc(); 255; bytes]?;
+            let mut by_lanes = vec![in rt.alloc(); 255; bytes]?;
             let mut by_addresses = vec![in rt.alloc(); 255; bytes]?;
-            fill(&rt, &header, &samples, block, &mut by_lines);
+            fill(&rt, &header, &samples, block, &mut by_lanes);
             fill_plainly(&rt, &header, &samples, block, &mut by_addresses);
-            assert_eq!(rt; by_lines.as_slice(), by_addresses.as_slice());
+            assert_eq!(rt; by_lanes.as_slice(), by_addresses.as_slice());
         }
     }
     Ok(())
