@@ -3,7 +3,6 @@ use Rattle.std.proofs.Common.{◌≡◌, ◌↔◌, ℕ, zero, suc, ◌+◌, ◌
 use Rattle.std.specs.Prelude.{replicate}
 use Rattle.std.specs.List.{flat_map, range_with_len}
 use Rattle.std.proofs.Math.Nat.{mod-lt, mul-le-mul_right, mul_comm}
-use Rattle.std.proofs.Math.Pow.{pow_mono}
 use Rattle.std.proofs.lemmas.Bool.{cases_lt}
 use Rattle.std.proofs.lemmas.List.{drop-replicate}
 use Rattle.std.proofs.lemmas.Nat.{div-add-mod', div-mul-add, pow_pos}
@@ -16,13 +15,13 @@ use Rattle.idx_hz.proofs.AddressLaws.{hz_address-injective, hz_address-onto}
 use Rattle.idx_grid.specs.Grid.{LiesOn}
 use Rattle.idx_grid.specs.declared.grid.Grid.{Grid}
 use Rattle.idx_grid.specs.Block.{IsInBlock}
-use Rattle.idx_block.specs.declared.ask.Ask.{Ask}
+use Rattle.idx_lanes.specs.declared.block_part.BlockPart.{BlockPart}
 use Rattle.idx_block.specs.Stored.{stored}
-use Rattle.idx_block.specs.Copies.{IsRight, IsWanted, IsWithin}
-use Rattle.idx_block.specs.Plan.{AreCopied, AreNumbers, byte_at, place_at}
-use Rattle.idx_block.proofs.CopyLemmas.{all-right}
-use Rattle.idx_block.proofs.SettingLemmas.{IsSetting, byte-point, in_block, in_region, numbers-of, place-point, point_of}
-use Rattle.idx_block.proofs.StoredLemmas.{address-in_block, stored-none, stored-point}
+use Rattle.idx_lanes.specs.Copies.{IsRight, IsWanted, IsWithin}
+use Rattle.idx_lanes.specs.Lanes.{AreCopied, AreNumbers, byte_at, place_at}
+use Rattle.idx_lanes.proofs.CopyLemmas.{all-right}
+use Rattle.idx_lanes.proofs.SettingLemmas.{IsSetting, byte-point, in_block, in_region, numbers-of, place-point, point_of}
+use Rattle.idx_block.proofs.StoredLemmas.{stored-none, stored-point}
 
 -- ---- which points are in a box
 
@@ -93,26 +92,26 @@ zero-right mask region bits block size place raw p old has at out room within ze
 abbrev pub wanted : List ℕ → List (ℕ × ℕ) → ℕ → ℕ → ℕ → List ℕ → ℕ → List ℕ
 wanted mask region bits block size raw place = stored mask region size raw (block * 2 ^ bits + place)
 
-module _ (ask : Ask) (box : List (ℕ × ℕ)) (grid : Grid) (block : ℕ) (raw : List ℕ) (is : IsSetting ask box grid block) (whole : length raw ≡ ask.size * length (points ask.region)) where
+module _ (part : BlockPart) (box : List (ℕ × ℕ)) (grid : Grid) (block : ℕ) (raw : List ℕ) (is : IsSetting part box grid block) (whole : length raw ≡ part.size * length (points part.region)) where
   -- what is copied is what the places are to hold
-  pub copies-wanted : (ks : ℕ → ℕ) → AreNumbers ask (length ask.region) ks → IsWanted (wanted ask.mask ask.region ask.bits block ask.size raw) ask.size raw (byte_at ask (length ask.region) ks) (place_at ask (length ask.region) ks)
+  pub copies-wanted : (ks : ℕ → ℕ) → AreNumbers part (length part.region) ks → IsWanted (wanted part.mask part.region part.bits block part.size raw) part.size raw (byte_at part (length part.region) ks) (place_at part (length part.region) ks)
   copies-wanted ks are =
-      ap (λ n. take ask.size (drop n raw)) (sym (byte-point ask box grid block is ks are))
-      ∙ sym (stored-point ask.mask ask.region ask.size raw (point_of ask ks) is.has (in_region ask box grid block is ks are))
-      ∙ ap (stored ask.mask ask.region ask.size raw) (place-point ask box grid block is ks are)
+      ap (λ n. take part.size (drop n raw)) (sym (byte-point part box grid block is ks are))
+      ∙ sym (stored-point part.mask part.region part.size raw (point_of part ks) is.has (in_region part box grid block is ks are))
+      ∙ ap (stored part.mask part.region part.size raw) (place-point part box grid block is ks are)
 
   -- each copy is within the raw samples and the block
-  pub copies-within : (old : List ℕ) → length old ≡ ask.size * 2 ^ ask.bits → (ks : ℕ → ℕ) → AreNumbers ask (length ask.region) ks → IsWithin ask.size raw old (byte_at ask (length ask.region) ks) (place_at ask (length ask.region) ks)
+  pub copies-within : (old : List ℕ) → length old ≡ part.size * 2 ^ part.bits → (ks : ℕ → ℕ) → AreNumbers part (length part.region) ks → IsWithin part.size raw old (byte_at part (length part.region) ks) (place_at part (length part.region) ks)
   copies-within old room ks are =
-      let p : List ℕ = point_of ask ks in
-      let place : ℕ = place_at ask (length ask.region) ks in
-      let below : place_of ask.region p + 1 ≤ length (points ask.region) = omega (arith, place_of-lt ask.region p (in_region ask box grid block is ks are), length-points ask.region) in
-      let bytes : (place_of ask.region p + 1) * ask.size ≤ length (points ask.region) * ask.size = mul-le-mul_right ask.size below in
-      let inside = in_block ask box grid block is ks are in
-      let small : place < 2 ^ ask.bits = below_block (hz_address ask.mask p) block (2 ^ ask.bits) place (pow_pos ask.bits) (place-point ask box grid block is ks are) inside.address in
-      let le : place + 1 ≤ 2 ^ ask.bits = omega (arith, small) in (
-        omega (arith, whole, bytes, byte-point ask box grid block is ks are, one_more (place_of ask.region p) ask.size, mul_comm (place_of ask.region p) ask.size, mul_comm (length (points ask.region)) ask.size),
-        omega (arith, room, mul-le-mul_right ask.size le, mul_comm (2 ^ ask.bits) ask.size),
+      let p : List ℕ = point_of part ks in
+      let place : ℕ = place_at part (length part.region) ks in
+      let below : place_of part.region p + 1 ≤ length (points part.region) = omega (arith, place_of-lt part.region p (in_region part box grid block is ks are), length-points part.region) in
+      let bytes : (place_of part.region p + 1) * part.size ≤ length (points part.region) * part.size = mul-le-mul_right part.size below in
+      let inside = in_block part box grid block is ks are in
+      let small : place < 2 ^ part.bits = below_block (hz_address part.mask p) block (2 ^ part.bits) place (pow_pos part.bits) (place-point part box grid block is ks are) inside.address in
+      let le : place + 1 ≤ 2 ^ part.bits = omega (arith, small) in (
+        omega (arith, whole, bytes, byte-point part box grid block is ks are, one_more (place_of part.region p) part.size, mul_comm (place_of part.region p) part.size, mul_comm (length (points part.region)) part.size),
+        omega (arith, room, mul-le-mul_right part.size le, mul_comm (2 ^ part.bits) part.size),
       )
     where
       one_more : (n x : ℕ) → (n + 1) * x ≡ n * x + x
@@ -124,29 +123,29 @@ module _ (ask : Ask) (box : List (ℕ × ℕ)) (grid : Grid) (block : ℕ) (raw 
           omega (arith, parts, is, ap (λ m. m * n) same, mod-lt a some)
 
   -- each place is right
-  pub places-right : (old new : List ℕ) → block * 2 ^ ask.bits + 2 ^ ask.bits ≤ 2 ^ length ask.mask → length old ≡ ask.size * 2 ^ ask.bits → ((HoldsAll ask.region box → ⊥) → old ≡ replicate (length old) 0) →
-      AreCopied (wanted ask.mask ask.region ask.bits block ask.size raw) ask (length ask.region) old new → (place : ℕ) → place < 2 ^ ask.bits → IsRight (wanted ask.mask ask.region ask.bits block ask.size raw) ask.size new place
+  pub places-right : (old new : List ℕ) → block * 2 ^ part.bits + 2 ^ part.bits ≤ 2 ^ length part.mask → length old ≡ part.size * 2 ^ part.bits → ((HoldsAll part.region box → ⊥) → old ≡ replicate (length old) 0) →
+      AreCopied (wanted part.mask part.region part.bits block part.size raw) part (length part.region) old new → (place : ℕ) → place < 2 ^ part.bits → IsRight (wanted part.mask part.region part.bits block part.size raw) part.size new place
   places-right old new exists room cleared copied place within =
-      let want : ℕ → List ℕ = wanted ask.mask ask.region ask.bits block ask.size raw in
-      let found = point-at ask.mask (length ask.region) ask.bits block place is.named (omega (arith, exists, within)) within in
+      let want : ℕ → List ℕ = wanted part.mask part.region part.bits block part.size raw in
+      let found = point-at part.mask (length part.region) part.bits block place is.named (omega (arith, exists, within)) within in
       let p : List ℕ = found.0 in
       ⊎_elim
-      (λ (inside : LiesIn ask.region p).
-      let numbers = numbers-of ask box grid block is p found.1.in_block inside in
-      let address : block * 2 ^ ask.bits + place_at ask (length ask.region) numbers.0 ≡ block * 2 ^ ask.bits + place =
-      sym (place-point ask box grid block is numbers.0 numbers.1) ∙ ap (hz_address ask.mask) numbers.2 ∙ found.1.address in
-      let same : place_at ask (length ask.region) numbers.0 ≡ place = omega (arith, address) in
-      subst (λ (n : ℕ). IsRight want ask.size new n) same (copied.placed numbers.0 numbers.1))
-      (λ (out : LiesIn ask.region p → ⊥).
+      (λ (inside : LiesIn part.region p).
+      let numbers = numbers-of part box grid block is p found.1.in_block inside in
+      let address : block * 2 ^ part.bits + place_at part (length part.region) numbers.0 ≡ block * 2 ^ part.bits + place =
+      sym (place-point part box grid block is numbers.0 numbers.1) ∙ ap (hz_address part.mask) numbers.2 ∙ found.1.address in
+      let same : place_at part (length part.region) numbers.0 ≡ place = omega (arith, address) in
+      subst (λ (n : ℕ). IsRight want part.size new n) same (copied.placed numbers.0 numbers.1))
+      (λ (out : LiesIn part.region p → ⊥).
       let in_box = ((is.points p).0 found.1.in_block).0 in
-      copied.kept place (zero-right ask.mask ask.region ask.bits block ask.size place raw p old is.has found.1 out room within (cleared (λ holds. out (holds p in_box)))))
-      (cases_in ask.region p)
+      copied.kept place (zero-right part.mask part.region part.bits block part.size place raw p old is.has found.1 out room within (cleared (λ holds. out (holds p in_box)))))
+      (cases_in part.region p)
 
   -- the block is made
-  pub block-made : (old new : List ℕ) → block * 2 ^ ask.bits + 2 ^ ask.bits ≤ 2 ^ length ask.mask → length old ≡ ask.size * 2 ^ ask.bits → length new ≡ length old → ((HoldsAll ask.region box → ⊥) → old ≡ replicate (length old) 0) →
-      AreCopied (wanted ask.mask ask.region ask.bits block ask.size raw) ask (length ask.region) old new → new ≡ flat_map (stored ask.mask ask.region ask.size raw) (range_with_len (block * 2 ^ ask.bits) (2 ^ ask.bits))
+  pub block-made : (old new : List ℕ) → block * 2 ^ part.bits + 2 ^ part.bits ≤ 2 ^ length part.mask → length old ≡ part.size * 2 ^ part.bits → length new ≡ length old → ((HoldsAll part.region box → ⊥) → old ≡ replicate (length old) 0) →
+      AreCopied (wanted part.mask part.region part.bits block part.size raw) part (length part.region) old new → new ≡ flat_map (stored part.mask part.region part.size raw) (range_with_len (block * 2 ^ part.bits) (2 ^ part.bits))
   block-made old new exists room long cleared copied =
-      all-right (stored ask.mask ask.region ask.size raw) ask.size (2 ^ ask.bits) (block * 2 ^ ask.bits) new (omega (arith, long, room, mul_comm ask.size (2 ^ ask.bits)))
+      all-right (stored part.mask part.region part.size raw) part.size (2 ^ part.bits) (block * 2 ^ part.bits) new (omega (arith, long, room, mul_comm part.size (2 ^ part.bits)))
       (places-right old new exists room cleared copied)
 
 -- where no point of the volume's box is in the block's, all places hold zeros
@@ -160,33 +159,3 @@ block-none mask region box grid bits block size raw old named has points apart e
     let p : List ℕ = found.0 in
     let in_box = ((points p).0 found.1.in_block).0 in
     zero-right mask region bits block size place raw p old has found.1 (λ inside. apart p inside in_box) room within (cleared (λ holds. apart p (holds p in_box) in_box)))
-
--- ---- the level of a block
-
-pow-cancel : (a b : ℕ) → 2 ^ a < 2 ^ b → a < b
-pow-cancel a b less = ⊎_elim
-    (λ (fits : a < b). fits)
-    (λ (ge : b ≤ a). let power : 2 ^ b ≤ 2 ^ a = pow_mono ge in absurd (omega (arith, less, power)))
-    (cases_lt a b)
-
--- how many digits a block's number has, by its level
-pub record HasDigits (digits bits block level : ℕ) : Type 0 where
-  pub deeper : bits < level
-  pub within : bits + (level - 1 - bits) < digits
-  pub same : suc (bits + (level - 1 - bits)) ≡ level
-  pub exists : block * 2 ^ bits + 2 ^ bits ≤ 2 ^ digits
-
-pub digits-of_level : (digits bits block level : ℕ) → bits ≤ digits → digits ≤ 40 → block < 2 ^ (digits - bits) → 1 ≤ block → (2 ^ (level - 1) ≤ block * 2 ^ bits) × (block * 2 ^ bits < 2 ^ level) → HasDigits digits bits block level
-digits-of_level digits bits block level fits few exists other range =
-    let some : 0 < 2 ^ bits = pow_pos bits in
-    let first = address-in_block digits bits block (2 ^ bits) 0 fits few exists refl some in
-    let last = address-in_block digits bits block (2 ^ bits) (2 ^ bits - 1) fits few exists refl (omega (arith, some)) in
-    let wide : 1 * 2 ^ bits ≤ block * 2 ^ bits = mul-le-mul_right (2 ^ bits) other in
-    let deeper : bits < level = pow-cancel bits level (omega (arith, wide, range.1)) in
-    let before : level - 1 < digits = pow-cancel (level - 1) digits (omega (arith, range.0, first.0)) in
-    record {
-      deeper = deeper;
-      within = omega (arith, deeper, before);
-      same = omega (arith, deeper);
-      exists = omega (arith, last.0, some);
-    }

@@ -1,18 +1,12 @@
 -- Block 0, level by level.
-use Rattle.std.proofs.Common.{◌≡◌, ℕ, suc, ◌+◌, ◌*◌, ◌^◌, ◌<◌, ◌≤◌, List, [], ◌++◌, length, take, drop, sym, ap, ◌∙◌, arith, append-nil}
+use Rattle.std.proofs.Common.{◌≡◌, ℕ, ◌+◌, ◌*◌, ◌^◌, ◌≤◌, List, [], ◌++◌, length, take, drop, sym, ap, ◌∙◌, arith, append-nil}
 use Rattle.std.specs.List.{flat_map, range_with_len}
 use borrow.Rule.Slice.PartMut.{put_mid}
 use Rattle.std.proofs.lemmas.Slice.{take-put_mid}
 use Rattle.std.proofs.lemmas.Grind.{flat_map-append}
-use Rattle.std.proofs.Math.Nat.{mul-le-mul_left, pow-suc}
-use Rattle.std.proofs.Math.Pow.{pow_mono}
 use Rattle.std.proofs.Math.Seq.{take-append_seam}
 use Rattle.idx_layout.proofs.ListLemmas.{range-split}
-
-pub double : (level : ℕ) → 2 ^ (level + 1) ≡ 2 ^ level + 2 ^ level
-double level =
-    let next : level + 1 ≡ suc level = omega arith in
-    ap (λ n. 2 ^ n) next ∙ pow-suc 2 level ∙ omega arith
+use Rattle.idx_lanes.proofs.LevelLemmas.{double}
 
 -- one level more
 pub level-more : (want : ℕ → List ℕ) (size level filled n : ℕ) (old piece : List ℕ) → filled ≡ size * 2 ^ level → n ≡ filled → length piece ≡ filled → filled ≤ length old → take filled old ≡ flat_map want (range_with_len 0 (2 ^ level)) →
@@ -32,11 +26,3 @@ level-more want size level filled n old piece front same long room before is =
 pub level-none : (want : ℕ → List ℕ) (size : ℕ) (old piece : List ℕ) → length piece ≡ size → piece ≡ want 0 → take size (piece ++ drop size old) ≡ want 0 ++ []
 level-none want size old piece long is =
     ap (λ n. take n (piece ++ drop size old)) (sym long) ∙ take-append_seam piece (drop size old) ∙ is ∙ sym (append-nil (want 0))
-
--- what comes next is within the block
-pub level-fits : (size level filled bits room : ℕ) → filled ≡ size * 2 ^ level → level < bits → room ≡ size * 2 ^ bits → 2 * filled ≤ room
-level-fits size level filled bits room front less whole =
-    let le : level + 1 ≤ bits = omega arith in
-    let power : 2 ^ (level + 1) ≤ 2 ^ bits = pow_mono le in
-    let twice : size * (2 ^ level + 2 ^ level) ≡ size * 2 ^ level + size * 2 ^ level = grind arith in
-    omega (arith, whole, mul-le-mul_left size power, ap (λ n. size * n) (double level), twice, front)

@@ -1,14 +1,4 @@
 pub mod StoredLemmas
-pub mod PartLemmas
-pub mod SpreadLemmas
-pub mod ZByLemmas
-pub mod CopyLemmas
-pub mod AxisLemmas
-pub mod RankLemmas
-pub mod PlaceLemmas
-pub mod PlanLemmas
-pub mod EachLemmas
-pub mod SettingLemmas
 pub mod BlockLemmas
 pub mod FirstLemmas
 pub mod RowsLemmas

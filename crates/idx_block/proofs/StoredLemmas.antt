@@ -1,5 +1,5 @@
 -- The sample with an address: that of the box's point that has it, and zeros where none has.
-use Rattle.std.proofs.Common.{◌≡◌, ◌≢◌, ℕ, zero, suc, ◌+◌, ◌-◌, ◌*◌, ◌^◌, ◌<◌, ◌≤◌, Bool, true, false, cond, List, [], ◌∷◌, Option, Some, None, length, take, drop, eqb-true, eq-eqb, refl, sym, ap, ◌∙◌, arith}
+use Rattle.std.proofs.Common.{◌≡◌, ◌≢◌, ℕ, zero, suc, ◌*◌, ◌^◌, Bool, true, false, cond, List, [], ◌∷◌, Option, Some, None, length, take, drop, eqb-true, eq-eqb, refl, sym, ap, ◌∙◌}
 use Rattle.std.specs.Prelude.{find, replicate, slice_get, ◌==◌}
 use Rattle.std.specs.List.{flat_map, range_with_len}
 use Rattle.std.specs.Option.{option_map_or}
@@ -14,9 +14,6 @@ use Rattle.idx_header.specs.Header.{HeaderValue}
 use Rattle.idx_layout.specs.Layout.{block_of_samples}
 use Rattle.idx_layout.specs.OfHeader.{layout_of}
 use Rattle.idx_walk.proofs.WalkLemmas.{sample_at-raw}
-use Rattle.std.proofs.Math.Nat.{mul-le-mul_right}
-use Rattle.std.proofs.Math.Pow.{pow_mono}
-use Rattle.std.proofs.lemmas.Nat.{pow-add}
 use Rattle.idx_block.specs.Stored.{stored}
 
 -- what is found in a list passes, and stands in it
@@ -66,21 +63,6 @@ stored-none mask box size raw address none =
 pub block-stored : (h : HeaderValue) (size : ℕ) (raw : List ℕ) (block : ℕ) → flat_map (stored h.mask h.box size raw) (range_with_len (block * 2 ^ h.block_bits) (2 ^ h.block_bits)) ≡ block_of_samples (layout_of h) size (samples_of size (length (points h.box)) raw) block
 unfolding stored
 block-stored h size raw block = refl
-
--- ---- numbers
-
--- an address of a block is below the number of addresses
-pub address-in_block : (digits bits block count k : ℕ) → bits ≤ digits → digits ≤ 40 → block < 2 ^ (digits - bits) → count ≡ 2 ^ bits → k < count → (block * count + k < 2 ^ digits) × (2 ^ digits ≤ 2 ^ 40)
-address-in_block digits bits block count k within few exists is below =
-    let split : digits - bits + bits ≡ digits = omega arith in
-    let whole : 2 ^ digits ≡ 2 ^ (digits - bits) * 2 ^ bits = ap (λ n. 2 ^ n) (sym split) ∙ pow-add 2 (digits - bits) bits in
-    let le : block + 1 ≤ 2 ^ (digits - bits) = omega (arith, exists) in
-    let room : (block + 1) * 2 ^ bits ≤ 2 ^ (digits - bits) * 2 ^ bits = mul-le-mul_right (2 ^ bits) le in
-    let same : block * count ≡ block * 2 ^ bits = ap (λ n. block * n) is in
-    (omega (arith, whole, room, same, is, below, one_more block (2 ^ bits)), pow_mono few)
-  where
-    one_more : (n x : ℕ) → (n + 1) * x ≡ n * x + x
-    one_more n x = grind arith
 
 -- a block by a mask, a box, bits and a size that are a header's
 pub block-of_header : (h : HeaderValue) (mask : List ℕ) (box : List (ℕ × ℕ)) (bits size bytes : ℕ) (raw : List ℕ) (block : ℕ) (new : List ℕ) → mask ≡ h.mask → box ≡ h.box → bits ≡ h.block_bits → bytes ≡ size →

@@ -3,6 +3,3 @@ pub use Rattle.idx_layout.specs.Layout
 pub use Rattle.idx_layout.specs.OfHeader
 pub use Rattle.idx_geom.specs.Volume
 pub use Rattle.idx_header.specs.Header
-pub mod Spread
-pub mod Copies
-pub mod Plan

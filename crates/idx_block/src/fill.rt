@@ -5,7 +5,7 @@ ghost use Rattle.idx_header.specs.Header.{block_bytes, block_count, sample_bytes
 ghost use Rattle.idx_layout.specs.Layout.{block_of_samples};
 ghost use Rattle.idx_layout.specs.OfHeader.{layout_of};
 
-use crate::by_lines::fill_by_lines;
+use crate::by_lanes::fill_by_lanes;
 use crate::first_block::fill_first_block;
 use idx_header::Header;
 
@@ -27,6 +27,6 @@ pub fn fill_block(header: &Header, field: u32, samples: &[u8], block: u64, into:
     if block == 0 {
         fill_first_block(&mask, &region, bits, size, samples, into);
     } else {
-        fill_by_lines(&mask, &region, bits, block, size, samples, into);
+        fill_by_lanes(&mask, &region, bits, block, size, samples, into);
     }
 }

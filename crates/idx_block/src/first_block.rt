@@ -5,7 +5,7 @@ ghost use Rattle.idx_hz.specs.Mask.{HasAddress, IsMask};
 ghost use Rattle.idx_block.specs.Stored.{stored};
 
 use crate::by_addresses::put_sample;
-use crate::by_lines::fill_by_lines;
+use crate::by_lanes::fill_by_lanes;
 use idx_geom::Region;
 use idx_hz::Mask;
 
@@ -32,7 +32,7 @@ pub(crate) fn fill_first_block(
     put_sample(mask, region, 0, samples, &mut into[..size]);
     let mut filled = size;
     for level in 0..bits {
-        fill_by_lines(
+        fill_by_lanes(
             mask,
             region,
             level,

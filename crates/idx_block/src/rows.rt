@@ -1,12 +1,10 @@
-//! The two fastest lines of a walk. Some neighbouring rows, a band, are copied side by side, so that more reads of the raw
+//! The two fastest lanes of a walk. Some neighbouring rows, a band, are copied side by side, so that more reads of the raw
 //! samples are under way at a time.
 ghost use Rattle.std.specs.Prelude.{◌≡◌, ℕ, ◌+◌, ◌*◌, ◌<◌, ◌≤◌, List, [], ◌∷◌, slice_index};
-ghost use Rattle.idx_block.specs.Copies.{AreMade, EachCopy, HasCoordinate, IsWanted, IsWithin};
-ghost use Rattle.idx_block.specs.Spread.{part_after};
+ghost use Rattle.idx_lanes.specs.Copies.{AreMade, EachCopy, HasCoordinate, IsWanted, IsWithin};
+ghost use Rattle.idx_lanes.specs.Spread.{part_after};
 
-use crate::line::Line;
-use crate::walk::next_part;
-use idx_stride::Sample;
+use idx_lanes::{Lane, Sample, next_part};
 
 /// So many rows are copied side by side, where there are as many.
 const WIDE: usize = 16;
@@ -14,11 +12,11 @@ const WIDE: usize = 16;
 /// So many where there are fewer.
 const NARROW: usize = 4;
 
-/// Copies the samples along two lines.
+/// Copies the samples along two lanes.
 pub(crate) fn rows<S: Sample>(
     sample: S,
-    slower: &Line,
-    line: &Line,
+    slower: &Lane,
+    lane: &Lane,
     samples: &[u8],
     from: usize,
     into: &mut [u8],
@@ -26,24 +24,24 @@ pub(crate) fn rows<S: Sample>(
 )
     requires some { 0 < S.bytes sample }
     requires few { S.bytes sample ≤ 64 }
-    requires coordinates { HasCoordinate line.now }
-    requires within { EachCopy (IsWithin (S.bytes sample) samples.now into.old) (slower.now ∷ line.now ∷ []) from place }
+    requires coordinates { HasCoordinate lane.now }
+    requires within { EachCopy (IsWithin (S.bytes sample) samples.now into.old) (slower.now ∷ lane.now ∷ []) from place }
     ensures { (want : ℕ → List ℕ) →
-        EachCopy (IsWanted want (S.bytes sample) samples.now) (slower.now ∷ line.now ∷ []) from place →
-        AreMade want (S.bytes sample) (slower.now ∷ line.now ∷ []) from place into.old into.new }
+        EachCopy (IsWanted want (S.bytes sample) samples.now) (slower.now ∷ lane.now ∷ []) from place →
+        AreMade want (S.bytes sample) (slower.now ∷ lane.now ∷ []) from place into.old into.new }
 {
     if slower.count < WIDE {
-        rows_by::<S, NARROW>(sample, slower, line, samples, from, into, place);
+        rows_by::<S, NARROW>(sample, slower, lane, samples, from, into, place);
     } else {
-        rows_by::<S, WIDE>(sample, slower, line, samples, from, into, place);
+        rows_by::<S, WIDE>(sample, slower, lane, samples, from, into, place);
     }
 }
 
-/// Copies the samples along two lines, in bands of `N` rows.
+/// Copies the samples along two lanes, in bands of `N` rows.
 fn rows_by<S: Sample, const N: usize>(
     sample: S,
-    slower: &Line,
-    line: &Line,
+    slower: &Lane,
+    lane: &Lane,
     samples: &[u8],
     from: usize,
     into: &mut [u8],
@@ -53,17 +51,17 @@ fn rows_by<S: Sample, const N: usize>(
     requires narrow { N ≤ 64 }
     requires some { 0 < S.bytes sample }
     requires few { S.bytes sample ≤ 64 }
-    requires coordinates { HasCoordinate line.now }
-    requires within { EachCopy (IsWithin (S.bytes sample) samples.now into.old) (slower.now ∷ line.now ∷ []) from place }
+    requires coordinates { HasCoordinate lane.now }
+    requires within { EachCopy (IsWithin (S.bytes sample) samples.now into.old) (slower.now ∷ lane.now ∷ []) from place }
     ensures { (want : ℕ → List ℕ) →
-        EachCopy (IsWanted want (S.bytes sample) samples.now) (slower.now ∷ line.now ∷ []) from place →
-        AreMade want (S.bytes sample) (slower.now ∷ line.now ∷ []) from place into.old into.new }
+        EachCopy (IsWanted want (S.bytes sample) samples.now) (slower.now ∷ lane.now ∷ []) from place →
+        AreMade want (S.bytes sample) (slower.now ∷ lane.now ∷ []) from place into.old into.new }
 {
     let mut part = slower.first;
     let mut k = 0;
     while k < slower.count {
         if slower.count - k >= N {
-            let band = Line {
+            let band = Lane {
                 step: slower.step,
                 count: N,
                 bits: slower.bits,
@@ -72,7 +70,7 @@ fn rows_by<S: Sample, const N: usize>(
             part = band_rows::<S, N>(
                 sample,
                 &band,
-                line,
+                lane,
                 samples,
                 from + k * slower.step,
                 into,
@@ -82,7 +80,7 @@ fn rows_by<S: Sample, const N: usize>(
         } else {
             row(
                 sample,
-                line,
+                lane,
                 samples,
                 from + k * slower.step,
                 into,
@@ -94,12 +92,12 @@ fn rows_by<S: Sample, const N: usize>(
     }
 }
 
-/// Copies the samples along a line, at each of its coordinates those along a band. Answers what the coordinate behind
+/// Copies the samples along a lane, at each of its coordinates those along a band. Answers what the coordinate behind
 /// the band gives to the place.
 fn band_rows<S: Sample, const N: usize>(
     sample: S,
-    band: &Line,
-    line: &Line,
+    band: &Lane,
+    lane: &Lane,
     samples: &[u8],
     from: usize,
     into: &mut [u8],
@@ -110,16 +108,16 @@ fn band_rows<S: Sample, const N: usize>(
     requires some { 0 < S.bytes sample }
     requires few { S.bytes sample ≤ 64 }
     requires band { band.now.count ≡ N }
-    requires within { EachCopy (IsWithin (S.bytes sample) samples.now into.old) (line.now ∷ band.now ∷ []) from place }
+    requires within { EachCopy (IsWithin (S.bytes sample) samples.now into.old) (lane.now ∷ band.now ∷ []) from place }
     ensures part { result ≡ part_after band.now.bits band.now.first N }
     ensures made { (want : ℕ → List ℕ) →
-        EachCopy (IsWanted want (S.bytes sample) samples.now) (line.now ∷ band.now ∷ []) from place →
-        AreMade want (S.bytes sample) (line.now ∷ band.now ∷ []) from place into.old into.new }
+        EachCopy (IsWanted want (S.bytes sample) samples.now) (lane.now ∷ band.now ∷ []) from place →
+        AreMade want (S.bytes sample) (lane.now ∷ band.now ∷ []) from place into.old into.new }
 {
     let parts = parts_of::<N>(band);
-    let (step, bits) = (line.step, line.bits);
-    let mut part = line.first;
-    for k in 0..line.count {
+    let (step, bits) = (lane.step, lane.bits);
+    let mut part = lane.first;
+    for k in 0..lane.count {
         copy_column::<S, N>(
             sample,
             band,
@@ -136,7 +134,7 @@ fn band_rows<S: Sample, const N: usize>(
 
 /// What the coordinates of a band give to the place.
 #[inline(always)]
-fn parts_of<const N: usize>(band: &Line) -> [usize; N]
+fn parts_of<const N: usize>(band: &Lane) -> [usize; N]
     requires wide { 1 ≤ N }
     requires narrow { N ≤ 64 }
     ensures { (k : ℕ) → k < N → slice_index result k ≡ part_after band.now.bits band.now.first k }
@@ -152,7 +150,7 @@ fn parts_of<const N: usize>(band: &Line) -> [usize; N]
 #[inline(always)]
 fn copy_column<S: Sample, const N: usize>(
     sample: S,
-    band: &Line,
+    band: &Lane,
     parts: [usize; N],
     samples: &[u8],
     from: usize,
@@ -179,10 +177,10 @@ fn copy_column<S: Sample, const N: usize>(
     }
 }
 
-/// Copies the samples along one line.
+/// Copies the samples along one lane.
 pub(crate) fn row<S: Sample>(
     sample: S,
-    line: &Line,
+    lane: &Lane,
     samples: &[u8],
     from: usize,
     into: &mut [u8],
@@ -190,13 +188,13 @@ pub(crate) fn row<S: Sample>(
 )
     requires some { 0 < S.bytes sample }
     requires few { S.bytes sample ≤ 64 }
-    requires within { EachCopy (IsWithin (S.bytes sample) samples.now into.old) (line.now ∷ []) from place }
-    ensures { (want : ℕ → List ℕ) → EachCopy (IsWanted want (S.bytes sample) samples.now) (line.now ∷ []) from place →
-        AreMade want (S.bytes sample) (line.now ∷ []) from place into.old into.new }
+    requires within { EachCopy (IsWithin (S.bytes sample) samples.now into.old) (lane.now ∷ []) from place }
+    ensures { (want : ℕ → List ℕ) → EachCopy (IsWanted want (S.bytes sample) samples.now) (lane.now ∷ []) from place →
+        AreMade want (S.bytes sample) (lane.now ∷ []) from place into.old into.new }
 {
-    let (step, bits) = (line.step, line.bits);
-    let mut part = line.first;
-    for k in 0..line.count {
+    let (step, bits) = (lane.step, lane.bits);
+    let mut part = lane.first;
+    for k in 0..lane.count {
         sample.copy(
             samples,
             from + k * step,

@@ -1,113 +1,137 @@
-ghost use Rattle.std.specs.Prelude.{◌*◌, ◌<◌};
-ghost use Rattle.idx_geom.specs.Region.{points};
-ghost use Rattle.idx_header.specs.Header.{block_bytes, block_count};
+ghost use Rattle.std.specs.Prelude.{◌≡◌, ◌-◌, ◌*◌, ◌^◌, ◌<◌, ◌≤◌, length};
+ghost use Rattle.idx_geom.specs.Region.{points, upper_ends};
+ghost use Rattle.idx_hz.specs.Mask.{HasAddress, IsMask};
 
 use crate::by_addresses::fill_by_addresses;
-use crate::fill_block;
-use idx_header::Header;
+use crate::by_lanes::fill_by_lanes;
+use crate::first_block::fill_first_block;
+use idx_geom::{Point, Region};
+use idx_hz::Mask;
+use std::alloc::{AllocError, Global};
 use std::process::Abort;
 use std::test::Fail;
 
-/// Boxes under a mask of two axes with two bits each, in blocks of four samples of a byte: all sixteen points, nine from
-/// the origin on, and the four in the middle.
-const ALL: &[u8] =
-    b"(version)\n6\n(box)\n0 3 0 3\n(fields)\na uint8\n(bits)\nV0101\n(bitsperblock)\n2\n(blocksperfile)\n2\n(filename_template)\n./%01x.bin\n";
-
-const NINE: &[u8] =
-    b"(version)\n6\n(box)\n0 2 0 2\n(fields)\na uint8\n(bits)\nV0101\n(bitsperblock)\n2\n(blocksperfile)\n2\n(filename_template)\n./%01x.bin\n";
-
-const MIDDLE: &[u8] =
-    b"(version)\n6\n(box)\n1 2 1 2\n(fields)\na uint8\n(bits)\nV0101\n(bitsperblock)\n2\n(blocksperfile)\n2\n(filename_template)\n./%01x.bin\n";
+/// A box under a mask, in blocks of 2^`bits` samples of so many bytes.
+#[derive(Clone, Copy)]
+struct Case {
+    mask: &'static [u8],
+    ends: [&'static [u64]; 2],
+    bits: u32,
+    size: usize,
+}
 
 /// Boxes of two and three axes, some of whose blocks are not wholly in the box, with samples of 1, 2, 3, 4 and 8 bytes,
 /// and one whose blocks have more than sixteen rows.
-const OTHERS: [&[u8]; 5] = [
-    b"(version)\n6\n(box)\n0 6 0 4 1 3\n(fields)\na uint8\n(bits)\nV02101021\n(bitsperblock)\n4\n(blocksperfile)\n2\n(filename_template)\n./%02x.bin\n",
-    b"(version)\n6\n(box)\n2 9 3 5\n(fields)\na uint8[3]\n(bits)\nV0100101\n(bitsperblock)\n3\n(blocksperfile)\n2\n(filename_template)\n./%01x.bin\n",
-    b"(version)\n6\n(box)\n0 7 0 3 0 3\n(fields)\na float32\n(bits)\nV0012012\n(bitsperblock)\n5\n(blocksperfile)\n2\n(filename_template)\n./%01x.bin\n",
-    b"(version)\n6\n(box)\n0 2 0 39\n(fields)\na uint16\n(bits)\nV10110111\n(bitsperblock)\n7\n(blocksperfile)\n2\n(filename_template)\n./%01x.bin\n",
-    b"(version)\n6\n(box)\n3 12 1 6\n(fields)\na float64\n(bits)\nV1101000\n(bitsperblock)\n1\n(blocksperfile)\n2\n(filename_template)\n./%02x.bin\n",
+const CASES: [Case; 5] = [
+    Case {
+        mask: b"V02101021",
+        ends: [&[0, 0, 1], &[6, 4, 3]],
+        bits: 4,
+        size: 1,
+    },
+    Case {
+        mask: b"V0100101",
+        ends: [&[2, 3], &[9, 5]],
+        bits: 3,
+        size: 3,
+    },
+    Case {
+        mask: b"V0012012",
+        ends: [&[0, 0, 0], &[7, 3, 3]],
+        bits: 5,
+        size: 4,
+    },
+    Case {
+        mask: b"V10110111",
+        ends: [&[0, 0], &[2, 39]],
+        bits: 7,
+        size: 2,
+    },
+    Case {
+        mask: b"V1101000",
+        ends: [&[3, 1], &[12, 6]],
+        bits: 1,
+        size: 8,
+    },
 ];
 
-fn header_of(rt: &HostRuntime, text: &[u8]) -> Result<Header, Fail> {
-    Ok(Header::read(rt.alloc(), text).map_err(|_| "no header")?)
+fn region_of(rt: &impl Abort, ends: [&[u64]; 2]) -> Region {
+    let lo = Point::new(ends[0]).expect(rt, "a lower end");
+    let hi = Point::new(ends[1]).expect(rt, "an upper end");
+    Region::new(lo, hi).expect(rt, "a region")
 }
 
-/// Makes a block of field 0.
-fn fill(rt: &impl Abort, header: &Header, samples: &[u8], block: u64, into: &mut [u8]) {
-    assert!(rt; header.field_count() == 1);
-    assert!(rt; samples.len() as u64 == header.sample_bytes(0) * header.region().count());
-    assert!(rt; into.len() as u64 == header.block_bytes(0));
-    assert!(rt; block < header.block_count());
-    fill_block(header, 0, samples, block, into);
-}
-
-/// The same address by address.
-fn fill_plainly(rt: &impl Abort, header: &Header, samples: &[u8], block: u64, into: &mut [u8]) {
-    assert!(rt; header.field_count() == 1);
-    let (mask, region) = (header.mask(), header.region());
-    let size = header.sample_bytes(0);
-    assert!(rt; samples.len() as u64 == size * region.count());
-    assert!(rt; into.len() as u64 == header.block_bytes(0));
-    assert!(rt; block < header.block_count());
-    fill_by_addresses(
-        &mask,
-        &region,
-        header.bits_per_block(),
-        block,
-        size as usize,
-        samples,
-        into,
-    );
-}
-
-#[test]
-fn blocks_have_their_samples_in_hierarchical_order(rt: HostRuntime) -> Result<(), Fail> {
-    let table: [(&[u8], &[u8], [[u8; 4]; 4]); 3] = [
-        (
-            ALL,
-            &[0, 1, 2, 3, 4, 5, 6, 7, 8, 9, 10, 11, 12, 13, 14, 15],
-            [[0, 2, 8, 10], [1, 9, 3, 11], [4, 5, 12, 13], [6, 7, 14, 15]],
-        ),
-        (
-            NINE,
-            &[0, 1, 2, 3, 4, 5, 6, 7, 8],
-            [[0, 2, 6, 8], [1, 7, 0, 0], [3, 4, 0, 0], [5, 0, 0, 0]],
-        ),
-        (
-            MIDDLE,
-            &[10, 11, 12, 13],
-            [[0, 0, 0, 13], [0, 12, 0, 0], [0, 10, 0, 0], [11, 0, 0, 0]],
-        ),
-    ];
-    for (text, samples, blocks) in table {
-        let header = header_of(&rt, text)?;
-        for (block, wanted) in blocks.iter().enumerate() {
-            let mut into = [255; 4];
-            fill(&rt, &header, samples, block as u64, &mut into);
-            assert_eq!(rt; into, *wanted);
-        }
+/// Makes a block along lanes.
+fn along_lanes(
+    mask: &Mask,
+    region: &Region,
+    bits: u32,
+    block: u64,
+    size: usize,
+    samples: &[u8],
+    into: &mut [u8],
+)
+    requires mask { IsMask mask.now }
+    requires address { HasAddress mask.now (upper_ends region.now) }
+    requires bits { bits ≤ length mask.now }
+    requires few_bits { bits ≤ 20 }
+    requires exists { block < 2 ^ (length mask.now - bits) }
+    requires some { 1 ≤ size }
+    requires few { size ≤ 64 }
+    requires samples { length samples.now ≡ size * length (points region.now) }
+    requires room { length into.old ≡ size * 2 ^ bits }
+{
+    if block == 0 {
+        fill_first_block(mask, region, bits, size, samples, into);
+    } else {
+        fill_by_lanes(mask, region, bits, block, size, samples, into);
     }
-    Ok(())
+}
+
+/// Makes a block along lanes, and the same one address by address.
+fn fill(
+    rt: &impl Abort,
+    mask: &Mask,
+    region: &Region,
+    (bits, size): (u32, usize),
+    block: u64,
+    samples: &[u8],
+    lanes: &mut [u8],
+    plain: &mut [u8],
+) {
+    assert!(rt; mask.holds(region));
+    assert!(rt; bits <= mask.len());
+    assert!(rt; bits <= 20);
+    assert!(rt; block < 1 << (mask.len() - bits));
+    assert!(rt; 1 <= size);
+    assert!(rt; size <= 64);
+    assert!(rt; samples.len() as u64 == size as u64 * region.count());
+    assert!(rt; lanes.len() == size << bits);
+    assert!(rt; plain.len() == size << bits);
+    along_lanes(mask, region, bits, block, size, samples, lanes);
+    fill_by_addresses(mask, region, bits, block, size, samples, plain);
+}
+
+/// So many bytes, none of them 0.
+fn counted(alloc: Global, count: u64) -> Result<Vec<u8>, AllocError> {
+    (0..count).map(|n| (n % 251) as u8 + 1).collect(alloc)
 }
 
 #[test]
-fn lines_and_addresses_make_the_same_blocks(rt: HostRuntime) -> Result<(), Fail> {
-    for text in OTHERS {
-        let header = header_of(&rt, text)?;
-        assert!(rt; header.field_count() == 1);
-        let len = header.sample_bytes(0) * header.region().count();
-        let mut samples = vec![in rt.alloc(); 0; len as usize]?;
-        for (i, byte) in samples.iter_mut().enumerate() {
-            *byte = (i % 251) as u8 + 1;
-        }
-        for block in 0..header.block_count() {
-            let bytes = header.block_bytes(0) as usize;
-            let mut by_lines = vec![in rt.alloc(); 255; bytes]?;
-            let mut by_addresses = vec![in rt.alloc(); 255; bytes]?;
-            fill(&rt, &header, &samples, block, &mut by_lines);
-            fill_plainly(&rt, &header, &samples, block, &mut by_addresses);
-            assert_eq!(rt; by_lines.as_slice(), by_addresses.as_slice());
+fn lanes_and_addresses_make_the_same_blocks(rt: HostRuntime) -> Result<(), Fail> {
+    for case in &CASES {
+        let mask = Mask::parse(case.mask).expect(&rt, "a mask");
+        let region = region_of(&rt, case.ends);
+        let form = (case.bits, case.size);
+        let samples = counted(rt.alloc(), case.size as u64 * region.count())?;
+        assert!(rt; case.bits <= mask.len() && case.bits <= 20 && case.size <= 64);
+        for block in 0..1 << (mask.len() - case.bits) {
+            let mut lanes = vec![in rt.alloc(); 255; case.size << case.bits]?;
+            let mut plain = vec![in rt.alloc(); 255; case.size << case.bits]?;
+            fill(
+                &rt, &mask, &region, form, block, &samples, &mut lanes, &mut plain,
+            );
+            assert_eq!(rt; lanes, plain);
         }
     }
     Ok(())

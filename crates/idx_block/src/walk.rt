@@ -1,16 +1,14 @@
-ghost use Rattle.std.specs.Prelude.{◌≡◌, ℕ, ◌<◌, ◌≤◌, All, List};
-ghost use Rattle.idx_block.specs.Copies.{AreMade, EachCopy, HasCoordinate, IsWanted, IsWithin};
-ghost use Rattle.idx_block.specs.Spread.{next_part};
+ghost use Rattle.std.specs.Prelude.{ℕ, ◌<◌, ◌≤◌, All, List};
+ghost use Rattle.idx_lanes.specs.Copies.{AreMade, EachCopy, HasCoordinate, IsWanted, IsWithin};
 
-use crate::line::Line;
 use crate::rows::{row, rows};
-use idx_stride::Sample;
+use idx_lanes::{Lane, Sample, next_part};
 
-/// Copies the samples along these lines, the slowest first, into a block. The first one begins at byte `from` of the raw
-/// samples, and goes to the place `place` with what each line's first coordinate gives to it.
+/// Copies the samples along these lanes, the slowest first, into a block. The first one begins at byte `from` of the raw
+/// samples, and goes to the place `place` with what each lane's first coordinate gives to it.
 pub(crate) fn walk<S: Sample>(
     sample: S,
-    lines: &[Line],
+    lanes: &[Lane],
     samples: &[u8],
     from: usize,
     into: &mut [u8],
@@ -18,15 +16,15 @@ pub(crate) fn walk<S: Sample>(
 )
     requires some { 0 < S.bytes sample }
     requires few { S.bytes sample ≤ 64 }
-    requires lines { All HasCoordinate lines.now }
-    requires within { EachCopy (IsWithin (S.bytes sample) samples.now into.old) lines.now from place }
-    ensures { (want : ℕ → List ℕ) → EachCopy (IsWanted want (S.bytes sample) samples.now) lines.now from place →
-        AreMade want (S.bytes sample) lines.now from place into.old into.new }
+    requires lanes { All HasCoordinate lanes.now }
+    requires within { EachCopy (IsWithin (S.bytes sample) samples.now into.old) lanes.now from place }
+    ensures { (want : ℕ → List ℕ) → EachCopy (IsWanted want (S.bytes sample) samples.now) lanes.now from place →
+        AreMade want (S.bytes sample) lanes.now from place into.old into.new }
 {
-    match lines {
+    match lanes {
         [] => sample.copy(samples, from, into, place * sample.bytes()),
-        [line] => row(sample, line, samples, from, into, place),
-        [slower, line] => rows(sample, slower, line, samples, from, into, place),
+        [lane] => row(sample, lane, samples, from, into, place),
+        [slower, lane] => rows(sample, slower, lane, samples, from, into, place),
         [slowest, faster @ ..] => {
             let mut part = slowest.first;
             for k in 0..slowest.count {
@@ -42,12 +40,4 @@ pub(crate) fn walk<S: Sample>(
             }
         }
     }
-}
-
-/// The next number whose bits are all among the given ones; behind the greatest one comes 0.
-#[inline(always)]
-pub fn next_part(bits: usize, part: usize) -> usize
-    ensures { result ≡ next_part bits part }
-{
-    part.wrapping_sub(bits) & bits
 }

@@ -8,13 +8,13 @@ use Rattle.std.proofs.lemmas.List.{drop-drop, drop-take}
 use Rattle.std.proofs.lemmas.Nat.{div-add-mod', div-mul-add, pow_pos}
 use Rattle.std.proofs.Math.Nat.{div-eq_of_lt, mod-lt, mul-le-mul_right}
 use Rattle.std.proofs.Math.Seq.{take-length, take-take}
-use Rattle.idx_stride.specs.Written.{written}
+use Rattle.idx_lanes.specs.Written.{written}
 use Rattle.std.specs.List.{slice_get}
 use Rattle.idx_geom.specs.Region.{LiesIn, place_of}
 use Rattle.idx_hz.specs.Answer.{has_level}
 use Rattle.idx_hz.specs.Address.{hz_address}
-use Rattle.idx_block.proofs.CopyLemmas.{kept-written, placed-written}
-use Rattle.idx_block.proofs.FirstLemmas.{double}
+use Rattle.idx_lanes.proofs.CopyLemmas.{kept-written, placed-written}
+use Rattle.idx_lanes.proofs.LevelLemmas.{double}
 use Rattle.idx_scatter.specs.Asked.{Asked, asked_before, asked_points}
 use Rattle.idx_scatter.proofs.AskedLemmas.{asked-from}
 use Rattle.idx_scatter.specs.Scatter.{AreFirstScattered, IsScattered, is_in_block, put_of_block, put_of_first, sample_of}

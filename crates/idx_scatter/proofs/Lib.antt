@@ -4,5 +4,5 @@ pub mod MoveLemmas
 pub mod AskedLemmas
 pub mod PointLemmas
 pub mod LevelLemmas
-pub mod PlanLemmas
+pub mod LanesLemmas
 pub mod PaceLemmas

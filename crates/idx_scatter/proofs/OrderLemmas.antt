@@ -5,7 +5,7 @@ use Rattle.std.specs.Prelude.{All}
 use Rattle.std.proofs.lemmas.Bool.{cases_lt}
 use Rattle.std.proofs.lemmas.Bool.Decides.{nat_tests}
 use Rattle.std.specs.Int.Count.{count_trailing_zeros}
-use Rattle.idx_walk.specs.Progression.{on}
+use Rattle.idx_lanes.specs.Axis.{on}
 use Rattle.idx_hz.proofs.ShiftLemmas.{count_trailing_zeros-in_word}
 use Rattle.std.proofs.lemmas.List.Elements.{All-cons, All-nil, All-take}
 use Rattle.std.proofs.Math.Nat.{pow-le-pow_right}

@@ -18,7 +18,8 @@ use Rattle.idx_geom.proofs.PointsLemmas.{length-points, size, slice_get-points}
 use Rattle.idx_layout.proofs.ListLemmas.{count-le}
 use Rattle.idx_walk.proofs.GridLemmas.{multiples}
 use Rattle.idx_walk.proofs.ListLemmas.{filter-map, map-filter_and}
-use Rattle.idx_walk.specs.Progression.{count_of, on}
+use Rattle.idx_lanes.specs.Axis.{on}
+use Rattle.idx_walk.specs.Progression.{count_of}
 use Rattle.idx_scatter.specs.declared.side.Earlier.{Earlier}
 use Rattle.idx_scatter.specs.declared.side.Side.{Side}
 use Rattle.idx_scatter.specs.Sides.{AreSides, IsBefore, IsSane, IsSide, count_before, in_row, multiples_in}

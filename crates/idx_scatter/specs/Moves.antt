@@ -1,11 +1,11 @@
--- Moves of samples along lines, each from a place of a block to the place of its point in the answer. The lines are those
+-- Moves of samples along lanes, each from a place of a block to the place of its point in the answer. The lanes are those
 -- of the copies the other way round: they give the places of the points in the region, and the legs those in the answer.
 use Rattle.std.specs.Prelude.{◌≡◌, ℕ, ◌+◌, ◌*◌, ◌^◌, ◌<◌, ◌≤◌, List, length}
 use Rattle.idx_geom.specs.Region.{points}
-use Rattle.idx_block.specs.Copies.{IsRight}
-use Rattle.idx_block.specs.Plan.{AreNumbers, byte_at}
-use Rattle.idx_block.specs.declared.ask.Ask.{Ask}
-use Rattle.idx_block.specs.declared.line.Line.{Line}
+use Rattle.idx_lanes.specs.Copies.{IsRight}
+use Rattle.idx_lanes.specs.Lanes.{AreNumbers, byte_at}
+use Rattle.idx_lanes.specs.declared.block_part.BlockPart.{BlockPart}
+use Rattle.idx_lanes.specs.declared.lane.Lane.{Lane}
 use Rattle.idx_scatter.specs.Asked.{Asked, asked_before}
 use Rattle.idx_scatter.specs.Legs.{EachMove, place_by}
 use Rattle.idx_scatter.specs.Scatter.{sample_of}
@@ -47,12 +47,12 @@ pub record AreApart (want : ℕ → List ℕ) (size count first more : ℕ) (old
 abbrev pub IsWanted : (ℕ → List ℕ) → ℕ → List ℕ → ℕ → Tally → Type 0
 IsWanted want size samples place tally = sample_of size samples place ≡ want (place_by tally)
 
--- the moves along these lines make the places right that they go to, and what was right stays so
-pub record AreMoved (want : ℕ → List ℕ) (size : ℕ) (legs : List Leg) (lines : List Line) (place : ℕ) (rows : Tally) (old new : List ℕ) : Type 0 where
+-- the moves along these lanes make the places right that they go to, and what was right stays so
+pub record AreMoved (want : ℕ → List ℕ) (size : ℕ) (legs : List Leg) (lanes : List Lane) (place : ℕ) (rows : Tally) (old new : List ℕ) : Type 0 where
   pub kept : (o : ℕ) → IsRight want size old o → IsRight want size new o
-  pub placed : EachMove (λ place tally. IsRight want size new (place_by tally)) legs lines place rows
+  pub placed : EachMove (λ place tally. IsRight want size new (place_by tally)) legs lanes place rows
 
 -- the same by the numbers of the coordinates on each axis
-pub record AreMovedBy (a : Asked) (want : ℕ → List ℕ) (size : ℕ) (ask : Ask) (axes : ℕ) (old new : List ℕ) : Type 0 where
+pub record AreMovedBy (a : Asked) (want : ℕ → List ℕ) (size : ℕ) (part : BlockPart) (axes : ℕ) (old new : List ℕ) : Type 0 where
   pub kept : (o : ℕ) → IsRight want size old o → IsRight want size new o
-  pub placed : (ks : ℕ → ℕ) → AreNumbers ask axes ks → IsPut a want size new (byte_at ask axes ks)
+  pub placed : (ks : ℕ → ℕ) → AreNumbers part axes ks → IsPut a want size new (byte_at part axes ks)

@@ -1,6 +1,6 @@
 -- The axes of a region with a stride on each: how many of the points whose coordinates are multiples come before a place.
 use Rattle.std.specs.Prelude.{◌≡◌, ℕ, Bool, ◌+◌, ◌-◌, ◌*◌, ◌/◌, ◌%◌, ◌^◌, ◌≤◌, ◌==◌, false, if◌then◌else◌, List, [], ◌∷◌, length, filter, take}
-use Rattle.idx_walk.specs.Progression.{on}
+use Rattle.idx_lanes.specs.Axis.{on}
 use Rattle.idx_geom.specs.Region.{extent, points, point_of}
 use Rattle.idx_scatter.specs.declared.side.Earlier.{Earlier}
 use Rattle.idx_scatter.specs.declared.side.Side.{Side}

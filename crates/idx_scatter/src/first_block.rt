@@ -4,7 +4,7 @@ ghost use Rattle.idx_hz.specs.Mask.{HasAddress, IsMask};
 ghost use Rattle.idx_scatter.specs.Asked.{asked_points};
 ghost use Rattle.idx_scatter.specs.Scatter.{AreFirstScattered};
 
-use crate::by_lines::scatter_by_lines;
+use crate::by_lanes::scatter_by_lanes;
 use crate::order::Order;
 
 /// Puts the samples of block 0, of 2^`bits` addresses, to the places of their points in the answer. It has the sample
@@ -30,7 +30,7 @@ pub(crate) fn scatter_first_block(
     put_first(order, &samples[..size], into);
     let mut put = size;
     for level in 0..bits {
-        scatter_by_lines(order, level, 1, size, &samples[put..2 * put], into);
+        scatter_by_lanes(order, level, 1, size, &samples[put..2 * put], into);
         put *= 2;
     }
 }

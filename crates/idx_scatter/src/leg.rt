@@ -4,7 +4,7 @@ ghost use Rattle.idx_scatter.specs.Legs.{Fits, later, place_by, tally_at};
 use crate::side::{NO_SIDE, Side, before_in_row};
 use crate::tally::Tally;
 
-/// The coordinates of a line along an axis of a region, and what they count for the place in the answer. The first one is
+/// The coordinates of a lane along an axis of a region, and what they count for the place in the answer. The first one is
 /// `here`, counted from the lower end, and each other one lies `step` behind the one before.
 #[derive(Clone, Copy)]
 pub(crate) struct Leg {

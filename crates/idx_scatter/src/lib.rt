@@ -1,7 +1,7 @@
 //! The samples of a block, put to the places of their points in an answer: the other way round than blocks are made.
 #![tactic(auto)]
 
-mod by_lines;
+mod by_lanes;
 mod first_block;
 mod leg;
 mod order;

@@ -2,7 +2,7 @@ ghost use Rattle.std.specs.Prelude.{◌≡◌, ℕ, suc, ◌+◌, ◌-◌, ◌^�
 ghost use Rattle.std.specs.List.{slice_index_or};
 ghost use Rattle.idx_geom.specs.Region.{HoldsAll, IsRegion, points};
 ghost use Rattle.idx_grid.specs.LevelGrid.{IsGridAt};
-ghost use Rattle.idx_block.specs.Plan.{box_on, start_on, step_on};
+ghost use Rattle.idx_lanes.specs.Lanes.{box_on, start_on, step_on};
 ghost use Rattle.idx_hz.specs.Mask.{NamesAxes};
 ghost use Rattle.idx_hz.specs.Stride.{stride};
 ghost use Rattle.idx_scatter.specs.Asked.{asked_before, asked_points};
@@ -12,11 +12,10 @@ ghost use Rattle.idx_scatter.specs.Legs.{IsLeg, IsOrdered, no_leg, start_of};
 use crate::leg::{Leg, NO_LEG};
 use crate::side::{Earlier, NO_SIDE, Side, before, up_to};
 use crate::tally::Tally;
-use idx_block::ask::Ask;
-use idx_block::plan::first_from;
 use idx_geom::{MAX_AXES, Region};
 use idx_grid::{Grid, grid_up_to};
 use idx_hz::Mask;
+use idx_lanes::{BlockPart, bounds, first_from};
 use std::marker::Model;
 
 /// The order of the points of a region whose level is `lo` to `hi`, both among them: row-major, axis 0 fastest. They are
@@ -132,20 +131,20 @@ impl Order {
         }
     }
 
-    /// The legs of the lines along which a block's points lie, axis 0 first.
-    pub(crate) fn legs(&self, ask: &Ask, grid: &Grid) -> [Leg; MAX_AXES]
-        requires region { ask.now.region ≡ self.now.region }
-        requires digits { ask.now.bits + ask.now.k < length ask.now.mask }
-        requires inside { HoldsAll ask.now.region ask.now.common }
-        requires grid { IsGridAt ask.now.mask (length ask.now.region) (suc (ask.now.bits + ask.now.k)) grid.now }
-        ensures legs { (axis : ℕ) → axis < length ask.now.region →
-            IsLeg self.now ask.now axis (slice_index_or result axis no_leg) }
+    /// The legs of the lanes along which a block's points lie, axis 0 first.
+    pub(crate) fn legs(&self, part: &BlockPart, grid: &Grid) -> [Leg; MAX_AXES]
+        requires region { part.now.region ≡ self.now.region }
+        requires digits { part.now.bits + part.now.k < length part.now.mask }
+        requires inside { HoldsAll part.now.region part.now.common }
+        requires grid { IsGridAt part.now.mask (length part.now.region) (suc (part.now.bits + part.now.k)) grid.now }
+        ensures legs { (axis : ℕ) → axis < length part.now.region →
+            IsLeg self.now part.now axis (slice_index_or result axis no_leg) }
         ensures valid { IsOrdered self.now }
-        ensures common { IsRegion ask.now.common }
+        ensures common { IsRegion part.now.common }
     {
         let mut legs = [NO_LEG; MAX_AXES];
-        for axis in 0..ask.common.axes() {
-            let (here, step) = leg_start(ask, grid, axis);
+        for axis in 0..part.common.axes() {
+            let (here, step) = leg_start(part, grid, axis);
             legs[axis as usize] = Leg {
                 fine: self.fine[axis as usize],
                 coarse: self.coarse[axis as usize],
@@ -157,20 +156,20 @@ impl Order {
     }
 }
 
-/// The first coordinate of the line of an axis, counted from the region's lower end, and how far its coordinates lie
+/// The first coordinate of the lane of an axis, counted from the region's lower end, and how far its coordinates lie
 /// apart.
-fn leg_start(ask: &Ask, grid: &Grid, axis: u32) -> (u64, u64)
-    requires digits { ask.now.bits + ask.now.k < length ask.now.mask }
-    requires axis { axis < length ask.now.common }
-    requires valid { IsRegion ask.now.common }
-    requires inside { HoldsAll ask.now.region ask.now.common }
-    requires grid { IsGridAt ask.now.mask (length ask.now.region) (suc (ask.now.bits + ask.now.k)) grid.now }
-    ensures here { result.0 ≡ start_on ask.now axis - (box_on ask.now axis).0 }
-    ensures step { result.1 ≡ step_on ask.now axis }
+fn leg_start(part: &BlockPart, grid: &Grid, axis: u32) -> (u64, u64)
+    requires digits { part.now.bits + part.now.k < length part.now.mask }
+    requires axis { axis < length part.now.common }
+    requires valid { IsRegion part.now.common }
+    requires inside { HoldsAll part.now.region part.now.common }
+    requires grid { IsGridAt part.now.mask (length part.now.region) (suc (part.now.bits + part.now.k)) grid.now }
+    ensures here { result.0 ≡ start_on part.now axis - (box_on part.now axis).0 }
+    ensures step { result.1 ≡ step_on part.now axis }
 {
     let step = grid.step.get(axis);
-    let start = first_from(ask.common.lo().get(axis), grid.first.get(axis), step);
-    (start - ask.region.lo().get(axis), step)
+    let start = first_from(part.common.lo().get(axis), grid.first.get(axis), step);
+    (start - part.region.lo().get(axis), step)
 }
 
 /// The sides of a region with the strides of a level.
@@ -206,15 +205,4 @@ fn side_of(region: &Region, axis: u32, stride: u64) -> Side
         shift: stride.trailing_zeros(),
         below,
     }
-}
-
-/// The inclusive bounds along an axis.
-fn bounds(region: &Region, axis: u32) -> (u64, u64)
-    requires axis { axis < length region.now }
-    requires valid { IsRegion region.now }
-    ensures value { result ≡ slice_index_or region.now axis (0, 0) }
-    ensures ordered { result.0 ≤ result.1 }
-    ensures small { result.1 ≤ 2 ^ 40 }
-{
-    (region.lo().get(axis), region.hi().get(axis))
 }

@@ -4,7 +4,7 @@ ghost use Rattle.idx_hz.specs.Mask.{HasAddress, IsMask};
 ghost use Rattle.idx_scatter.specs.Asked.{asked_points};
 ghost use Rattle.idx_scatter.specs.Scatter.{IsScattered};
 
-use crate::by_lines::scatter_by_lines;
+use crate::by_lanes::scatter_by_lanes;
 use crate::first_block::scatter_first_block;
 use crate::order::Order;
 
@@ -34,6 +34,6 @@ pub fn scatter_block(
     if block == 0 {
         scatter_first_block(order, bits, size, samples, into);
     } else {
-        scatter_by_lines(order, bits, block, size, samples, into);
+        scatter_by_lanes(order, bits, block, size, samples, into);
     }
 }

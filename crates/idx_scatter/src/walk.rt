@@ -1,24 +1,22 @@
 ghost use Rattle.std.specs.Prelude.{◌≡◌, ℕ, ◌+◌, ◌*◌, ◌<◌, ◌≤◌, All, List, [], ◌∷◌, length};
-ghost use Rattle.idx_block.specs.Copies.{HasCoordinate};
-ghost use Rattle.idx_block.specs.Spread.{part_after};
+ghost use Rattle.idx_lanes.specs.Copies.{HasCoordinate};
+ghost use Rattle.idx_lanes.specs.Spread.{part_after};
 ghost use Rattle.idx_scatter.specs.Legs.{AllFit, EachMove, leg_of, place_by, tally_at};
 ghost use Rattle.idx_scatter.specs.Scatter.{sample_of};
 ghost use Rattle.idx_scatter.specs.Moves.{AreApart, AreMoved, IsRoom, IsSpot, IsWanted};
 
 use crate::leg::Leg;
 use crate::tally::Tally;
-use idx_block::line::Line;
-use idx_block::next_part;
 use idx_geom::MAX_AXES;
-use idx_stride::Sample;
+use idx_lanes::{Lane, Sample, next_part};
 
-/// Moves the samples along these lines, the slowest first, out of a block. The first one comes from the place `place`
-/// with what each line's first coordinate gives to it. The legs, axis 0 first, and what comes before the row of the lines
+/// Moves the samples along these lanes, the slowest first, out of a block. The first one comes from the place `place`
+/// with what each lane's first coordinate gives to it. The legs, axis 0 first, and what comes before the row of the lanes
 /// say where the samples go.
 pub(crate) fn walk<S: Sample>(
     sample: S,
     legs: &[Leg; MAX_AXES],
-    lines: &[Line],
+    lanes: &[Lane],
     samples: &[u8],
     place: usize,
     into: &mut [u8],
@@ -26,18 +24,18 @@ pub(crate) fn walk<S: Sample>(
 )
     requires some { 0 < S.bytes sample }
     requires few { S.bytes sample ≤ 64 }
-    requires axes { length lines.now ≤ 5 }
-    requires lines { All HasCoordinate lines.now }
-    requires fits { AllFit legs.now lines.now rows.now }
-    requires within { EachMove (IsRoom (S.bytes sample) samples.now into.old) legs.now lines.now place rows.now }
+    requires axes { length lanes.now ≤ 5 }
+    requires lanes { All HasCoordinate lanes.now }
+    requires fits { AllFit legs.now lanes.now rows.now }
+    requires within { EachMove (IsRoom (S.bytes sample) samples.now into.old) legs.now lanes.now place rows.now }
     ensures { (want : ℕ → List ℕ) →
-        EachMove (IsWanted want (S.bytes sample) samples.now) legs.now lines.now place rows.now →
-        AreMoved want (S.bytes sample) legs.now lines.now place rows.now into.old into.new }
+        EachMove (IsWanted want (S.bytes sample) samples.now) legs.now lanes.now place rows.now →
+        AreMoved want (S.bytes sample) legs.now lanes.now place rows.now into.old into.new }
 {
-    match lines {
+    match lanes {
         [] => move_sample(sample, legs, samples, place, into, rows),
-        [line] => row(sample, legs, line, samples, place, into, rows),
-        [slower, line] => plane(sample, legs, slower, line, samples, place, into, rows),
+        [lane] => row(sample, legs, lane, samples, place, into, rows),
+        [slower, lane] => plane(sample, legs, slower, lane, samples, place, into, rows),
         [slowest, faster @ ..] => {
             let leg = &legs[faster.len()];
             let mut part = slowest.first;
@@ -50,12 +48,12 @@ pub(crate) fn walk<S: Sample>(
     }
 }
 
-/// Moves the samples along two lines, those of the axes 1 and 0.
+/// Moves the samples along two lanes, those of the axes 1 and 0.
 fn plane<S: Sample>(
     sample: S,
     legs: &[Leg; MAX_AXES],
-    slower: &Line,
-    line: &Line,
+    slower: &Lane,
+    lane: &Lane,
     samples: &[u8],
     place: usize,
     into: &mut [u8],
@@ -64,30 +62,30 @@ fn plane<S: Sample>(
     requires some { 0 < S.bytes sample }
     requires few { S.bytes sample ≤ 64 }
     requires slower { HasCoordinate slower.now }
-    requires counted { HasCoordinate line.now }
-    requires fits { AllFit legs.now (slower.now ∷ line.now ∷ []) rows.now }
-    requires within { EachMove (IsRoom (S.bytes sample) samples.now into.old) legs.now (slower.now ∷ line.now ∷ [])
+    requires counted { HasCoordinate lane.now }
+    requires fits { AllFit legs.now (slower.now ∷ lane.now ∷ []) rows.now }
+    requires within { EachMove (IsRoom (S.bytes sample) samples.now into.old) legs.now (slower.now ∷ lane.now ∷ [])
         place rows.now }
     ensures { (want : ℕ → List ℕ) →
-        EachMove (IsWanted want (S.bytes sample) samples.now) legs.now (slower.now ∷ line.now ∷ []) place rows.now →
-        AreMoved want (S.bytes sample) legs.now (slower.now ∷ line.now ∷ []) place rows.now into.old into.new }
+        EachMove (IsWanted want (S.bytes sample) samples.now) legs.now (slower.now ∷ lane.now ∷ []) place rows.now →
+        AreMoved want (S.bytes sample) legs.now (slower.now ∷ lane.now ∷ []) place rows.now into.old into.new }
 {
     match legs[1].paces(&legs[0], rows) {
         Some((across, along)) => even_plane(
-            sample, legs, slower, line, samples, place, into, rows, across, along,
+            sample, legs, slower, lane, samples, place, into, rows, across, along,
         ),
-        None => odd_plane(sample, legs, slower, line, samples, place, into, rows),
+        None => odd_plane(sample, legs, slower, lane, samples, place, into, rows),
     }
 }
 
-/// Moves the samples along two lines, where the rows lie `across` places apart in the answer, and the points of each
+/// Moves the samples along two lanes, where the rows lie `across` places apart in the answer, and the points of each
 /// row `along`.
 #[inline(always)]
 fn even_plane<S: Sample>(
     sample: S,
     legs: &[Leg; MAX_AXES],
-    slower: &Line,
-    line: &Line,
+    slower: &Lane,
+    lane: &Lane,
     samples: &[u8],
     place: usize,
     into: &mut [u8],
@@ -98,17 +96,17 @@ fn even_plane<S: Sample>(
     requires some { 0 < S.bytes sample }
     requires few { S.bytes sample ≤ 64 }
     requires slower { HasCoordinate slower.now }
-    requires counted { HasCoordinate line.now }
-    requires fits { AllFit legs.now (slower.now ∷ line.now ∷ []) rows.now }
-    requires within { EachMove (IsRoom (S.bytes sample) samples.now into.old) legs.now (slower.now ∷ line.now ∷ [])
+    requires counted { HasCoordinate lane.now }
+    requires fits { AllFit legs.now (slower.now ∷ lane.now ∷ []) rows.now }
+    requires within { EachMove (IsRoom (S.bytes sample) samples.now into.old) legs.now (slower.now ∷ lane.now ∷ [])
         place rows.now }
-    requires even { (j k : ℕ) → j < slower.now.count → k < line.now.count →
-        place_by (tally_at (leg_of legs.now []) (tally_at (leg_of legs.now (line.now ∷ [])) rows.now j) k) ≡
-        place_by (tally_at (leg_of legs.now []) (tally_at (leg_of legs.now (line.now ∷ [])) rows.now 0) 0) +
+    requires even { (j k : ℕ) → j < slower.now.count → k < lane.now.count →
+        place_by (tally_at (leg_of legs.now []) (tally_at (leg_of legs.now (lane.now ∷ [])) rows.now j) k) ≡
+        place_by (tally_at (leg_of legs.now []) (tally_at (leg_of legs.now (lane.now ∷ [])) rows.now 0) 0) +
         j * across + k * along }
     ensures { (want : ℕ → List ℕ) →
-        EachMove (IsWanted want (S.bytes sample) samples.now) legs.now (slower.now ∷ line.now ∷ []) place rows.now →
-        AreMoved want (S.bytes sample) legs.now (slower.now ∷ line.now ∷ []) place rows.now into.old into.new }
+        EachMove (IsWanted want (S.bytes sample) samples.now) legs.now (slower.now ∷ lane.now ∷ []) place rows.now →
+        AreMoved want (S.bytes sample) legs.now (slower.now ∷ lane.now ∷ []) place rows.now into.old into.new }
 {
     let first = legs[0].at(&legs[1].at(rows, 0), 0).place();
     let bits = slower.bits;
@@ -116,7 +114,7 @@ fn even_plane<S: Sample>(
     for j in 0..slower.count {
         even_row(
             sample,
-            line,
+            lane,
             samples,
             place + part,
             into,
@@ -127,12 +125,12 @@ fn even_plane<S: Sample>(
     }
 }
 
-/// Moves the samples along two lines, row by row.
+/// Moves the samples along two lanes, row by row.
 fn odd_plane<S: Sample>(
     sample: S,
     legs: &[Leg; MAX_AXES],
-    slower: &Line,
-    line: &Line,
+    slower: &Lane,
+    lane: &Lane,
     samples: &[u8],
     place: usize,
     into: &mut [u8],
@@ -140,29 +138,29 @@ fn odd_plane<S: Sample>(
 )
     requires some { 0 < S.bytes sample }
     requires few { S.bytes sample ≤ 64 }
-    requires counted { HasCoordinate line.now }
-    requires fits { AllFit legs.now (slower.now ∷ line.now ∷ []) rows.now }
-    requires within { EachMove (IsRoom (S.bytes sample) samples.now into.old) legs.now (slower.now ∷ line.now ∷ [])
+    requires counted { HasCoordinate lane.now }
+    requires fits { AllFit legs.now (slower.now ∷ lane.now ∷ []) rows.now }
+    requires within { EachMove (IsRoom (S.bytes sample) samples.now into.old) legs.now (slower.now ∷ lane.now ∷ [])
         place rows.now }
     ensures { (want : ℕ → List ℕ) →
-        EachMove (IsWanted want (S.bytes sample) samples.now) legs.now (slower.now ∷ line.now ∷ []) place rows.now →
-        AreMoved want (S.bytes sample) legs.now (slower.now ∷ line.now ∷ []) place rows.now into.old into.new }
+        EachMove (IsWanted want (S.bytes sample) samples.now) legs.now (slower.now ∷ lane.now ∷ []) place rows.now →
+        AreMoved want (S.bytes sample) legs.now (slower.now ∷ lane.now ∷ []) place rows.now into.old into.new }
 {
     let leg = legs[1];
     let bits = slower.bits;
     let mut part = slower.first;
     for k in 0..slower.count {
         let tally = leg.at(rows, k);
-        row(sample, legs, line, samples, place + part, into, &tally);
+        row(sample, legs, lane, samples, place + part, into, &tally);
         part = next_part(bits, part);
     }
 }
 
-/// Moves the samples along one line, that of axis 0.
+/// Moves the samples along one lane, that of axis 0.
 fn row<S: Sample>(
     sample: S,
     legs: &[Leg; MAX_AXES],
-    line: &Line,
+    lane: &Lane,
     samples: &[u8],
     place: usize,
     into: &mut [u8],
@@ -170,27 +168,27 @@ fn row<S: Sample>(
 )
     requires some { 0 < S.bytes sample }
     requires few { S.bytes sample ≤ 64 }
-    requires counted { HasCoordinate line.now }
-    requires fits { AllFit legs.now (line.now ∷ []) rows.now }
-    requires within { EachMove (IsRoom (S.bytes sample) samples.now into.old) legs.now (line.now ∷ []) place rows.now }
+    requires counted { HasCoordinate lane.now }
+    requires fits { AllFit legs.now (lane.now ∷ []) rows.now }
+    requires within { EachMove (IsRoom (S.bytes sample) samples.now into.old) legs.now (lane.now ∷ []) place rows.now }
     ensures { (want : ℕ → List ℕ) →
-        EachMove (IsWanted want (S.bytes sample) samples.now) legs.now (line.now ∷ []) place rows.now →
-        AreMoved want (S.bytes sample) legs.now (line.now ∷ []) place rows.now into.old into.new }
+        EachMove (IsWanted want (S.bytes sample) samples.now) legs.now (lane.now ∷ []) place rows.now →
+        AreMoved want (S.bytes sample) legs.now (lane.now ∷ []) place rows.now into.old into.new }
 {
     match legs[0].more_each(rows) {
         Some(more) => {
             let first = legs[0].at(rows, 0).place();
-            even_row(sample, line, samples, place, into, first, more);
+            even_row(sample, lane, samples, place, into, first, more);
         }
-        None => odd_row(sample, legs, line, samples, place, into, rows),
+        None => odd_row(sample, legs, lane, samples, place, into, rows),
     }
 }
 
-/// Moves the samples along one line to the places from `first` on that lie `more` apart.
+/// Moves the samples along one lane to the places from `first` on that lie `more` apart.
 #[inline(always)]
 fn even_row<S: Sample>(
     sample: S,
-    line: &Line,
+    lane: &Lane,
     samples: &[u8],
     place: usize,
     into: &mut [u8],
@@ -199,18 +197,18 @@ fn even_row<S: Sample>(
 )
     requires some { 0 < S.bytes sample }
     requires few { S.bytes sample ≤ 64 }
-    requires within { (k : ℕ) → k < line.now.count → IsSpot (S.bytes sample) samples.now into.old
-        (place + part_after line.now.bits line.now.first k) (first + k * more) }
+    requires within { (k : ℕ) → k < lane.now.count → IsSpot (S.bytes sample) samples.now into.old
+        (place + part_after lane.now.bits lane.now.first k) (first + k * more) }
     ensures { (want : ℕ → List ℕ) →
-        ((k : ℕ) → k < line.now.count →
-        sample_of (S.bytes sample) samples.now (place + part_after line.now.bits line.now.first k) ≡
+        ((k : ℕ) → k < lane.now.count →
+        sample_of (S.bytes sample) samples.now (place + part_after lane.now.bits lane.now.first k) ≡
         want (first + k * more)) →
-        AreApart want (S.bytes sample) line.now.count first more into.old into.new }
+        AreApart want (S.bytes sample) lane.now.count first more into.old into.new }
 {
     let size = sample.bytes();
-    let bits = line.bits;
-    let mut part = line.first;
-    for k in 0..line.count {
+    let bits = lane.bits;
+    let mut part = lane.first;
+    for k in 0..lane.count {
         sample.copy(
             samples,
             (place + part) * size,
@@ -221,11 +219,11 @@ fn even_row<S: Sample>(
     }
 }
 
-/// Moves the samples along one line, whose places in the answer are found one by one.
+/// Moves the samples along one lane, whose places in the answer are found one by one.
 fn odd_row<S: Sample>(
     sample: S,
     legs: &[Leg; MAX_AXES],
-    line: &Line,
+    lane: &Lane,
     samples: &[u8],
     place: usize,
     into: &mut [u8],
@@ -233,16 +231,16 @@ fn odd_row<S: Sample>(
 )
     requires some { 0 < S.bytes sample }
     requires few { S.bytes sample ≤ 64 }
-    requires fits { AllFit legs.now (line.now ∷ []) rows.now }
-    requires within { EachMove (IsRoom (S.bytes sample) samples.now into.old) legs.now (line.now ∷ []) place rows.now }
+    requires fits { AllFit legs.now (lane.now ∷ []) rows.now }
+    requires within { EachMove (IsRoom (S.bytes sample) samples.now into.old) legs.now (lane.now ∷ []) place rows.now }
     ensures { (want : ℕ → List ℕ) →
-        EachMove (IsWanted want (S.bytes sample) samples.now) legs.now (line.now ∷ []) place rows.now →
-        AreMoved want (S.bytes sample) legs.now (line.now ∷ []) place rows.now into.old into.new }
+        EachMove (IsWanted want (S.bytes sample) samples.now) legs.now (lane.now ∷ []) place rows.now →
+        AreMoved want (S.bytes sample) legs.now (lane.now ∷ []) place rows.now into.old into.new }
 {
     let leg = legs[0];
-    let bits = line.bits;
-    let mut part = line.first;
-    for k in 0..line.count {
+    let bits = lane.bits;
+    let mut part = lane.first;
+    for k in 0..lane.count {
         let tally = leg.at(rows, k);
         move_sample(sample, legs, samples, place + part, into, &tally);
         part = next_part(bits, part);

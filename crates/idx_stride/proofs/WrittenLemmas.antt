@@ -2,7 +2,8 @@
 use Rattle.std.proofs.Common.{◌≡◌, ℕ, ◌+◌, ◌≤◌, List, [], ◌++◌, length, take, drop, sym, ap, ◌∙◌, arith, append_assoc, length-append, length-take-le, length-drop, take-append-drop, append-nil}
 use Rattle.std.proofs.lemmas.List.{drop-drop}
 use Rattle.std.proofs.Math.Seq.{take-append_seam, drop-append-add, drop-length}
-use Rattle.idx_stride.specs.Written.{written, WritesAt}
+use Rattle.idx_lanes.specs.Written.{written}
+use Rattle.idx_stride.specs.Written.{WritesAt}
 
 pub written-nil : (at : ℕ) (list : List ℕ) → written at [] list ≡ list
 written-nil at list = ap (λ n. take at list ++ drop n list) (omega arith) ∙ take-append-drop at list

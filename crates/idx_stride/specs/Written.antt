@@ -1,11 +1,8 @@
--- A list that is written over from a place on.
-use Rattle.std.specs.Prelude.{◌≡◌, ℕ, ◌+◌, Bool, List, ◌++◌, length, take, drop}
+-- The samples of a walk, written over a list from a place on.
+use Rattle.std.specs.Prelude.{◌≡◌, ℕ, ◌+◌, Bool, List, length}
+use Rattle.idx_lanes.specs.Written.{written}
 use Rattle.idx_stride.specs.declared.axis.Axis.{Axis}
 use Rattle.idx_stride.specs.Places.{offsets, samples_at}
-
--- the list with this piece written over it, from this place on
-abbrev pub written : ℕ → List ℕ → List ℕ → List ℕ
-written at piece list = take at list ++ (piece ++ drop (at + length piece) list)
 
 -- the piece was written at this place, and the next place is the one behind it
 pub record WritesAt (at next : ℕ) (piece old new : List ℕ) : Type 0 where

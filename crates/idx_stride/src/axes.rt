@@ -5,18 +5,8 @@ ghost use Rattle.idx_stride.specs.Compact.{IsPacked, is_wide, is_wide_or_coarse}
 ghost use Rattle.idx_stride.specs.Counts.{coarse_points, has_fine_coordinate};
 ghost use Rattle.idx_stride.specs.Strides.{IsAxis, grid_points, reach};
 
-use crate::Axis;
-
-/// A walk has at most so many axes.
-pub(crate) const MAX_AXES: usize = 5;
-
-/// An axis of one coordinate, which stands behind the axes of a walk.
-pub(crate) const NO_AXIS: Axis = Axis {
-    step: 0,
-    count: 1,
-    phase: 0,
-    ratio: 1,
-};
+use crate::{Axis, NO_AXIS};
+use idx_geom::MAX_AXES;
 
 /// The bytes from the first place to the last.
 pub(crate) fn reach(axes: &[Axis]) -> u64

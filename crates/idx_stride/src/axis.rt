@@ -18,6 +18,14 @@ pub struct Axis {
     pub ratio: u64,
 }
 
+/// An axis of one coordinate, which stands behind the axes of a walk.
+pub const NO_AXIS: Axis = Axis {
+    step: 0,
+    count: 1,
+    phase: 0,
+    ratio: 1,
+};
+
 impl Axis {
     /// Whether this coordinate lies on the coarser grid.
     pub(crate) fn is_coarse(&self, coordinate: u64) -> bool

@@ -5,7 +5,7 @@ ghost use Rattle.idx_stride.specs.Written.{WritesAt, gathered};
 use crate::Axis;
 use crate::axes::has_fine;
 use crate::row::row;
-use crate::sample::Sample;
+use idx_lanes::Sample;
 
 /// Copies the samples along these axes, of more than one coordinate each, from place `base` of the window on to place
 /// `at` of `out`. Where `coarse` is true the points that are coarse on all axes are left out. Answers the place behind

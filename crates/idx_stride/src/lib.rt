@@ -7,12 +7,10 @@ mod examples;
 mod gather;
 mod row;
 mod run;
-mod sample;
 mod strides;
 #[cfg(test)]
 mod tests;
 
-pub use axis::Axis;
+pub use axis::{Axis, NO_AXIS};
 pub use examples::{worked_offsets, worked_samples};
-pub use sample::{AnySize, Fixed, Sample};
 pub use strides::Strides;

@@ -4,7 +4,7 @@ ghost use Rattle.idx_stride.specs.Written.{WritesAt, gathered};
 
 use crate::Axis;
 use crate::run::run;
-use crate::sample::Sample;
+use idx_lanes::Sample;
 
 /// Copies the samples along one axis to place `at` of `out`, without the coarse ones where `coarse` is true. Answers
 /// the place behind them.

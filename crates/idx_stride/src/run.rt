@@ -1,8 +1,9 @@
 ghost use Rattle.std.specs.Prelude.{◌≡◌, ℕ, ◌+◌, ◌-◌, ◌*◌, ◌≤◌, ◌<◌, length};
+ghost use Rattle.idx_lanes.specs.Written.{written};
 ghost use Rattle.idx_stride.specs.Places.{samples_at, progression};
-ghost use Rattle.idx_stride.specs.Written.{written, WritesAt};
+ghost use Rattle.idx_stride.specs.Written.{WritesAt};
 
-use crate::sample::Sample;
+use idx_lanes::Sample;
 
 /// Copies so many samples, each `step` bytes behind the one before, to place `at` of `out`. Answers the place behind
 /// them.

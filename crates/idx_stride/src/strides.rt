@@ -5,10 +5,10 @@ ghost use Rattle.idx_stride.specs.Places.{progression, samples_at};
 ghost use Rattle.idx_stride.specs.Strides.{IsStrides, end_of, grid_points, offsets_of, reach};
 ghost use Rattle.idx_stride.specs.Written.{gathered};
 
-use crate::axes::MAX_AXES;
 use crate::gather::gather;
-use crate::sample::{AnySize, Fixed, Sample};
-use crate::{Axis, axes};
+use crate::{Axis, NO_AXIS, axes};
+use idx_geom::MAX_AXES;
+use idx_lanes::{Sample, by_size};
 use std::marker::Model;
 
 /// A walk over the samples of a grid of at most five axes in a row-major volume of bytes, axis 0 fastest.
@@ -44,7 +44,7 @@ impl Strides {
         requires { IsStrides (record { base = base; size = size; coarse = coarse; axes = axes.now }) }
         ensures { result ≡ record { base = base; size = size; coarse = coarse; axes = axes.now } }
     {
-        let mut stored = [axes::NO_AXIS; MAX_AXES];
+        let mut stored = [NO_AXIS; MAX_AXES];
         stored[..axes.len()].copy_from_slice(axes);
         Strides {
             base,
@@ -190,17 +190,7 @@ impl Strides {
         requires room { length out.old ≡ length (gathered self.now.size window.now base self.now.coarse self.now.axes) }
         ensures { out.new ≡ gathered self.now.size window.now base self.now.coarse self.now.axes }
     {
-        match self.size() {
-            1 => self.fill_by(Fixed::<1>, window, base, out),
-            2 => self.fill_by(Fixed::<2>, window, base, out),
-            4 => self.fill_by(Fixed::<4>, window, base, out),
-            8 => self.fill_by(Fixed::<8>, window, base, out),
-            16 => self.fill_by(Fixed::<16>, window, base, out),
-            size => {
-                let bytes = size as usize;
-                self.fill_by(AnySize { bytes }, window, base, out);
-            }
-        }
+        by_size!(self.size() as usize, sample => self.fill_by(sample, window, base, out));
     }
 
     /// The same by samples that are copied in this way.

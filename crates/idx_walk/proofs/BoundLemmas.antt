@@ -9,9 +9,11 @@ use Rattle.std.proofs.Math.Nat.{mul-le-mul_right, mul_assoc, mul_comm, div-mul-l
 use Rattle.idx_geom.specs.Region.{extent, LiesIn, lower_ends, upper_ends}
 use Rattle.idx_geom.proofs.PointsLemmas.{size}
 use Rattle.idx_stride.specs.Strides.{IsAxis, reach, grid_points}
-use Rattle.idx_walk.specs.Progression.{phase_of, count_of, step_of, axis_at}
+use Rattle.idx_lanes.specs.Axis.{step_of}
+use Rattle.idx_lanes.proofs.AxisLemmas.{times-step_of}
+use Rattle.idx_walk.specs.Progression.{phase_of, count_of, axis_at}
 use Rattle.idx_walk.proofs.GridLemmas.{first_multiple, progression, lattice}
-use Rattle.idx_walk.proofs.PlaceLemmas.{axes_of, start_of, times-step_of}
+use Rattle.idx_walk.proofs.PlaceLemmas.{axes_of, start_of}
 
 -- on each axis some multiple of the stride lies between the bounds
 abbrev pub HasMultiples : (ℕ → ℕ) → ℕ → List (ℕ × ℕ) → Type 0

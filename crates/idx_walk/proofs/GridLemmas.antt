@@ -1,5 +1,5 @@
 -- The points of a region whose coordinates are multiples of a stride on each axis.
-use Rattle.std.proofs.Common.{◌≡◌, ℕ, zero, suc, ◌+◌, ◌-◌, ◌*◌, ◌/◌, ◌%◌, ◌<◌, ◌≤◌, Bool, true, false, cond, ◌&&◌, eqb, List, [], ◌∷◌, map, filter, refl, sym, ap, ◌∙◌, inl, inr, arith}
+use Rattle.std.proofs.Common.{◌≡◌, ℕ, zero, suc, ◌+◌, ◌-◌, ◌*◌, ◌/◌, ◌%◌, ◌<◌, ◌≤◌, true, false, cond, eqb, List, [], ◌∷◌, map, filter, refl, sym, ap, ◌∙◌, inl, inr, arith}
 use Rattle.std.specs.List.{range_with_len, flat_map}
 use Rattle.std.proofs.lemmas.Bool.{eq-eqb, ne_eqb, cases_lt}
 use Rattle.std.proofs.lemmas.List.Elements.{All-head, All-tail}
@@ -7,7 +7,8 @@ use Rattle.std.proofs.lemmas.Nat.{div-add-mod', div-mul-add}
 use Rattle.std.proofs.Math.Nat.{mul-le-mul_right, div-eq_of_lt, add-mul-div_right, add-mul-mod_self_right, mod-lt, mul-mod_left}
 use Rattle.idx_geom.specs.Region.{points, extent}
 use Rattle.idx_geom.proofs.EndsLemmas.{IsOrdered}
-use Rattle.idx_walk.specs.Progression.{phase_of, count_of, on}
+use Rattle.idx_lanes.specs.Axis.{on}
+use Rattle.idx_walk.specs.Progression.{phase_of, count_of}
 use Rattle.idx_walk.proofs.ListLemmas.{filter-map, filter-flat_map, flat_map-agree, map-agree, flat_map-cond, map-filter_and}
 
 -- ---- one axis

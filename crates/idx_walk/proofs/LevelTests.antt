@@ -9,7 +9,7 @@ use Rattle.std.proofs.lemmas.List.{drop-drop}
 use Rattle.std.proofs.lemmas.Nat.{pow_pos, pow-add}
 use Rattle.std.proofs.Math.Bool.{and_comm}
 use Rattle.std.proofs.Math.Nat.{mul-div_cancel_left}
-use Rattle.idx_walk.specs.Progression.{on}
+use Rattle.idx_lanes.specs.Axis.{on}
 use Rattle.idx_hz.specs.Mask.{NamesAxes, bit_count}
 use Rattle.idx_hz.specs.Address.{level}
 use Rattle.idx_hz.specs.Answer.{has_level}
@@ -83,9 +83,6 @@ bit_count-drop axis i j mask le =
 -- how many strides of level hi the stride of level lo - 1 has
 abbrev pub ratio_of : List ℕ → ℕ → ℕ → ℕ → ℕ
 ratio_of mask lo hi axis = stride mask (lo - 1) axis / stride mask hi axis
-
-pub stride_pos : (mask : List ℕ) (h axis : ℕ) → 0 < stride mask h axis
-stride_pos mask h axis = pow_pos (bit_count axis (drop h mask))
 
 -- the stride of a coarser level is a multiple of that of a finer one
 ratio-power : (mask : List ℕ) (lo hi axis : ℕ) → lo ≤ hi → ratio_of mask lo hi axis ≡ 2 ^ (bit_count axis (drop (lo - 1) mask) - bit_count axis (drop hi mask))

@@ -1,8 +1,8 @@
 -- The places of the points on strides, axis by axis.
-use Rattle.std.proofs.Common.{◌≡◌, ℕ, ◌+◌, ◌-◌, ◌*◌, ◌/◌, ◌%◌, ◌<◌, ◌≤◌, Bool, true, ◌&&◌, eqb, List, [], ◌∷◌, map, filter, refl, sym, ap, ◌∙◌, inl, inr, arith}
+use Rattle.std.proofs.Common.{◌≡◌, ℕ, ◌+◌, ◌-◌, ◌*◌, ◌/◌, ◌%◌, ◌<◌, ◌≤◌, Bool, true, ◌&&◌, eqb, List, [], ◌∷◌, map, filter, sym, ap, ◌∙◌, inl, inr, arith}
 use Rattle.std.specs.Prelude.{not}
 use Rattle.std.specs.List.{range_with_len, flat_map}
-use Rattle.std.proofs.lemmas.Bool.{eqb-true, eq-eqb, cases_lt, lt-ltb}
+use Rattle.std.proofs.lemmas.Bool.{eqb-true, eq-eqb, cases_lt}
 use Rattle.std.proofs.lemmas.Bool.Decides.{same_from_decides}
 use Rattle.std.proofs.lemmas.List.Folds.{flat_map-map}
 use Rattle.std.proofs.lemmas.Nat.{div-add-mod', mod-mul-add}
@@ -13,7 +13,9 @@ use Rattle.idx_geom.specs.Region.{points, extent, place_of, LiesIn, lower_ends}
 use Rattle.idx_geom.proofs.EndsLemmas.{IsOrdered}
 use Rattle.idx_stride.specs.declared.axis.Axis.{Axis}
 use Rattle.idx_stride.specs.Places.{is_coarse, places, offsets}
-use Rattle.idx_walk.specs.Progression.{phase_of, step_of, axis_at, on}
+use Rattle.idx_lanes.specs.Axis.{on, step_of}
+use Rattle.idx_lanes.proofs.AxisLemmas.{times-step_of}
+use Rattle.idx_walk.specs.Progression.{phase_of, axis_at}
 use Rattle.idx_walk.proofs.ListLemmas.{filter-map, filter-filter, flat_map-agree, map-agree, map-range-agree, map-flat_map}
 use Rattle.idx_walk.proofs.GridLemmas.{progression, first_multiple, lattice, filter-on}
 
@@ -48,14 +50,6 @@ coarse-multiple s r n some paced =
       (λ t. turned ∙ ap (λ m. m * s) (eqb-true (n % r) 0 t) ∙ omega arith),
       (λ e. eq-eqb (n % r) 0 (zero_from_product (n % r) s some (sym turned ∙ e))),
     )
-
--- steps along an axis, each of so many strides; an axis of one point has none
-pub times-step_of : (weight s count k : ℕ) → k < count → k * step_of weight s count ≡ k * (s * weight)
-times-step_of weight s count k within =
-    elim (cases_lt 1 count) [
-      | inl more ↦ rw (lt-ltb 1 count more) refl
-      | inr one ↦ let none : k ≡ 0 = omega arith in rw none (omega arith)
-    ]
 
 -- the first point of an axis and k steps from there
 step_along : (base phase k s low weight width far : ℕ) → low ≤ phase * s → base + (phase * s - low) * weight + weight * width * far + k * (s * weight) ≡ base + weight * (((phase + k) * s - low) + width * far)

@@ -1,15 +1,15 @@
 -- One axis more of a walk.
-use Rattle.std.proofs.Common.{◌≡◌, ℕ, ◌+◌, ◌-◌, ◌*◌, ◌^◌, ◌<◌, ◌≤◌, List, [], ◌∷◌, ◌++◌, length, get_or, set, take, drop, refl, sym, ap, ◌∙◌, subst, arith, append_assoc, ltb}
+use Rattle.std.proofs.Common.{◌≡◌, ℕ, ◌+◌, ◌-◌, ◌*◌, ◌^◌, ◌<◌, ◌≤◌, List, [], ◌∷◌, ◌++◌, length, set, take, drop, refl, sym, ap, ◌∙◌, subst, arith, append_assoc, ltb}
 use Rattle.std.proofs.lemmas.List.{drop_more, drop_all, take_more_set, append-nil}
 use Rattle.std.proofs.Math.Nat.{mul-le-mul_left, mul-le-mul_right, mul_assoc, mul_comm}
-use Rattle.std.proofs.lemmas.List.{get_or-map, length-set}
-use Rattle.idx_geom.specs.Region.{extent, LiesIn, IsRegion, lower_ends, upper_ends}
-use Rattle.idx_geom.proofs.LiesInLemmas.{LiesIn-at_axis, axes_from_ends}
+use Rattle.std.proofs.lemmas.List.{length-set}
+use Rattle.idx_geom.specs.Region.{extent, IsRegion}
 use Rattle.idx_geom.proofs.PointsLemmas.{size, length-points}
 use Rattle.idx_geom.proofs.EndsLemmas.{size-positive}
 use Rattle.std.proofs.lemmas.List.Elements.{All-drop}
 use Rattle.std.proofs.lemmas.Nat.{mul-le}
 use Rattle.idx_stride.specs.declared.axis.Axis.{Axis}
+use Rattle.idx_lanes.proofs.BoundsLemmas.{AreBounds}
 use Rattle.idx_walk.specs.Progression.{phase_of, count_of, axis_at}
 use Rattle.idx_walk.proofs.GridLemmas.{first_multiple, lattice}
 use Rattle.idx_walk.proofs.PlaceLemmas.{axes_of, start_of}
@@ -39,34 +39,6 @@ IsMade-start s r bytes es bs axes room = record {
   counted = λ h. h;
   none = λ h. h;
 }
-
--- the bounds of the extent and of the region on one axis
-pub record AreBounds (es bs : List (ℕ × ℕ)) (k : ℕ) (e b : ℕ × ℕ) : Type 0 where
-  pub extent_axis : k < length es
-  pub region_axis : k < length bs
-  pub extent_bounds : e ≡ get_or es k (0, 0)
-  pub region_bounds : b ≡ get_or bs k (0, 0)
-  pub low : e.0 ≤ b.0
-  pub high : b.1 ≤ e.1
-  pub ordered : b.0 ≤ b.1
-
-pub AreBounds-at : (es bs : List (ℕ × ℕ)) (k : ℕ) (e b : ℕ × ℕ) → IsRegion bs → LiesIn es (lower_ends bs) → LiesIn es (upper_ends bs) → k < length bs → e ≡ get_or es k (0, 0) → b ≡ get_or bs k (0, 0) → AreBounds es bs k e b
-AreBounds-at es bs k e b region lower upper within at_e at_b =
-    let same : length es ≡ length bs = axes_from_ends es bs lower in
-    let inside : k < length es = omega arith in
-    let from : get_or (lower_ends bs) k 0 ≡ (get_or bs k (0, 0)).0 = get_or-map (λ c. c.0) bs k (0, 0) 0 within in
-    let to : get_or (upper_ends bs) k 0 ≡ (get_or bs k (0, 0)).1 = get_or-map (λ c. c.1) bs k (0, 0) 0 within in
-    let low = LiesIn-at_axis es (lower_ends bs) lower k inside in
-    let high = LiesIn-at_axis es (upper_ends bs) upper k inside in
-    record {
-      extent_axis = inside;
-      region_axis = within;
-      extent_bounds = at_e;
-      region_bounds = at_b;
-      low = subst (λ c. c.0 ≤ b.0) (sym at_e) (subst (λ c. (get_or es k (0, 0)).0 ≤ c.0) (sym at_b) (omega (arith, low.0)));
-      high = subst (λ c. b.1 ≤ c.1) (sym at_e) (subst (λ c. c.1 ≤ (get_or es k (0, 0)).1) (sym at_b) (omega (arith, high.1)));
-      ordered = subst (λ c. c.0 ≤ c.1) (sym at_b) (region.ordered k (0, 0) within);
-    }
 
 extent_rest : (es bs : List (ℕ × ℕ)) (k : ℕ) (e b : ℕ × ℕ) → AreBounds es bs k e b → drop k es ≡ e ∷ drop (k + 1) es
 extent_rest es bs k e b at = drop_more es k (0, 0) at.extent_axis ∙ ap (λ c. c ∷ drop (k + 1) es) (sym at.extent_bounds)

@@ -7,7 +7,8 @@ use Rattle.std.proofs.lemmas.List.Folds.{flat_map-map}
 use Rattle.std.proofs.lemmas.Option.{slice_get-get_or}
 use Rattle.std.proofs.lemmas.Nat.{mul-le}
 use Rattle.std.proofs.Math.Bool.{and_comm}
-use Rattle.idx_walk.specs.Progression.{on}
+use Rattle.idx_lanes.specs.Axis.{on}
+use Rattle.idx_lanes.proofs.AxisLemmas.{stride_pos}
 use Rattle.idx_geom.specs.Region.{points, place_of, LiesIn, IsRegion, lower_ends, upper_ends}
 use Rattle.idx_geom.specs.Volume.{samples_of, sample_at}
 use Rattle.idx_geom.proofs.LiesInLemmas.{length_from_LiesIn, axes_from_ends, HoldsAll-from_ends}
@@ -22,7 +23,7 @@ use Rattle.idx_walk.specs.Walk.{wanted_places, points_up_to}
 use Rattle.idx_walk.proofs.ListLemmas.{filter-filter, filter-agree_on, flat_map-agree_on}
 use Rattle.idx_walk.proofs.GridLemmas.{lattice, filter-on}
 use Rattle.idx_walk.proofs.PlaceLemmas.{axes_of, start_of, offsets-of_points}
-use Rattle.idx_walk.proofs.LevelTests.{on-agree, level-test, has_level-on, ratio_of, ratio_pos, stride_pos, stride-ratio}
+use Rattle.idx_walk.proofs.LevelTests.{on-agree, level-test, has_level-on, ratio_of, ratio_pos, stride-ratio}
 use Rattle.idx_walk.proofs.BoundLemmas.{HasMultiples, lattice-some, reach-le, grid_points-le, length-axes_of, All-axes_of}
 
 -- what is asked of a walk

@@ -1,5 +1,6 @@
 -- The multiples of a stride between two bounds, and the axis of a walk that they make.
-use Rattle.std.specs.Prelude.{ℕ, ◌+◌, ◌-◌, ◌*◌, ◌/◌, ◌%◌, Bool, true, ◌&&◌, eqb, nat_lt, List, [], ◌∷◌, if◌then◌else◌}
+use Rattle.std.specs.Prelude.{ℕ, ◌+◌, ◌-◌, ◌/◌}
+use Rattle.idx_lanes.specs.Axis.{step_of}
 use Rattle.idx_stride.specs.declared.axis.Axis.{Axis}
 
 -- how many strides the first multiple from a lower end on has
@@ -10,17 +11,8 @@ phase_of stride lo = (lo + stride - 1) / stride
 abbrev pub count_of : ℕ → ℕ × ℕ → ℕ
 count_of stride b = b.1 / stride + 1 - phase_of stride b.0
 
--- how many bytes lie from one of so many multiples to the next, where neighbouring coordinates lie `weight` bytes apart
-abbrev pub step_of : ℕ → ℕ → ℕ → ℕ
-step_of weight stride count = if nat_lt 1 count then stride * weight else 0
-
 -- the axis of the multiples between two bounds: each multiple whose number the ratio divides is coarse
 abbrev pub axis_at : ℕ → ℕ → ℕ → ℕ × ℕ → Axis
 axis_at weight stride ratio b =
     let count = count_of stride b in
     record { step = step_of weight stride count; count = count; phase = phase_of stride b.0; ratio = ratio }
-
--- each coordinate is a multiple of its axis's stride, the first axis having the number k
-abbrev pub on : (ℕ → ℕ) → ℕ → List ℕ → Bool
-on s k [] = true
-on s k (x ∷ xs) = on s (k + 1) xs && eqb (x % s k) 0

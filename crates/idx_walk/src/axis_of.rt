@@ -1,7 +1,8 @@
 ghost use Rattle.std.specs.Prelude.{◌≡◌, ◌-◌, ◌*◌, ◌^◌, ◌<◌, ◌≤◌};
 ghost use Rattle.std.specs.Option.{SomeIff};
-ghost use Rattle.idx_walk.specs.Progression.{axis_at, count_of, phase_of, step_of};
+ghost use Rattle.idx_walk.specs.Progression.{axis_at, count_of, phase_of};
 
+use idx_lanes::step_of;
 use idx_stride::Axis;
 
 /// The axis of the multiples of a stride between two bounds, both among them, where neighbouring coordinates lie
@@ -26,15 +27,6 @@ pub(crate) fn axis_of(bounds: (u64, u64), stride: u64, ratio: u64, weight: u64) 
         phase,
         ratio,
     })
-}
-
-/// How many bytes lie from one of so many multiples of a stride to the next, where neighbouring coordinates lie
-/// `weight` bytes apart: none where there is no next one.
-fn step_of(weight: u64, stride: u64, count: u64) -> u64
-    requires { 1 < count → stride * weight < 2 ^ 64 }
-    ensures { result ≡ step_of weight stride count }
-{
-    if count > 1 { stride * weight } else { 0 }
 }
 
 /// How many strides the first multiple from a lower end on has.

@@ -12,15 +12,8 @@ use crate::axis_of::axis_of;
 use idx_geom::{MAX_AXES, Region};
 use idx_grid::grid_up_to;
 use idx_hz::Mask;
-use idx_stride::{Axis, Strides};
-
-/// An axis of one coordinate.
-const NO_AXIS: Axis = Axis {
-    step: 0,
-    count: 1,
-    phase: 0,
-    ratio: 1,
-};
+use idx_lanes::bounds;
+use idx_stride::{NO_AXIS, Strides};
 
 /// The walk over the samples, in row-major order, of a region's points whose level is `lo` to `hi`, both among them.
 /// They lie in a raw volume that has one sample of `size` bytes for each point of `extent`, in row-major order, axis 0
@@ -70,12 +63,4 @@ pub fn walk(
         axes[axis as usize] = found;
     }
     Some(Strides::new(base, size, lo > 0, &axes[..region.axes() as usize]))
-}
-
-/// The inclusive bounds along an axis.
-fn bounds(region: &Region, axis: u32) -> (u64, u64)
-    requires { axis < length region.now }
-    ensures { result ≡ slice_index_or region.now axis (0, 0) }
-{
-    (region.lo().get(axis), region.hi().get(axis))
 }

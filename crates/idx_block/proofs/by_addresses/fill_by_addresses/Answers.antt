@@ -2,8 +2,8 @@ use Rattle.std.proofs.Common.{◌≡◌, ℕ, ◌+◌, ◌-◌, ◌*◌, ◌^◌
 use Rattle.std.specs.List.{flat_map, range_with_len}
 use Rattle.std.proofs.Math.Nat.{mul-le-mul_right, mul_comm}
 use Rattle.idx_block.specs.Stored.{stored}
-use Rattle.idx_block.proofs.StoredLemmas.{address-in_block}
-use Rattle.idx_block.proofs.CopyLemmas.{all-right, length-part, right-next}
+use Rattle.idx_lanes.proofs.LevelLemmas.{address-in_block}
+use Rattle.idx_lanes.proofs.CopyLemmas.{all-right, length-part, right-next}
 use Rattle.idx_block.proofs.by_addresses.fill_by_addresses.Goals as goal
 
 pub overflow_mul-address : goal.overflow_mul-address

@@ -1,6 +1,6 @@
 use Rattle.std.proofs.Common.{ℕ, ◌+◌, ◌*◌, ◌<◌}
 use Rattle.idx_block.specs.Stored.{stored}
-use Rattle.idx_block.specs.Copies.{IsRight}
+use Rattle.idx_lanes.specs.Copies.{IsRight}
 use Rattle.idx_block.proofs.by_addresses.fill_by_addresses.Given as goal
 
 -- the samples so far stand at their places

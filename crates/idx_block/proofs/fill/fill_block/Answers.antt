@@ -16,5 +16,5 @@ returns-then-block-eq0 c =
 
 pub returns-else-block-eq0 : goal.returns-else-block-eq0
 returns-else-block-eq0 c =
-    block-of_header c.args.header.now c.mask-mask.result c.region-region.result c.bits_per_block-bits.result (sample_bytes_of c.args.header.now c.args.field) c.sample_bytes-size.result c.args.samples.now c.args.block c.fill_by_lines.new.into
-    c.mask-mask.ensures.value c.region-region.ensures.value c.bits_per_block-bits.ensures.value c.sample_bytes-size.ensures.value c.fill_by_lines.ensures
+    block-of_header c.args.header.now c.mask-mask.result c.region-region.result c.bits_per_block-bits.result (sample_bytes_of c.args.header.now c.args.field) c.sample_bytes-size.result c.args.samples.now c.args.block c.fill_by_lanes.new.into
+    c.mask-mask.ensures.value c.region-region.ensures.value c.bits_per_block-bits.ensures.value c.sample_bytes-size.ensures.value c.fill_by_lanes.ensures

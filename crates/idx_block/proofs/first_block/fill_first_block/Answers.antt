@@ -4,8 +4,9 @@ use Rattle.std.proofs.lemmas.List.{length-take-le}
 use Rattle.std.proofs.Math.Nat.{mul-le-mul_left}
 use Rattle.std.proofs.lemmas.Nat.{pow_pos}
 use Rattle.idx_block.specs.Stored.{stored}
-use Rattle.idx_block.proofs.CopyLemmas.{length-part}
-use Rattle.idx_block.proofs.FirstLemmas.{double, level-fits, level-more, level-none}
+use Rattle.idx_lanes.proofs.CopyLemmas.{length-part}
+use Rattle.idx_block.proofs.FirstLemmas.{level-more, level-none}
+use Rattle.idx_lanes.proofs.LevelLemmas.{double, level-fits}
 use Rattle.idx_block.proofs.first_block.fill_first_block.Goals as goal
 use Rattle.idx_block.proofs.first_block.fill_first_block.Goals.{In-loop-level}
 
@@ -28,13 +29,13 @@ loop-level-init c =
           (c.put_sample.ensures ∙ ap (λ n. stored c.args.mask.now c.args.region.now n c.args.samples.now 0) one);
     }
 
-pub slice_bounds-fill_by_lines-end : goal.slice_bounds-fill_by_lines-end
-slice_bounds-fill_by_lines-end c =
+pub slice_bounds-fill_by_lanes-end : goal.slice_bounds-fill_by_lanes-end
+slice_bounds-fill_by_lanes-end c =
     let room = fits c in
     search rules
 
-pub fill_by_lines-requires-clause-exists : goal.fill_by_lines-requires-clause-exists
-fill_by_lines-requires-clause-exists c =
+pub fill_by_lanes-requires-clause-exists : goal.fill_by_lanes-requires-clause-exists
+fill_by_lanes-requires-clause-exists c =
     let le : 1 ≤ length c.args.mask.now - c.loop-level.level = omega (arith, c.requires.bits, c.loop-level-test.true) in
     let power : 2 ^ 1 ≤ 2 ^ (length c.args.mask.now - c.loop-level.level) = pow_mono le in
     omega (arith, power)
@@ -50,6 +51,6 @@ loop-level-preserved c =
     let twice : size * (2 ^ c.loop-level.level + 2 ^ c.loop-level.level) ≡ size * 2 ^ c.loop-level.level + size * 2 ^ c.loop-level.level = grind arith in
     record {
       front = omega (arith, c.loop-level.invariant.front, ap (λ m. size * m) (double c.loop-level.level), twice);
-      made = level-more (stored c.args.mask.now c.args.region.now size c.args.samples.now) size c.loop-level.level filled n c.loop-level.into c.fill_by_lines.new.into
-          c.loop-level.invariant.front same (c.fill_by_lines.auto.into ∙ part) (omega (arith, room)) c.loop-level.invariant.made c.fill_by_lines.ensures;
+      made = level-more (stored c.args.mask.now c.args.region.now size c.args.samples.now) size c.loop-level.level filled n c.loop-level.into c.fill_by_lanes.new.into
+          c.loop-level.invariant.front same (c.fill_by_lanes.auto.into ∙ part) (omega (arith, room)) c.loop-level.invariant.made c.fill_by_lanes.ensures;
     }

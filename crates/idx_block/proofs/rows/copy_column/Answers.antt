@@ -1,7 +1,7 @@
 use Rattle.std.proofs.Common.{◌≡◌, ℕ, ◌+◌, ◌*◌, ◌<◌, [], ap, ◌∙◌, arith}
 use Rattle.std.specs.Prelude.{slice_index}
-use Rattle.idx_block.specs.Spread.{part_after}
-use Rattle.idx_block.proofs.CopyLemmas.{so_far-all, so_far-more, copy-made}
+use Rattle.idx_lanes.specs.Spread.{part_after}
+use Rattle.idx_lanes.proofs.CopyLemmas.{so_far-all, so_far-more, copy-made}
 use Rattle.idx_block.proofs.rows.copy_column.Goals as goal
 
 pub loop-k-preserved : goal.loop-k-preserved

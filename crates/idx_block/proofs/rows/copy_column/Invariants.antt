@@ -1,6 +1,6 @@
 use Rattle.std.proofs.Common.{ℕ, List, [], ◌∷◌}
-use Rattle.idx_block.specs.Copies.{EachCopy, IsWanted}
-use Rattle.idx_block.proofs.CopyLemmas.{AreSoFar}
+use Rattle.idx_lanes.specs.Copies.{EachCopy, IsWanted}
+use Rattle.idx_lanes.proofs.CopyLemmas.{AreSoFar}
 use Rattle.idx_block.proofs.rows.copy_column.Given as goal
 
 -- the copies so far are made

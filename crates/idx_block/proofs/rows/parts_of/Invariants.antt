@@ -1,6 +1,6 @@
 use Rattle.std.proofs.Common.{◌≡◌, ℕ, ◌<◌, length}
 use Rattle.std.specs.Prelude.{slice_index}
-use Rattle.idx_block.specs.Spread.{part_after}
+use Rattle.idx_lanes.specs.Spread.{part_after}
 use Rattle.idx_block.proofs.rows.parts_of.Given as goal
 
 -- the parts so far

@@ -1,11 +1,11 @@
 use Rattle.std.proofs.Common.{◌≡◌, ℕ, List, ◌∷◌, length}
-use Rattle.idx_block.specs.Spread.{part_after}
-use Rattle.idx_block.specs.Copies.{EachCopy, IsWanted}
-use Rattle.idx_block.proofs.CopyLemmas.{AreSoFar}
+use Rattle.idx_lanes.specs.Spread.{part_after}
+use Rattle.idx_lanes.specs.Copies.{EachCopy, IsWanted}
+use Rattle.idx_lanes.proofs.CopyLemmas.{AreSoFar}
 use Rattle.idx_block.proofs.walk.+walk.Given as goal
 
 abbrev pub decreases-walk : goal.decreases-walk
-decreases-walk g l = length l.lines.now
+decreases-walk g l = length l.lanes.now
 
 -- the copies so far are made
 abbrev pub invariant-loop-k : goal.invariant-loop-k

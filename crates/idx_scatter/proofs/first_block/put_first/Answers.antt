@@ -9,8 +9,8 @@ use Rattle.idx_hz.specs.Address.{hz_address}
 use Rattle.idx_hz.specs.Answer.{has_level}
 use Rattle.idx_hz.specs.Mask.{HasAddress}
 use Rattle.idx_hz.proofs.RegionLemmas.{HasAddress-from_end}
-use Rattle.idx_stride.specs.Written.{written}
-use Rattle.idx_block.proofs.CopyLemmas.{put_mid-written}
+use Rattle.idx_lanes.specs.Written.{written}
+use Rattle.idx_lanes.proofs.CopyLemmas.{put_mid-written}
 use Rattle.idx_scatter.specs.Asked.{Asked, asked_before, asked_points}
 use Rattle.idx_scatter.proofs.AskedLemmas.{asked-at}
 use Rattle.idx_scatter.proofs.LevelLemmas.{first-in, first-out}

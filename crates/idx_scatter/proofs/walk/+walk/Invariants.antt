@@ -1,12 +1,12 @@
 use Rattle.std.proofs.Common.{◌≡◌, ℕ, List, ◌∷◌, length}
-use Rattle.idx_block.specs.Spread.{part_after}
+use Rattle.idx_lanes.specs.Spread.{part_after}
 use Rattle.idx_scatter.specs.Legs.{EachMove}
 use Rattle.idx_scatter.specs.Moves.{IsWanted}
 use Rattle.idx_scatter.proofs.MoveLemmas.{AreSoFar}
 use Rattle.idx_scatter.proofs.walk.+walk.Given as goal
 
 abbrev pub decreases-walk : goal.decreases-walk
-decreases-walk g l = length l.lines.now
+decreases-walk g l = length l.lanes.now
 
 -- the moves so far are made
 abbrev pub invariant-loop-k : goal.invariant-loop-k

@@ -1,7 +1,7 @@
 use Rattle.std.proofs.Common.{◌≡◌, ℕ, ◌+◌, ◌*◌, ◌≤◌, List, length, take, drop, sym, ap, ◌∙◌, arith}
 use Rattle.std.proofs.Math.Nat.{mul-le-mul_right}
 use Rattle.idx_stride.specs.Places.{samples_at, progression}
-use Rattle.idx_stride.specs.Written.{written}
+use Rattle.idx_lanes.specs.Written.{written}
 use Rattle.idx_stride.proofs.WrittenLemmas.{written-nil, written-written}
 use Rattle.idx_stride.proofs.SamplesLemmas.{samples_at-progression-more, length-samples_at-progression, length-sample}
 use Rattle.idx_stride.proofs.run.strided.Goals as goal

@@ -1,6 +1,6 @@
 use Rattle.std.proofs.Common.{◌≡◌}
 use Rattle.idx_stride.specs.Places.{samples_at, progression}
-use Rattle.idx_stride.specs.Written.{written}
+use Rattle.idx_lanes.specs.Written.{written}
 use Rattle.idx_stride.proofs.run.strided.Given as goal
 
 -- the samples so far are written

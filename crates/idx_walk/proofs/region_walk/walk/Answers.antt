@@ -4,11 +4,13 @@ use Rattle.idx_hz.specs.Stride.{stride}
 use Rattle.idx_stride.specs.Places.{samples_at}
 use Rattle.idx_stride.specs.Strides.{IsStrides, end_of, offsets_of}
 use Rattle.idx_walk.specs.Progression.{count_of, axis_at}
-use Rattle.idx_walk.proofs.LevelTests.{ratio_of, stride_pos, strides-at}
+use Rattle.idx_walk.proofs.LevelTests.{ratio_of, strides-at}
+use Rattle.idx_lanes.proofs.AxisLemmas.{stride_pos}
+use Rattle.idx_lanes.proofs.BoundsLemmas.{AreBounds, AreBounds-at}
 use Rattle.std.proofs.Math.Nat.{mul-le-mul_right, mul_comm}
 use Rattle.idx_stride.specs.declared.axis.Axis.{Axis}
 use Rattle.idx_walk.specs.Walk.{points_up_to, places_of, wanted_places}
-use Rattle.idx_walk.proofs.StepLemmas.{AreBounds, AreBounds-at, IsMade-start, IsNext, IsNext-found, weight-le, lattice-none_at, IsWhole, IsWhole-made}
+use Rattle.idx_walk.proofs.StepLemmas.{IsMade-start, IsNext, IsNext-found, weight-le, lattice-none_at, IsWhole, IsWhole-made}
 use Rattle.idx_walk.proofs.WalkLemmas.{IsQuestion, points_up_to-lattice, points_up_to-some, wanted-none, offsets-wanted, samples_at-wanted, end-le, IsStrides-walk}
 use Rattle.idx_walk.proofs.region_walk.walk.Goals as goal
 use Rattle.idx_walk.proofs.region_walk.walk.Goals.{In-loop-axis, After-get}
@@ -30,7 +32,7 @@ question c = record {
 at_axis : (c : After-get) → AreBounds c.args.extent.now c.args.region.now c.loop-axis.axis c.bounds-from.result c.bounds.result
 at_axis c =
     AreBounds-at c.args.extent.now c.args.region.now c.loop-axis.axis c.bounds-from.result c.bounds.result
-    c.axes-axis-end.ensures.valid c.requires.lower c.requires.upper (omega arith) c.bounds-from.ensures c.bounds.ensures
+    c.axes-axis-end.ensures.valid c.requires.lower c.requires.upper (omega arith) c.bounds-from.ensures.value c.bounds.ensures.value
 
 -- the strides along the axis
 fine : (c : After-get) → c.get-stride.result ≡ stride c.args.mask.now c.args.hi c.loop-axis.axis
@@ -46,8 +48,8 @@ ratio c =
     let level : c.saturating_sub.result ≡ c.args.lo - 1 = omega (arith, c.saturating_sub.ensures) in
     (λ i. coarse i / fine c i) ∙ ap (λ h. stride c.args.mask.now h c.loop-axis.axis / stride c.args.mask.now c.args.hi c.loop-axis.axis) level
 
-pub bounds-from-requires : goal.bounds-from-requires
-bounds-from-requires c = inside c
+pub bounds-from-requires-clause-axis : goal.bounds-from-requires-clause-axis
+bounds-from-requires-clause-axis c = inside c
 
 pub get-stride-requires : goal.get-stride-requires
 get-stride-requires c =

@@ -6,5 +6,5 @@ use Rattle.idx_scatter.proofs.order.Order.legs.Given as goal
 abbrev pub invariant-loop-axis : goal.invariant-loop-axis
 invariant-loop-axis l = record {
   room : length l.legs ≡ 5;
-  each : (a : ℕ) → a < l.axis → IsLeg l.self l.ask a (get_or l.legs a no_leg);
+  each : (a : ℕ) → a < l.axis → IsLeg l.self l.part a (get_or l.legs a no_leg);
 }

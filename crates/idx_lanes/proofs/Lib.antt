@@ -1,0 +1,12 @@
+pub mod PartLemmas
+pub mod SpreadLemmas
+pub mod ZByLemmas
+pub mod CopyLemmas
+pub mod AxisLemmas
+pub mod BoundsLemmas
+pub mod RankLemmas
+pub mod PlaceLemmas
+pub mod LanesLemmas
+pub mod EachLemmas
+pub mod SettingLemmas
+pub mod LevelLemmas

@@ -1,0 +1,5 @@
+pub mod Written
+pub mod Axis
+pub mod Spread
+pub mod Copies
+pub mod Lanes
