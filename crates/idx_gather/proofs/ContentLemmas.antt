@@ -18,7 +18,7 @@ use Rattle.idx_layout.specs.Layout.{Layout, is_present, present_blocks, block_of
 use Rattle.idx_layout.specs.Files.{rows_of_file, blocks_of_file, file_bytes}
 use Rattle.idx_layout.specs.OfHeader.{layout_of}
 use Rattle.idx_layout.specs.Step.{volume_of_raw}
-use Rattle.idx_gather.proofs.TableLemmas.{absent_behind}
+use Rattle.idx_layout.proofs.RowLemmas.{absent_behind}
 
 -- a present block exists
 present_exists : (h : HeaderValue) (block : ℕ) → IsHeader h → is_present (layout_of h) block ≡ true → block < block_count h

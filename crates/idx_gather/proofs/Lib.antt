@@ -1,4 +1,3 @@
-pub mod TableLemmas
 pub mod ContentLemmas
 pub mod StepLemmas
 pub mod EditionLemmas

@@ -4,6 +4,7 @@ pub mod Time
 pub mod Header
 pub mod Faults
 pub mod HeaderOf
+pub mod OfBay
 pub mod Written
 pub mod Names
 pub mod Worked

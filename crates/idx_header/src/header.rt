@@ -6,18 +6,20 @@ ghost use Rattle.idx_hz.specs.Mask.{HasAddress};
 ghost use Rattle.idx_header.specs.Header.{IsHeader, Agree, HasStep, ends_of, block_count, block_bytes, file_of, sample_bytes_of, table_bytes, volume_bytes};
 ghost use Rattle.idx_header.specs.HeaderOf.{header_of};
 ghost use Rattle.idx_header.specs.Names.{file_name, step_folder};
+ghost use Rattle.idx_header.specs.OfBay.{Gives, GivesStanding, IsFaultOf, IsFaultOfSome, IsRefusal, OnlyAsks};
 ghost use Rattle.idx_header.specs.Written.{text_of};
 
 use crate::blocks::block_bytes;
 use crate::copy::copy_header;
+use crate::of_bay::{bay_text, read_text};
 use crate::read::read_header;
 use crate::write::header_text;
-use crate::{HeaderFault, HeaderKind, Steps, Unknown};
+use crate::{HeaderFault, HeaderKind, HeaderRefusal, Steps, Unknown};
 use idx_fields::Fields;
 use idx_geom::Region;
 use idx_hz::Mask;
 use idx_names::Template;
-use idx_outside::{Bytes, NoMemory};
+use idx_outside::{Bay, Bytes, NoMemory};
 use std::alloc::Global;
 use std::marker::Model;
 
@@ -71,6 +73,30 @@ impl Header {
         ensures valid { IfOk result IsHeader }
     {
         read_header(alloc, text)
+    }
+
+    /// The header of a bay. An empty text, as where no header stands, is refused like any other.
+    pub fn of_bay<B: Bay>(alloc: Global, bay: &mut B) -> Result<Header, HeaderRefusal>
+        ensures gives { IfOk result (Gives (B.header bay.old)) }
+        ensures refused { IfErr result (IsRefusal IsFaultOf (B.header bay.old) (B.faults bay.old) (B.faults bay.new)) }
+        ensures asks { OnlyAsks B.header B.files B.admits B.faults bay.old bay.new result }
+    {
+        let text = bay_text(alloc, bay)?;
+        read_text(alloc, text.as_slice())
+    }
+
+    /// The header of a bay where one stands: `None` exactly where the text is empty.
+    pub fn standing<B: Bay>(alloc: Global, bay: &mut B) -> Result<Option<Header>, HeaderRefusal>
+        ensures gives { IfOk result (GivesStanding (B.header bay.old)) }
+        ensures refused { IfErr result
+            (IsRefusal IsFaultOfSome (B.header bay.old) (B.faults bay.old) (B.faults bay.new)) }
+        ensures asks { OnlyAsks B.header B.files B.admits B.faults bay.old bay.new result }
+    {
+        let text = bay_text(alloc, bay)?;
+        if text.is_empty() {
+            return Ok(None);
+        }
+        Ok(Some(read_text(alloc, text.as_slice())?))
     }
 
     /// Appends the canonical text. At `NoMemory` the bytes are as they were.
@@ -144,6 +170,7 @@ impl Header {
         ensures value { result ≡ self.now.blocks_per_file }
         ensures some { 1 ≤ result }
         ensures few { result ≤ 65536 }
+        ensures valid { IsHeader self.now }
     {
         self.blocks_per_file
     }

@@ -7,3 +7,4 @@ pub mod HeaderLemmas
 pub mod FindLemmas
 pub mod FilesLemmas
 pub mod RunLemmas
+pub mod RowLemmas

@@ -2,6 +2,7 @@ pub mod Layout
 pub mod Content
 pub mod Files
 pub mod FileNumbers
+pub mod FileRows
 pub mod Runs
 pub mod OfHeader
 pub mod Shape

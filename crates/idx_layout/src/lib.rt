@@ -9,6 +9,7 @@ mod next_block;
 mod places;
 mod points;
 mod present_files;
+mod rows_in_file;
 mod run;
 #[cfg(test)]
 mod tests;
@@ -21,7 +22,8 @@ pub use laws::{
 };
 pub use next_block::next_present;
 pub use places::{
-    file_blocks, file_len, files, offset_at, place, present, present_in_file, table_len,
+    file_blocks, file_len, file_rows, files, offset_at, place, present, present_in_file, table_len,
 };
 pub use points::{blocks_in, blocks_with_points, has_point_in};
 pub use present_files::Files;
+pub use rows_in_file::FileRows;

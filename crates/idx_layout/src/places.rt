@@ -3,12 +3,13 @@ ghost use Rattle.std.specs.List.{range_with_len};
 ghost use Rattle.idx_header.specs.Header.{IsHeader, block_count};
 ghost use Rattle.idx_table.specs.Table.{table_bytes};
 ghost use Rattle.idx_layout.specs.Layout.{block_bytes, file_numbers, file_of, is_present, present_blocks};
-ghost use Rattle.idx_layout.specs.Files.{length_of_file, row_count};
+ghost use Rattle.idx_layout.specs.Files.{length_of_file, row_count, rows_of_file};
 ghost use Rattle.idx_layout.specs.OfHeader.{layout_of, place_of};
 
 use crate::block_place::Place;
 use crate::blocks_in_file::FileBlocks;
 use crate::present_files::Files;
+use crate::rows_in_file::FileRows;
 use crate::{blocks_with_points, has_point_in};
 use idx_header::Header;
 
@@ -41,6 +42,15 @@ pub fn file_blocks(header: &Header, file: u64) -> FileBlocks
     ensures few { length result ≤ 65536 }
 {
     FileBlocks::of_header(header, file)
+}
+
+/// The rows of the table of a file, for each field one for each of its block places.
+pub fn file_rows(header: &Header, file: u64) -> FileRows<'_>
+    requires exists { file < block_count header.now }
+    ensures rows { result ≡ rows_of_file (layout_of header.now) file }
+    ensures valid { IsHeader header.now }
+{
+    FileRows::of_header(header, file)
 }
 
 /// Where a block of a field stands: `None` exactly where it is absent. The answer goes through the
@@ -86,6 +96,7 @@ pub fn table_len(header: &Header) -> u64
     ensures value { result ≡ table_bytes (row_count (layout_of header.now)) }
     ensures few { result ≤ 2 ^ 28 }
     ensures fields { length header.now.fields ≤ 64 }
+    ensures valid { IsHeader header.now }
 {
     40 + 40 * u64::from(header.field_count()) * header.blocks_per_file()
 }

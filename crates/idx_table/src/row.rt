@@ -9,6 +9,19 @@ const WORDS: usize = 10;
 /// How many bytes a row has. The table begins with as many bytes of 0.
 pub const ROW_BYTES: usize = 4 * WORDS;
 
+/// The flags of a block whose samples are raw and in hierarchical Z order.
+pub const RAW: u32 = 0;
+
+/// The flags of a block whose samples are raw and in row-major order.
+pub const ROW_MAJOR: u32 = 16;
+
+/// The row of a block that its file lacks.
+pub const ABSENT: Row = Row {
+    offset: 0,
+    size: 0,
+    flags: RAW,
+};
+
 /// Where in its file a block stands, as the table's row says.
 #[derive(Clone, Copy, Debug, PartialEq, Eq)]
 pub struct Row {
@@ -16,7 +29,7 @@ pub struct Row {
     pub offset: u64,
     /// How many bytes the block has; 0 where the file lacks the block.
     pub size: u32,
-    /// How the samples are stored: 0 raw and in hierarchical Z order, 16 raw and in row-major order.
+    /// How the samples are stored: `RAW` or `ROW_MAJOR`, or compressed.
     pub flags: u32,
 }
 

@@ -1,17 +1,11 @@
 ghost use Rattle.std.specs.Prelude.{◌≡◌, ◌≢◌, ◌↔◌, ℕ, ◌+◌, ◌*◌, ◌/◌, ◌%◌, ◌<◌, ◌≤◌, min, length, slice_index, slice_get, Some, None, IfOk, IfErr};
 ghost use Rattle.idx_table.specs.Table.{table_bytes, row_at, rows_of, field_of, is_outside, fault_in, kind_of_row, first_fault};
 
-use crate::row::{ROW_BYTES, Row, row_in};
+use crate::row::{RAW, ROW_BYTES, ROW_MAJOR, Row, row_in};
 use crate::table_fault::{TableFault, TableKind};
 use idx_outside::NoMemory;
 use std::alloc::Global;
 use std::marker::Model;
-
-/// The flags of a block whose samples are raw and in hierarchical Z order.
-const RAW: u32 = 0;
-
-/// The flags of a block whose samples are raw and in row-major order.
-const ROW_MAJOR: u32 = 16;
 
 /// The table of the blocks of a file, seen as its rows: field after field, and within a field block after block.
 #[derive(Debug, Drop)]

@@ -1,12 +1,12 @@
-use Rattle.std.proofs.Common.{◌≡◌, ◌++◌, map, replicate}
-use Rattle.std.specs.List.{flat_map, range_with_len}
-use Rattle.idx_layout.specs.Files.{row_of_block}
+use Rattle.std.proofs.Common.{◌≡◌, ◌++◌, replicate}
+use Rattle.std.specs.List.{flat_map}
+use Rattle.idx_layout.specs.Files.{rows_of_file}
 use Rattle.idx_layout.specs.OfHeader.{layout_of}
 use Rattle.idx_table.specs.Row.{row_bytes}
 use Rattle.idx_gather.proofs.table.push_table.Given as goal
 
--- the rows of the fields so far
-abbrev pub invariant-loop-field : goal.invariant-loop-field
-invariant-loop-field l =
-    l.into.items ≡ (l.fn.into.items ++ replicate 40 0)
-    ++ flat_map row_bytes (flat_map (λ field. map (row_of_block (layout_of l.header) l.file field) (range_with_len l.file l.header.blocks_per_file)) (range_with_len 0 l.field))
+-- the bytes so far, and those of the rows that are left behind them, are all
+abbrev pub invariant-loop-row : goal.invariant-loop-row
+invariant-loop-row l =
+    l.into.items ++ flat_map row_bytes l.row-iterator
+    ≡ l.fn.into.items ++ (replicate 40 0 ++ flat_map row_bytes (rows_of_file (layout_of l.header) l.file))

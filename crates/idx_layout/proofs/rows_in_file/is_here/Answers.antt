@@ -1,7 +1,7 @@
 use Rattle.std.proofs.Common.{sym, ◌∙◌, arith}
 use Rattle.std.proofs.lemmas.Bool.{le-ltb}
-use Rattle.idx_edition.proofs.RowLemmas.{absent_behind}
-use Rattle.idx_edition.proofs.rows.is_here.Goals as goal
+use Rattle.idx_layout.proofs.RowLemmas.{absent_behind}
+use Rattle.idx_layout.proofs.rows_in_file.is_here.Goals as goal
 
 pub returns-else-block-block_count-clause-value : goal.returns-else-block-block_count-clause-value
 returns-else-block-block_count-clause-value c =
