@@ -1,12 +1,14 @@
 -- Each step has a file.
-use Rattle.std.proofs.Common.{◌≡◌, ℕ, ◌/◌, ◌^◌, ◌<◌, ◌≤◌, ◌==◌, ◌&&◌, Bool, true, false, List, length, refl, sym, ap, subst, ◌∙◌, arith, eq-eqb, zero-add}
-use Rattle.std.specs.Prelude.{nat_lt, Some}
+use Rattle.std.proofs.Common.{◌≡◌, ℕ, ◌/◌, ◌^◌, ◌<◌, ◌≤◌, ◌==◌, ◌&&◌, Bool, true, false, List, length, map, refl, sym, ap, subst, ◌∙◌, arith, eq-eqb, zero-add}
+use Rattle.std.specs.Prelude.{nat_lt, Option, Some}
 use Rattle.std.specs.List.{list_any, range_with_len}
 use Rattle.std.proofs.Math.Nat.{lt_of_not-le}
 use Rattle.std.proofs.lemmas.Bool.{ltb-true}
 use Rattle.std.proofs.lemmas.List.{length-map}
 use Rattle.std.proofs.lemmas.List.FromFn.{get_or-range_with_len, length-range_with_len}
 use Rattle.std.proofs.lemmas.Option.{slice_get-get_or}
+use Rattle.idx_outside.specs.Files.{entry_shown, known_files, known_with, shown}
+use Rattle.idx_outside.specs.declared.mem_file.MemFile.{MemFile}
 use Rattle.idx_geom.specs.Region.{upper_ends}
 use Rattle.idx_geom.proofs.LiesInLemmas.{LiesIn-upper_ends}
 use Rattle.idx_hz.specs.Address.{hz_address}
@@ -59,3 +61,11 @@ some_file h valid =
 pub some_step_file : (h : HeaderValue) (volume : List (List (List ℕ))) (step : ℕ) → IsHeader h → 0 < length (step_files h volume step)
 some_step_file h volume step valid =
     subst (λ (n : ℕ). 0 < n) (sym (length-map (file_numbers (layout_of h)) (step_file h volume step))) (some_file h valid)
+
+-- and so are the leaves that hold its files
+pub some_leaf : {L : Type 0} (contents : L → Option (List ℕ)) (known : Option (List MemFile)) (leaves : List (List ℕ × L)) (files : List (List ℕ × List ℕ)) →
+    shown contents leaves ≡ known_files known files → 0 < length files → 0 < length leaves
+some_leaf contents known leaves files same some =
+    let many : length leaves ≡ length files =
+    sym (length-map leaves (entry_shown contents)) ∙ ap length same ∙ length-map files (entry_shown (known_with known)) in
+    subst (λ (n : ℕ). 0 < n) (sym many) some

@@ -6,8 +6,6 @@ mod gather_fault;
 mod gathering;
 mod step;
 mod table;
-#[cfg(test)]
-mod tests;
 mod volume;
 
 pub use gather_fault::GatherFault;

@@ -1,10 +1,11 @@
-use Rattle.std.proofs.Common.{ℕ, List, sym, ap, subst, ◌∙◌}
+use Rattle.std.proofs.Common.{ℕ, ◌<◌, List, length, sym, ap, subst, ◌∙◌}
 use Rattle.idx_outside.specs.Files.{AllLieIn, added, leaf_files, shown}
 use Rattle.idx_header.specs.Names.{file_name}
-use Rattle.idx_layout.specs.Step.{volume_of_raw}
+use Rattle.idx_layout.specs.Step.{step_files, volume_of_raw}
 use Rattle.idx_edition.specs.Tables.{TablesValue, has_in_tables, shape_in, stored_in}
 use Rattle.idx_edition.proofs.StoredLemmas.{known_written}
 use Rattle.idx_gather.proofs.EditionLemmas.{HoldsAny, holds_added, is_volume}
+use Rattle.idx_gather.proofs.SomeFileLemmas.{some_leaf, some_step_file}
 use Rattle.idx_gather.proofs.StepLemmas.{folder_exists, files_lie, name_lies}
 use Rattle.idx_gather.proofs.step.write_step.Goals as goal
 
@@ -24,6 +25,14 @@ of_leaves-requires-clause-written g c =
       volume_of_raw h raw,
       known_written h c.args.step (volume_of_raw h raw) (g.B.Bay.files c.args.bay.now) (shown g.B.Leaf.Leaf.contents c.in_ok-leaves.leaves.items) (is_volume h raw c.requires.raw) c.in_ok-leaves.ensures.leaves.same,
     )
+
+pub commit-requires-clause-some : goal.commit-requires-clause-some
+commit-requires-clause-some g c =
+    let h = c.args.header.now in
+    let volume = volume_of_raw h c.args.raw.now in
+    subst (λ leaves. 0 < length leaves) (sym (c.leaves.ensures ∙ c.in_ok-edition.ensures.leaves))
+    (some_leaf g.B.Leaf.Leaf.contents (g.B.Bay.files c.args.bay.now) c.in_ok-leaves.leaves.items (step_files h volume c.args.step)
+    c.in_ok-leaves.ensures.leaves.same (some_step_file h volume c.args.step c.in_ok-edition.ensures.valid))
 
 pub commit-requires-clause-within : goal.commit-requires-clause-within
 commit-requires-clause-within g c = λ files known.
