@@ -10,3 +10,4 @@ pub mod BackLemmas
 pub mod HeldLemmas
 pub mod OwnLemmas
 pub mod StoredLemmas
+pub mod AskedLemmas

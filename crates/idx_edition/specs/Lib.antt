@@ -2,3 +2,4 @@ pub mod Stored
 pub mod Tables
 pub mod Loaded
 pub mod Worked
+pub mod Asked

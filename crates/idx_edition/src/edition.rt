@@ -7,10 +7,13 @@ ghost use Rattle.idx_outside.specs.Files.{StillAdmits, known_files, shown};
 ghost use Rattle.idx_outside.specs.declared.mem_file.MemFile.{MemFile};
 ghost use Rattle.idx_header.specs.Header.{HasStep, IsHeader};
 ghost use Rattle.idx_header.specs.Names.{step_folder};
+ghost use Rattle.idx_table.specs.Table.{table_bytes};
 ghost use Rattle.idx_layout.specs.Layout.{is_present};
+ghost use Rattle.idx_layout.specs.Files.{row_count};
 ghost use Rattle.idx_layout.specs.OfHeader.{layout_of};
 ghost use Rattle.idx_layout.specs.Shape.{shape_of};
 ghost use Rattle.idx_layout.specs.Step.{step_files};
+ghost use Rattle.idx_edition.specs.Asked.{AskedAtMost};
 ghost use Rattle.idx_edition.specs.Stored.{HasFiles, Stands};
 ghost use Rattle.idx_edition.specs.Tables.{AreTablesOf, has_in_tables, shape_in, stored_in};
 ghost use Rattle.idx_edition.specs.Loaded.{AreWritten, HoldsStored, IsLoadCause, IsOpenCause, IsWrittenBlock, OfBlocks};
@@ -101,6 +104,9 @@ impl<L: Leaf> Edition<L> {
             (B.faults bay.old) (B.faults bay.new) (R.faults reader.old) (R.faults reader.new)) }
         ensures reads { IfOk result (λ loaded. IfSome loaded (λ edition.
             MadeReads (R.reads reader.old) (R.reads reader.new) (length edition.leaves.items))) }
+        ensures asked { IfOk result (λ loaded. IfSome loaded (λ edition.
+            AskedAtMost (R.asked reader.old) (R.asked reader.new)
+            (length edition.leaves.items * table_bytes (row_count (layout_of header.now))))) }
         ensures no_read { result ≡ Ok None → reader.new ≡ reader.old }
         ensures quiet { OnOk result (B.faults bay.new ≡ B.faults bay.old) }
         ensures reader_quiet { OnOk result (R.faults reader.new ≡ R.faults reader.old) }
@@ -109,6 +115,7 @@ impl<L: Leaf> Edition<L> {
         ensures header { B.header bay.new ≡ B.header bay.old }
         ensures files { B.files bay.new ≡ B.files bay.old }
         ensures admits { StillAdmits B.admits bay.old bay.new }
+        ensures changes { B.changes bay.new ≡ B.changes bay.old }
     {
         if !header.has_time(time) {
             return Ok(None);
@@ -137,6 +144,8 @@ impl<L: Leaf> Edition<L> {
             (B.faults bay.old) (B.faults bay.new) (R.faults reader.old) (R.faults reader.new)) }
         ensures reads { IfOk result (λ edition.
             MadeReads (R.reads reader.old) (R.reads reader.new) (length edition.leaves.items)) }
+        ensures asked { IfOk result (λ edition. AskedAtMost (R.asked reader.old) (R.asked reader.new)
+            (length edition.leaves.items * table_bytes (row_count (layout_of header.now)))) }
         ensures quiet { OnOk result (B.faults bay.new ≡ B.faults bay.old) }
         ensures reader_quiet { OnOk result (R.faults reader.new ≡ R.faults reader.old) }
         ensures count { NeverFalls (B.faults bay.old) (B.faults bay.new) }
@@ -144,6 +153,7 @@ impl<L: Leaf> Edition<L> {
         ensures header { B.header bay.new ≡ B.header bay.old }
         ensures files { B.files bay.new ≡ B.files bay.old }
         ensures admits { StillAdmits B.admits bay.old bay.new }
+        ensures changes { B.changes bay.new ≡ B.changes bay.old }
     {
         let lengths = block_lengths(alloc, header)?;
         let mut front = Vec::new(alloc);

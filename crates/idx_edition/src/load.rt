@@ -1,6 +1,6 @@
 ghost use Rattle.std.specs.Prelude.{◌≡◌, ◌≢◌, ◌↔◌, ◌⊎◌, ◌+◌, ◌*◌, ◌%◌, ◌^◌, ◌<◌, ◌≤◌, min, None, Some, Err, IfErr, IfOk, IfSome, IsTrue, OnErr, OnOk, length, take};
 ghost use Rattle.std.specs.Option.{ForSome, option_map};
-ghost use Rattle.idx_outside.specs.Cause.{MadeReads, NeverFalls, Rose};
+ghost use Rattle.idx_outside.specs.Cause.{AskedFor, MadeReads, NeverFalls, Rose};
 ghost use Rattle.idx_outside.specs.Files.{HasStep as HasCommitted, StillAdmits, entry_shown, file_at, stored_at};
 ghost use Rattle.idx_table.specs.Table.{first_fault, rows_of, table_bytes};
 ghost use Rattle.idx_header.specs.Header.{IsHeader};
@@ -8,6 +8,7 @@ ghost use Rattle.idx_header.specs.Names.{file_name, step_folder};
 ghost use Rattle.idx_layout.specs.Files.{row_count};
 ghost use Rattle.idx_layout.specs.OfHeader.{layout_of};
 ghost use Rattle.idx_layout.specs.Shape.{block_lengths};
+ghost use Rattle.idx_edition.specs.Asked.{AskedAtMost};
 ghost use Rattle.idx_edition.specs.Stored.{fault_of_bytes, fault_of_file};
 ghost use Rattle.idx_edition.specs.Tables.{EndWithin, IsTable};
 ghost use Rattle.idx_edition.specs.Loaded.{IsCause, table_at};
@@ -39,6 +40,7 @@ pub(crate) fn folder_stands<B: Bay>(
     ensures header { B.header bay.new ≡ B.header bay.old }
     ensures files { B.files bay.new ≡ B.files bay.old }
     ensures admits { StillAdmits B.admits bay.old bay.new }
+    ensures changes { B.changes bay.new ≡ B.changes bay.old }
 {
     let Some(folder) = header.step_folder(alloc, time)? else {
         return Ok(true);
@@ -78,6 +80,8 @@ pub(crate) fn open_file<B: Bay, R: Reader<B::Leaf>>(
     ensures no_read { IfOk result (λ found. found ≡ None → reader.new ≡ reader.old) }
     ensures one_read { IfOk result (λ found. IfSome found (λ _.
         R.reads reader.new ≡ (R.reads reader.old + 1) % 2 ^ 64)) }
+    ensures asked { IfOk result (λ found. IfSome found (λ _.
+        AskedAtMost (R.asked reader.old) (R.asked reader.new) (table_bytes (row_count (layout_of header.now))))) }
     ensures quiet { OnOk result (B.faults bay.new ≡ B.faults bay.old) }
     ensures reader_quiet { OnOk result (R.faults reader.new ≡ R.faults reader.old) }
     ensures count { NeverFalls (B.faults bay.old) (B.faults bay.new) }
@@ -85,6 +89,7 @@ pub(crate) fn open_file<B: Bay, R: Reader<B::Leaf>>(
     ensures header { B.header bay.new ≡ B.header bay.old }
     ensures files { B.files bay.new ≡ B.files bay.old }
     ensures admits { StillAdmits B.admits bay.old bay.new }
+    ensures changes { B.changes bay.new ≡ B.changes bay.old }
 {
     let path = header.file_name(alloc, time, file)?;
     let Some(leaf) = find_leaf(path.as_slice(), bay)? else {
@@ -108,6 +113,7 @@ fn find_leaf<B: Bay>(path: &[u8], bay: &mut B) -> Result<Option<B::Leaf>, LoadFa
     ensures header { B.header bay.new ≡ B.header bay.old }
     ensures files { B.files bay.new ≡ B.files bay.old }
     ensures admits { StillAdmits B.admits bay.old bay.new }
+    ensures changes { B.changes bay.new ≡ B.changes bay.old }
 {
     match bay.leaf(path) {
         Ok(found) => Ok(found),
@@ -139,6 +145,8 @@ fn read_rows<L: Leaf, R: Reader<L>>(
         fault_of_bytes (layout_of header.now) file (Some bytes) ≡ Some bad))
         0 0 (R.faults reader.old) (R.faults reader.new)) }
     ensures one_read { OnOk result (R.reads reader.new ≡ (R.reads reader.old + 1) % 2 ^ 64) }
+    ensures asked { OnOk result (AskedAtMost (R.asked reader.old) (R.asked reader.new)
+        (table_bytes (row_count (layout_of header.now)))) }
     ensures quiet { OnOk result (R.faults reader.new ≡ R.faults reader.old) }
     ensures count { NeverFalls (R.faults reader.old) (R.faults reader.new) }
 {
@@ -164,6 +172,7 @@ fn read_front<L: Leaf, R: Reader<L>>(
         (fault ≡ LoadFault.StoreFault (R.faults reader.new)) × Rose (R.faults reader.old) (R.faults reader.new)) }
     ensures no_memory { result ≡ Err LoadFault.NoMemory → R.faults reader.new ≡ R.faults reader.old }
     ensures one_read { OnOk result (R.reads reader.new ≡ (R.reads reader.old + 1) % 2 ^ 64) }
+    ensures asked { OnOk result (AskedFor (R.asked reader.old) (R.asked reader.new) count) }
     ensures quiet { OnOk result (R.faults reader.new ≡ R.faults reader.old) }
     ensures count { NeverFalls (R.faults reader.old) (R.faults reader.new) }
 {

@@ -1,4 +1,4 @@
-use Rattle.std.proofs.Common.{◌≡◌, ◌*◌, ◌%◌, List, length, Some, sym, ap, subst, refl, ◌∙◌}
+use Rattle.std.proofs.Common.{◌≡◌, ◌*◌, ◌%◌, List, length, Some, sym, ap, subst, refl, ◌∙◌, arith}
 use Rattle.std.specs.Prelude.{IfSome}
 use Rattle.std.specs.Option.{ForSome}
 use Rattle.std.proofs.Math.Nat.{mul-mod_right}
@@ -68,3 +68,10 @@ returns-in-Err-clause-cause g c =
     (g.R.Reader.faults c.args.reader.now) (g.R.Reader.faults c.read_front.new.reader) c.of_table-in-Err.ensures.memory c.of_table-in-Err.ensures.table
     (λ other. front-bad c.deref.result.now l c.row_count.result c.len-len.result c.min.result c.args.lengths.now.items (g.L.Leaf.contents c.args.leaf.now) c.args.file c.in-Err.fault is (c.in-Err.ensures.fault other))
     refl c.in_ok-read_front.ensures.quiet
+
+pub returns-in_ok-of_table-in-Ok-clause-asked : goal.returns-in_ok-of_table-in-Ok-clause-asked
+returns-in_ok-of_table-in-Ok-clause-asked g c = record {
+  bytes = c.min.result;
+  few = omega (arith, c.min.ensures, c.table_len.ensures.value);
+  asked = c.in_ok-read_front.ensures.asked;
+}

@@ -1,12 +1,16 @@
-use Rattle.std.proofs.Common.{◌≡◌, ℕ, ◌+◌, ◌%◌, ◌^◌, ◌++◌, ◌∷◌, [], List, Some, length, length-append, refl, sym, ap, subst, ◌∙◌, arith}
+use Rattle.std.proofs.Common.{◌≡◌, ℕ, ◌+◌, ◌*◌, ◌%◌, ◌^◌, ◌++◌, ◌∷◌, [], List, Some, length, length-append, refl, sym, ap, subst, ◌∙◌, arith}
 use Rattle.std.specs.Prelude.{IfSome, Option, slice_get}
 use Rattle.std.specs.Option.{ForSome}
 use Rattle.std.proofs.lemmas.List.{map-append}
 use Rattle.idx_outside.specs.Files.{entry_shown, shown}
 use Rattle.idx_table.specs.declared.row.Row.{Row}
+use Rattle.idx_table.specs.Table.{table_bytes}
+use Rattle.idx_layout.specs.Files.{row_count}
 use Rattle.idx_layout.specs.OfHeader.{layout_of}
+use Rattle.idx_edition.specs.Asked.{AskedAtMost}
 use Rattle.idx_edition.specs.Tables.{AreTablesOf, EndWithin, IsTable, RiseFrom, TablesValue, has_in_tables, shape_in, stored_in}
 use Rattle.idx_edition.specs.Loaded.{HoldSoFar, HoldsStored}
+use Rattle.idx_edition.proofs.AskedLemmas.{asked_more, asked_none}
 use Rattle.idx_edition.proofs.SoFarLemmas.{files_rise, no_tables, no_leaves, hold_none, hold_skip, hold_more, numbers_skip, numbers_more, tables_more, leaves_more, found_none, found_some, sound_since, reads_more}
 use Rattle.idx_edition.proofs.HeldLemmas.{holds_stored}
 use Rattle.idx_edition.proofs.edition.Edition.open_files.Goals as goal
@@ -26,9 +30,11 @@ loop-file-init g c =
       files = refl;
       header = refl;
       admits = λ path admitted. admitted;
+      changes = refl;
       quiet = refl;
       reader_quiet = refl;
       reads = omega (arith, ap length c.new-leaves.ensures.items);
+      asked = subst (λ (n : ℕ). AskedAtMost (g.R.Reader.asked c.args.reader.now) (g.R.Reader.asked c.args.reader.now) (n * table_bytes (row_count (layout_of h)))) (sym (ap length c.new-leaves.ensures.items)) (asked_none (g.R.Reader.asked c.args.reader.now) (table_bytes (row_count (layout_of h))));
     }
 
 pub loop-file-preserved-in_default : goal.loop-file-preserved-in_default
@@ -53,9 +59,11 @@ loop-file-preserved-in_default g c =
       files = opened.files ∙ before.files;
       header = opened.header ∙ before.header;
       admits = λ path admitted. opened.admits path (before.admits path admitted);
+      changes = opened.changes ∙ before.changes;
       quiet = opened.quiet ∙ before.quiet;
       reader_quiet = opened.reader_quiet ∙ before.reader_quiet;
       reads = ap (λ r. g.R.Reader.reads r % 2 ^ 64) read ∙ before.reads;
+      asked = subst (λ r. AskedAtMost (g.R.Reader.asked c.args.reader.now) (g.R.Reader.asked r) (length c.loop-file.leaves.items * table_bytes (row_count (layout_of h)))) (sym read) before.asked;
     }
 
 pub loop-file-preserved : goal.loop-file-preserved
@@ -95,11 +103,15 @@ loop-file-preserved g c =
       files = opened.files ∙ before.files;
       header = opened.header ∙ before.header;
       admits = λ path admitted. opened.admits path (before.admits path admitted);
+      changes = opened.changes ∙ before.changes;
       quiet = opened.quiet ∙ before.quiet;
       reader_quiet = opened.reader_quiet ∙ before.reader_quiet;
       reads = reads_more (g.R.Reader.reads c.args.reader.now) (g.R.Reader.reads c.loop-file.reader) (g.R.Reader.reads c.open_file.new.reader) (length c.loop-file.leaves.items) before.reads
           (found (λ _. g.R.Reader.reads c.open_file.new.reader ≡ (g.R.Reader.reads c.loop-file.reader + 1) % 2 ^ 64) opened.one_read)
           ∙ ap (λ n. (g.R.Reader.reads c.args.reader.now + n) % 2 ^ 64) (sym (ap length leaves ∙ length-append c.loop-file.leaves.items (leaf ∷ [])));
+      asked = subst (λ (n : ℕ). AskedAtMost (g.R.Reader.asked c.args.reader.now) (g.R.Reader.asked c.open_file.new.reader) (n * table_bytes (row_count (layout_of h)))) (sym (ap length leaves ∙ length-append c.loop-file.leaves.items (leaf ∷ [])))
+          (asked_more (g.R.Reader.asked c.args.reader.now) (g.R.Reader.asked c.loop-file.reader) (g.R.Reader.asked c.open_file.new.reader) (length c.loop-file.leaves.items) (table_bytes (row_count (layout_of h))) before.asked
+          (found (λ _. AskedAtMost (g.R.Reader.asked c.loop-file.reader) (g.R.Reader.asked c.open_file.new.reader) (table_bytes (row_count (layout_of h)))) opened.asked));
     }
 
 pub returns-clause-holds : goal.returns-clause-holds

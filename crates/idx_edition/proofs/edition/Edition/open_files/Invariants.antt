@@ -1,8 +1,12 @@
-use Rattle.std.proofs.Common.{◌≡◌, ℕ, ◌++◌, List, Some, length}
+use Rattle.std.proofs.Common.{◌≡◌, ℕ, ◌*◌, ◌++◌, List, Some, length}
 use Rattle.std.specs.Prelude.{IfSome, slice_get}
 use Rattle.idx_outside.specs.Files.{StillAdmits, shown}
 use Rattle.idx_table.specs.declared.row.Row.{Row}
 use Rattle.idx_outside.specs.Cause.{MadeReads}
+use Rattle.idx_table.specs.Table.{table_bytes}
+use Rattle.idx_layout.specs.Files.{row_count}
+use Rattle.idx_layout.specs.OfHeader.{layout_of}
+use Rattle.idx_edition.specs.Asked.{AskedAtMost}
 use Rattle.idx_edition.specs.Tables.{AreTablesOf, IsTable, RiseFrom}
 use Rattle.idx_edition.specs.Loaded.{HoldSoFar}
 use Rattle.idx_edition.proofs.edition.Edition.open_files.Given as goal
@@ -21,7 +25,9 @@ invariant-loop-file g l =
       files : bay.files l.bay ≡ bay.files l.fn.bay;
       header : bay.header l.bay ≡ bay.header l.fn.bay;
       admits : StillAdmits bay.admits l.fn.bay l.bay;
+      changes : bay.changes l.bay ≡ bay.changes l.fn.bay;
       quiet : bay.faults l.bay ≡ bay.faults l.fn.bay;
       reader_quiet : g.R.Reader.faults l.reader ≡ g.R.Reader.faults l.fn.reader;
       reads : MadeReads (g.R.Reader.reads l.fn.reader) (g.R.Reader.reads l.reader) (length l.leaves.items);
+      asked : AskedAtMost (g.R.Reader.asked l.fn.reader) (g.R.Reader.asked l.reader) (length l.leaves.items * table_bytes (row_count (layout_of l.header)));
     }
