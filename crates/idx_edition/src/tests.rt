@@ -1,4 +1,4 @@
-ghost use Rattle.std.specs.Prelude.{◌≡◌, ◌<◌, length};
+ghost use Rattle.std.specs.Prelude.{◌≡◌};
 ghost use Rattle.idx_layout.specs.Shape.{shape_of};
 ghost use Rattle.idx_edition.specs.Tables.{shape_in};
 
@@ -123,65 +123,59 @@ fn ending(
     Ok((files, reader.reads()))
 }
 
-/// Fetches the blocks of the first field, one after another: their bytes, and which of them were read.
+/// Fetches a block of the first field, which has four bytes.
 fn fetched(
-    alloc: Global,
+    rt: &impl Abort,
     header: &Header,
     step: &Edition<MemLeaf>,
     reader: &mut MemReader,
-) -> Result<(Vec<u8>, Vec<Fetched>), Fail>
-    requires some { 0 < length header.now.fields }
-    requires shape { shape_in step.now.tables ≡ shape_of header.now }
+    block: u64,
+) -> Result<(Fetched, [u8; 4]), Fail>
+    requires { shape_in step.now.tables ≡ shape_of header.now }
 {
-    let mut all = Vec::new(alloc);
-    let mut ways = Vec::new(alloc);
-    for block in 0..header.block_count() {
-        let mut bytes = vec![in alloc; 9u8; header.block_bytes(0) as usize]?;
-        ways.push(step.fetch(reader, 0, block, &mut bytes)?)?;
-        all.extend_from_slice(&bytes)?;
-    }
-    Ok((all, ways))
+    let mut bytes = [9; 4];
+    assert!(rt; block < header.block_count());
+    assert!(rt; header.field_count() > 0);
+    assert!(rt; header.block_bytes(0) == 4);
+    let fetched = step.fetch(reader, 0, block, &mut bytes)?;
+    Ok((fetched, bytes))
 }
 
-/// What a step is read as whose second file is there or not: the bytes of its blocks, which of them were read, and how many
-/// reads there were.
+/// The four blocks of a step whose second file is there or not, how each came, and how many reads there were.
 fn read_back(
     alloc: Global,
     rt: &impl Abort,
     second: bool,
-) -> Result<(Vec<u8>, Vec<Fetched>, u64), Fail> {
+) -> Result<([(Fetched, [u8; 4]); 4], u64), Fail> {
     let header = Header::read(alloc, HEADER).ok().expect(rt, "a header");
     let mut reader = MemReader::new(Vec::new(alloc));
     let mut bay = bay_of(alloc, Damage { second, ..WHOLE }, 0)?;
     let loaded = Edition::load(alloc, &header, 0, &mut bay, &mut reader)?;
     let step = loaded.expect(rt, "a step");
-    assert!(rt; header.field_count() > 0);
-    let (bytes, ways) = fetched(alloc, &header, &step, &mut reader)?;
-    Ok((bytes, ways, reader.reads()))
+    let blocks = [
+        fetched(rt, &header, &step, &mut reader, 0)?,
+        fetched(rt, &header, &step, &mut reader, 1)?,
+        fetched(rt, &header, &step, &mut reader, 2)?,
+        fetched(rt, &header, &step, &mut reader, 3)?,
+    ];
+    Ok((blocks, reader.reads()))
 }
 
 #[test]
 fn a_step_is_read_block_by_block(rt: HostRuntime) -> Result<(), Fail> {
-    let (bytes, ways, reads) = read_back(rt.alloc(), &rt, true)?;
-    assert_eq!(rt; bytes.as_slice(), BLOCKS.as_flattened());
-    assert_eq!(rt; ways.as_slice(), [Fetched::Read; 4].as_slice());
-    assert_eq!(rt; reads, 6);
+    let read = BLOCKS.map(|bytes| (Fetched::Read, bytes));
+    assert_eq!(rt; read_back(rt.alloc(), &rt, true)?, (read, 6));
     Ok(())
 }
 
 #[test]
 fn blocks_of_a_missing_file_are_zeros(rt: HostRuntime) -> Result<(), Fail> {
-    let (bytes, ways, reads) = read_back(rt.alloc(), &rt, false)?;
-    let first = [0, 2, 8, 10, 1, 9, 3, 11, 0, 0, 0, 0, 0, 0, 0, 0];
-    assert_eq!(rt; bytes.as_slice(), first.as_slice());
-    let came = [
-        Fetched::Read,
-        Fetched::Read,
-        Fetched::Absent,
-        Fetched::Absent,
-    ];
-    assert_eq!(rt; ways.as_slice(), came.as_slice());
-    assert_eq!(rt; reads, 3);
+    let [first, second, ..] = BLOCKS.map(|bytes| (Fetched::Read, bytes));
+    let absent = (Fetched::Absent, [0; 4]);
+    assert_eq!(rt;
+        read_back(rt.alloc(), &rt, false)?,
+        ([first, second, absent, absent], 3)
+    );
     Ok(())
 }
 
