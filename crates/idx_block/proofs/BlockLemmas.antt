@@ -20,7 +20,7 @@ use Rattle.idx_block.specs.Stored.{stored}
 use Rattle.idx_lanes.specs.Copies.{IsRight, IsWanted, IsWithin}
 use Rattle.idx_lanes.specs.Lanes.{AreCopied, AreNumbers, byte_at, place_at}
 use Rattle.idx_lanes.proofs.CopyLemmas.{all-right}
-use Rattle.idx_lanes.proofs.SettingLemmas.{IsSetting, byte-point, in_block, in_region, numbers-of, place-point, point_of}
+use Rattle.idx_lanes.proofs.SettingLemmas.{IsSetting, byte-point, in_block, in_region, numbers-of, place-point, point_by}
 use Rattle.idx_block.proofs.StoredLemmas.{stored-none, stored-point}
 
 -- ---- which points are in a box
@@ -97,13 +97,13 @@ module _ (part : BlockPart) (box : List (ℕ × ℕ)) (grid : Grid) (block : ℕ
   pub copies-wanted : (ks : ℕ → ℕ) → AreNumbers part (length part.region) ks → IsWanted (wanted part.mask part.region part.bits block part.size raw) part.size raw (byte_at part (length part.region) ks) (place_at part (length part.region) ks)
   copies-wanted ks are =
       ap (λ n. take part.size (drop n raw)) (sym (byte-point part box grid block is ks are))
-      ∙ sym (stored-point part.mask part.region part.size raw (point_of part ks) is.has (in_region part box grid block is ks are))
+      ∙ sym (stored-point part.mask part.region part.size raw (point_by part ks) is.has (in_region part box grid block is ks are))
       ∙ ap (stored part.mask part.region part.size raw) (place-point part box grid block is ks are)
 
   -- each copy is within the raw samples and the block
   pub copies-within : (old : List ℕ) → length old ≡ part.size * 2 ^ part.bits → (ks : ℕ → ℕ) → AreNumbers part (length part.region) ks → IsWithin part.size raw old (byte_at part (length part.region) ks) (place_at part (length part.region) ks)
   copies-within old room ks are =
-      let p : List ℕ = point_of part ks in
+      let p : List ℕ = point_by part ks in
       let place : ℕ = place_at part (length part.region) ks in
       let below : place_of part.region p + 1 ≤ length (points part.region) = omega (arith, place_of-lt part.region p (in_region part box grid block is ks are), length-points part.region) in
       let bytes : (place_of part.region p + 1) * part.size ≤ length (points part.region) * part.size = mul-le-mul_right part.size below in

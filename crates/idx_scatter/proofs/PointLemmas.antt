@@ -14,7 +14,7 @@ use Rattle.idx_grid.specs.Block.{IsInBlock}
 use Rattle.idx_lanes.specs.declared.block_part.BlockPart.{BlockPart}
 use Rattle.idx_lanes.specs.Copies.{IsRight}
 use Rattle.idx_lanes.specs.Lanes.{AreNumbers, byte_at, place_at}
-use Rattle.idx_lanes.proofs.SettingLemmas.{IsSetting, byte-point, in_block, in_region, numbers-of, place-point, point_of}
+use Rattle.idx_lanes.proofs.SettingLemmas.{IsSetting, byte-point, in_block, in_region, numbers-of, place-point, point_by}
 use Rattle.idx_scatter.specs.Asked.{Asked, asked_before, asked_points}
 use Rattle.idx_scatter.specs.Moves.{AreMovedBy, IsAsked, IsThere}
 use Rattle.idx_scatter.specs.Scatter.{IsScattered, is_in_block, put_of_block, sample_of}
@@ -56,34 +56,34 @@ module _ (lo hi : ℕ) (part : BlockPart) (box : List (ℕ × ℕ)) (grid : Grid
   here = record { mask = part.mask; region = part.region; lo = lo; hi = hi }
 
   -- a move goes to its point's place
-  at-point : (ks : ℕ → ℕ) → AreNumbers part (length part.region) ks → place_of part.region (point_of part ks) ≡ byte_at part (length part.region) ks
+  at-point : (ks : ℕ → ℕ) → AreNumbers part (length part.region) ks → place_of part.region (point_by part ks) ≡ byte_at part (length part.region) ks
   at-point ks are =
-      let one : 1 * place_of part.region (point_of part ks) ≡ place_of part.region (point_of part ks) = omega arith in
-      sym one ∙ ap (λ n. n * place_of part.region (point_of part ks)) (sym move.unit) ∙ byte-point part box grid block is ks are
+      let one : 1 * place_of part.region (point_by part ks) ≡ place_of part.region (point_by part ks) = omega arith in
+      sym one ∙ ap (λ n. n * place_of part.region (point_by part ks)) (sym move.unit) ∙ byte-point part box grid block is ks are
 
   small : (ks : ℕ → ℕ) → AreNumbers part (length part.region) ks → place_at part (length part.region) ks < 2 ^ part.bits
   small ks are =
-      below_block (hz_address part.mask (point_of part ks)) block (2 ^ part.bits) (place_at part (length part.region) ks) (pow_pos part.bits) (place-point part box grid block is ks are) (in_block part box grid block is ks are).address
+      below_block (hz_address part.mask (point_by part ks)) block (2 ^ part.bits) (place_at part (length part.region) ks) (pow_pos part.bits) (place-point part box grid block is ks are) (in_block part box grid block is ks are).address
 
   -- and comes from the place of its address
-  place-address : (ks : ℕ → ℕ) → AreNumbers part (length part.region) ks → hz_address part.mask (point_of part ks) % 2 ^ part.bits ≡ place_at part (length part.region) ks
+  place-address : (ks : ℕ → ℕ) → AreNumbers part (length part.region) ks → hz_address part.mask (point_by part ks) % 2 ^ part.bits ≡ place_at part (length part.region) ks
   place-address ks are =
       ap (λ n. n % 2 ^ part.bits) (place-point part box grid block is ks are) ∙ mod-mul-add block (2 ^ part.bits) (place_at part (length part.region) ks) (small ks are)
 
   -- its point is asked for
-  has_asked : (ks : ℕ → ℕ) → AreNumbers part (length part.region) ks → has_level part.mask lo hi (point_of part ks) ≡ true
+  has_asked : (ks : ℕ → ℕ) → AreNumbers part (length part.region) ks → has_level part.mask lo hi (point_by part ks) ≡ true
   has_asked ks are =
-      ap (λ n. nat_le lo n && nat_le n hi) (is.level_is (point_of part ks) (in_block part box grid block is ks are)) ∙ move.asked
+      ap (λ n. nat_le lo n && nat_le n hi) (is.level_is (point_by part ks) (in_block part box grid block is ks are)) ∙ move.asked
 
-  stands : (ks : ℕ → ℕ) → AreNumbers part (length part.region) ks → slice_get (asked_points here) (asked_before here (byte_at part (length part.region) ks)) ≡ Some (point_of part ks)
+  stands : (ks : ℕ → ℕ) → AreNumbers part (length part.region) ks → slice_get (asked_points here) (asked_before here (byte_at part (length part.region) ks)) ≡ Some (point_by part ks)
   stands ks are =
       ap (λ o. slice_get (asked_points here) (asked_before here o)) (sym (at-point ks are))
-      ∙ asked-at here (point_of part ks) (in_region part box grid block is ks are) (has_asked ks are)
+      ∙ asked-at here (point_by part ks) (in_region part box grid block is ks are) (has_asked ks are)
 
   -- what is moved is what the places are to hold
   pub moves-asked : (ks : ℕ → ℕ) → AreNumbers part (length part.region) ks → IsAsked here (wanted here part.bits block size samples old) size samples (byte_at part (length part.region) ks) (place_at part (length part.region) ks)
   moves-asked ks are =
-      let p : List ℕ = point_of part ks in
+      let p : List ℕ = point_by part ks in
       let o : ℕ = asked_before here (byte_at part (length part.region) ks) in
       let same : is_in_block part.mask part.bits block p ≡ true = eq-eqb (hz_address part.mask p / 2 ^ part.bits) block (in_block part box grid block is ks are).address in
       ap (sample_of size samples) (sym (place-address ks are))
@@ -93,7 +93,7 @@ module _ (lo hi : ℕ) (part : BlockPart) (box : List (ℕ × ℕ)) (grid : Grid
   -- each move is within the block and the places
   pub moves-there : (ks : ℕ → ℕ) → AreNumbers part (length part.region) ks → IsThere here size samples old (byte_at part (length part.region) ks) (place_at part (length part.region) ks)
   moves-there ks are =
-      let p : List ℕ = point_of part ks in
+      let p : List ℕ = point_by part ks in
       let at : ℕ = byte_at part (length part.region) ks in
       let place : ℕ = place_at part (length part.region) ks in
       let within : asked_before here at + 1 ≤ length (asked_points here) =

@@ -4,7 +4,7 @@ use Rattle.idx_geom.specs.Region.{HoldsAll, IsRegion}
 use Rattle.idx_grid.proofs.GridLemmas.{lower_at}
 use Rattle.idx_grid.specs.LevelGrid.{IsGridAt}
 use Rattle.idx_grid.specs.declared.grid.Grid.{Grid}
-use Rattle.idx_lanes.specs.Axis.{start_of}
+use Rattle.idx_lanes.specs.Axis.{first_from}
 use Rattle.idx_lanes.specs.Lanes.{bounds_on}
 use Rattle.idx_lanes.specs.declared.block_part.BlockPart.{BlockPart}
 use Rattle.idx_lanes.proofs.LanesLemmas.{AreFound, AreOn, bounds-part, grid-on, lowest-lt, same_axes-part, start-found}
@@ -42,7 +42,7 @@ found c =
       bounds = refl;
       lowest = c.get-2.ensures.value ∙ are.first;
       pace = c.get-step.ensures.value ∙ are.step;
-      start_is = c.first_from-start.ensures.value ∙ ap (λ n. start_of n c.get-2.result c.get-step.result) (low c);
+      start_is = c.first_from-start.ensures.value ∙ ap (λ n. first_from n c.get-2.result c.get-step.result) (low c);
     }
 
 pub overflow_sub-result : goal.overflow_sub-result
