@@ -24,14 +24,17 @@ use Rattle.idx_scatter.proofs.AskedLemmas.{IsAskedAt, asked-at, asked-from, aske
 abbrev pub wanted : Asked → ℕ → ℕ → ℕ → List ℕ → List ℕ → ℕ → List ℕ
 wanted a bits block size samples old place = put_of_block a bits block size samples old place (get_or (asked_points a) place [])
 
-wanted-point : (a : Asked) (bits block size : ℕ) (samples old : List ℕ) (place : ℕ) (p : List ℕ) → slice_get (asked_points a) place ≡ Some p → wanted a bits block size samples old place ≡ put_of_block a bits block size samples old place p
+wanted-point : (a : Asked) (bits block size : ℕ) (samples old : List ℕ) (place : ℕ) (p : List ℕ) → slice_get (asked_points a) place ≡ Some p →
+    wanted a bits block size samples old place ≡ put_of_block a bits block size samples old place p
 wanted-point a bits block size samples old place p is = ap (put_of_block a bits block size samples old place) (asked-get_or a place p is)
 
-put-in_block : (a : Asked) (bits block size : ℕ) (samples old : List ℕ) (place : ℕ) (p : List ℕ) → is_in_block a.mask bits block p ≡ true → put_of_block a bits block size samples old place p ≡ sample_of size samples (hz_address a.mask p % 2 ^ bits)
+put-in_block : (a : Asked) (bits block size : ℕ) (samples old : List ℕ) (place : ℕ) (p : List ℕ) → is_in_block a.mask bits block p ≡ true →
+    put_of_block a bits block size samples old place p ≡ sample_of size samples (hz_address a.mask p % 2 ^ bits)
 put-in_block a bits block size samples old place p is =
     ap (λ (b : Bool). cond b (sample_of size samples (hz_address a.mask p % 2 ^ bits)) (sample_of size old place)) is
 
-put-outside : (a : Asked) (bits block size : ℕ) (samples old : List ℕ) (place : ℕ) (p : List ℕ) → is_in_block a.mask bits block p ≡ false → put_of_block a bits block size samples old place p ≡ sample_of size old place
+put-outside : (a : Asked) (bits block size : ℕ) (samples old : List ℕ) (place : ℕ) (p : List ℕ) → is_in_block a.mask bits block p ≡ false →
+    put_of_block a bits block size samples old place p ≡ sample_of size old place
 put-outside a bits block size samples old place p is =
     ap (λ (b : Bool). cond b (sample_of size samples (hz_address a.mask p % 2 ^ bits)) (sample_of size old place)) is
 
@@ -51,7 +54,8 @@ pub record IsMove (a : Asked) (part : BlockPart) (size : ℕ) (samples old : Lis
   pub read : length samples ≡ size * 2 ^ part.bits
   pub room : length old ≡ size * length (asked_points a)
 
-module _ (lo hi : ℕ) (part : BlockPart) (box : List (ℕ × ℕ)) (grid : Grid) (block size : ℕ) (samples old : List ℕ) (is : IsSetting part box grid block) (move : IsMove (record { mask = part.mask; region = part.region; lo = lo; hi = hi }) part size samples old) where
+module _ (lo hi : ℕ) (part : BlockPart) (box : List (ℕ × ℕ)) (grid : Grid) (block size : ℕ) (samples old : List ℕ) (is : IsSetting part box grid block)
+    (move : IsMove (record { mask = part.mask; region = part.region; lo = lo; hi = hi }) part size samples old) where
   abbrev here : Asked
   here = record { mask = part.mask; region = part.region; lo = lo; hi = hi }
 
@@ -63,7 +67,8 @@ module _ (lo hi : ℕ) (part : BlockPart) (box : List (ℕ × ℕ)) (grid : Grid
 
   small : (ks : ℕ → ℕ) → AreNumbers part (length part.region) ks → place_at part (length part.region) ks < 2 ^ part.bits
   small ks are =
-      below_block (hz_address part.mask (point_by part ks)) block (2 ^ part.bits) (place_at part (length part.region) ks) (pow_pos part.bits) (place-point part box grid block is ks are) (in_block part box grid block is ks are).address
+      below_block (hz_address part.mask (point_by part ks)) block (2 ^ part.bits) (place_at part (length part.region) ks) (pow_pos part.bits) (place-point part box grid block is ks are)
+      (in_block part box grid block is ks are).address
 
   -- and comes from the place of its address
   place-address : (ks : ℕ → ℕ) → AreNumbers part (length part.region) ks → hz_address part.mask (point_by part ks) % 2 ^ part.bits ≡ place_at part (length part.region) ks
@@ -81,7 +86,8 @@ module _ (lo hi : ℕ) (part : BlockPart) (box : List (ℕ × ℕ)) (grid : Grid
       ∙ asked-at here (point_by part ks) (in_region part box grid block is ks are) (has_asked ks are)
 
   -- what is moved is what the places are to hold
-  pub moves-asked : (ks : ℕ → ℕ) → AreNumbers part (length part.region) ks → IsAsked here (wanted here part.bits block size samples old) size samples (byte_at part (length part.region) ks) (place_at part (length part.region) ks)
+  pub moves-asked : (ks : ℕ → ℕ) → AreNumbers part (length part.region) ks →
+      IsAsked here (wanted here part.bits block size samples old) size samples (byte_at part (length part.region) ks) (place_at part (length part.region) ks)
   moves-asked ks are =
       let p : List ℕ = point_by part ks in
       let o : ℕ = asked_before here (byte_at part (length part.region) ks) in
@@ -131,7 +137,8 @@ module _ (lo hi : ℕ) (part : BlockPart) (box : List (ℕ × ℕ)) (grid : Grid
           moved.kept i right ∙ wanted-point here part.bits block size samples old i p at
 
 -- where no point that is asked for is in the block, nothing changes
-pub none-scattered : (a : Asked) (bits block size : ℕ) (samples old : List ℕ) → ((p : List ℕ) → LiesIn a.region p → has_level a.mask a.lo a.hi p ≡ true → hz_address a.mask p / 2 ^ bits ≡ block → ⊥) → IsScattered a bits block size samples old old
+pub none-scattered : (a : Asked) (bits block size : ℕ) (samples old : List ℕ) →
+    ((p : List ℕ) → LiesIn a.region p → has_level a.mask a.lo a.hi p ≡ true → hz_address a.mask p / 2 ^ bits ≡ block → ⊥) → IsScattered a bits block size samples old old
 none-scattered a bits block size samples old none i p at = by_test (is_in_block a.mask bits block p) refl
   where
     by_test : (b : Bool) → is_in_block a.mask bits block p ≡ b → sample_of size old i ≡ put_of_block a bits block size samples old i p
