@@ -20,7 +20,7 @@ use Rattle.idx_block.specs.Stored.{stored}
 use Rattle.idx_lanes.specs.Copies.{IsRight, IsWanted, IsWithin}
 use Rattle.idx_lanes.specs.Lanes.{AreCopied, AreNumbers, byte_at, place_at}
 use Rattle.idx_lanes.proofs.CopyLemmas.{all-right}
-use Rattle.idx_lanes.proofs.SettingLemmas.{IsSetting, byte-point, in_block, in_region, numbers-of, place-point, point_of}
+use Rattle.idx_lanes.proofs.SettingLemmas.{IsSetting, byte-point, in_block, in_region, numbers-of, place-point, point_by}
 use Rattle.idx_block.proofs.StoredLemmas.{stored-none, stored-point}
 
 -- ---- which points are in a box
@@ -71,7 +71,8 @@ point-at mask axes bits block place named small within =
     )
 
 -- where it is outside of the volume's box, the place holds zeros
-pub outside-none : (mask : List ℕ) (region : List (ℕ × ℕ)) (bits block place size : ℕ) (raw p : List ℕ) → ((q : List ℕ) → LiesIn region q → HasAddress mask q) → IsAt mask (length region) bits block place p → (LiesIn region p → ⊥) →
+pub outside-none : (mask : List ℕ) (region : List (ℕ × ℕ)) (bits block place size : ℕ) (raw p : List ℕ) → ((q : List ℕ) → LiesIn region q → HasAddress mask q) →
+    IsAt mask (length region) bits block place p → (LiesIn region p → ⊥) →
     stored mask region size raw (block * 2 ^ bits + place) ≡ replicate size 0
 outside-none mask region bits block place size raw p has at out =
     stored-none mask region size raw (block * 2 ^ bits + place) (λ q inside address.
@@ -80,7 +81,8 @@ outside-none mask region bits block place size raw p has at out =
 
 -- ---- a block
 
-zero-right : (mask : List ℕ) (region : List (ℕ × ℕ)) (bits block size place : ℕ) (raw p old : List ℕ) → ((q : List ℕ) → LiesIn region q → HasAddress mask q) → IsAt mask (length region) bits block place p → (LiesIn region p → ⊥) →
+zero-right : (mask : List ℕ) (region : List (ℕ × ℕ)) (bits block size place : ℕ) (raw p old : List ℕ) → ((q : List ℕ) → LiesIn region q → HasAddress mask q) →
+    IsAt mask (length region) bits block place p → (LiesIn region p → ⊥) →
     length old ≡ size * 2 ^ bits → place < 2 ^ bits → old ≡ replicate (length old) 0 → IsRight (λ o. stored mask region size raw (block * 2 ^ bits + o)) size old place
 zero-right mask region bits block size place raw p old has at out room within zeros =
     let le : place + 1 ≤ 2 ^ bits = omega (arith, within) in
@@ -94,23 +96,33 @@ wanted mask region bits block size raw place = stored mask region size raw (bloc
 
 module _ (part : BlockPart) (box : List (ℕ × ℕ)) (grid : Grid) (block : ℕ) (raw : List ℕ) (is : IsSetting part box grid block) (whole : length raw ≡ part.size * length (points part.region)) where
   -- what is copied is what the places are to hold
-  pub copies-wanted : (ks : ℕ → ℕ) → AreNumbers part (length part.region) ks → IsWanted (wanted part.mask part.region part.bits block part.size raw) part.size raw (byte_at part (length part.region) ks) (place_at part (length part.region) ks)
+  pub copies-wanted : (ks : ℕ → ℕ) → AreNumbers part (length part.region) ks →
+      IsWanted (wanted part.mask part.region part.bits block part.size raw) part.size raw (byte_at part (length part.region) ks) (place_at part (length part.region) ks)
   copies-wanted ks are =
       ap (λ n. take part.size (drop n raw)) (sym (byte-point part box grid block is ks are))
-      ∙ sym (stored-point part.mask part.region part.size raw (point_of part ks) is.has (in_region part box grid block is ks are))
+      ∙ sym (stored-point part.mask part.region part.size raw (point_by part ks) is.has (in_region part box grid block is ks are))
       ∙ ap (stored part.mask part.region part.size raw) (place-point part box grid block is ks are)
 
   -- each copy is within the raw samples and the block
-  pub copies-within : (old : List ℕ) → length old ≡ part.size * 2 ^ part.bits → (ks : ℕ → ℕ) → AreNumbers part (length part.region) ks → IsWithin part.size raw old (byte_at part (length part.region) ks) (place_at part (length part.region) ks)
+  pub copies-within : (old : List ℕ) → length old ≡ part.size * 2 ^ part.bits → (ks : ℕ → ℕ) → AreNumbers part (length part.region) ks →
+      IsWithin part.size raw old (byte_at part (length part.region) ks) (place_at part (length part.region) ks)
   copies-within old room ks are =
-      let p : List ℕ = point_of part ks in
+      let p : List ℕ = point_by part ks in
       let place : ℕ = place_at part (length part.region) ks in
       let below : place_of part.region p + 1 ≤ length (points part.region) = omega (arith, place_of-lt part.region p (in_region part box grid block is ks are), length-points part.region) in
       let bytes : (place_of part.region p + 1) * part.size ≤ length (points part.region) * part.size = mul-le-mul_right part.size below in
       let inside = in_block part box grid block is ks are in
       let small : place < 2 ^ part.bits = below_block (hz_address part.mask p) block (2 ^ part.bits) place (pow_pos part.bits) (place-point part box grid block is ks are) inside.address in
       let le : place + 1 ≤ 2 ^ part.bits = omega (arith, small) in (
-        omega (arith, whole, bytes, byte-point part box grid block is ks are, one_more (place_of part.region p) part.size, mul_comm (place_of part.region p) part.size, mul_comm (length (points part.region)) part.size),
+        omega (
+          arith,
+          whole,
+          bytes,
+          byte-point part box grid block is ks are,
+          one_more (place_of part.region p) part.size,
+          mul_comm (place_of part.region p) part.size,
+          mul_comm (length (points part.region)) part.size,
+        ),
         omega (arith, room, mul-le-mul_right part.size le, mul_comm (2 ^ part.bits) part.size),
       )
     where
@@ -123,8 +135,10 @@ module _ (part : BlockPart) (box : List (ℕ × ℕ)) (grid : Grid) (block : ℕ
           omega (arith, parts, is, ap (λ m. m * n) same, mod-lt a some)
 
   -- each place is right
-  pub places-right : (old new : List ℕ) → block * 2 ^ part.bits + 2 ^ part.bits ≤ 2 ^ length part.mask → length old ≡ part.size * 2 ^ part.bits → ((HoldsAll part.region box → ⊥) → old ≡ replicate (length old) 0) →
-      AreCopied (wanted part.mask part.region part.bits block part.size raw) part (length part.region) old new → (place : ℕ) → place < 2 ^ part.bits → IsRight (wanted part.mask part.region part.bits block part.size raw) part.size new place
+  pub places-right : (old new : List ℕ) → block * 2 ^ part.bits + 2 ^ part.bits ≤ 2 ^ length part.mask → length old ≡ part.size * 2 ^ part.bits →
+      ((HoldsAll part.region box → ⊥) → old ≡ replicate (length old) 0) →
+      AreCopied (wanted part.mask part.region part.bits block part.size raw) part (length part.region) old new → (place : ℕ) → place < 2 ^ part.bits →
+      IsRight (wanted part.mask part.region part.bits block part.size raw) part.size new place
   places-right old new exists room cleared copied place within =
       let want : ℕ → List ℕ = wanted part.mask part.region part.bits block part.size raw in
       let found = point-at part.mask (length part.region) part.bits block place is.named (omega (arith, exists, within)) within in
@@ -142,14 +156,17 @@ module _ (part : BlockPart) (box : List (ℕ × ℕ)) (grid : Grid) (block : ℕ
       (cases_in part.region p)
 
   -- the block is made
-  pub block-made : (old new : List ℕ) → block * 2 ^ part.bits + 2 ^ part.bits ≤ 2 ^ length part.mask → length old ≡ part.size * 2 ^ part.bits → length new ≡ length old → ((HoldsAll part.region box → ⊥) → old ≡ replicate (length old) 0) →
-      AreCopied (wanted part.mask part.region part.bits block part.size raw) part (length part.region) old new → new ≡ flat_map (stored part.mask part.region part.size raw) (range_with_len (block * 2 ^ part.bits) (2 ^ part.bits))
+  pub block-made : (old new : List ℕ) → block * 2 ^ part.bits + 2 ^ part.bits ≤ 2 ^ length part.mask → length old ≡ part.size * 2 ^ part.bits → length new ≡ length old →
+      ((HoldsAll part.region box → ⊥) → old ≡ replicate (length old) 0) →
+      AreCopied (wanted part.mask part.region part.bits block part.size raw) part (length part.region) old new →
+      new ≡ flat_map (stored part.mask part.region part.size raw) (range_with_len (block * 2 ^ part.bits) (2 ^ part.bits))
   block-made old new exists room long cleared copied =
       all-right (stored part.mask part.region part.size raw) part.size (2 ^ part.bits) (block * 2 ^ part.bits) new (omega (arith, long, room, mul_comm part.size (2 ^ part.bits)))
       (places-right old new exists room cleared copied)
 
 -- where no point of the volume's box is in the block's, all places hold zeros
-pub block-none : (mask : List ℕ) (region box : List (ℕ × ℕ)) (grid : Grid) (bits block size : ℕ) (raw old : List ℕ) → NamesAxes mask (length region) → ((q : List ℕ) → LiesIn region q → HasAddress mask q) →
+pub block-none : (mask : List ℕ) (region box : List (ℕ × ℕ)) (grid : Grid) (bits block size : ℕ) (raw old : List ℕ) → NamesAxes mask (length region) →
+    ((q : List ℕ) → LiesIn region q → HasAddress mask q) →
     ((p : List ℕ) → IsInBlock mask (length region) bits block p ↔ (LiesIn box p × LiesOn grid p)) → ((p : List ℕ) → LiesIn region p → LiesIn box p → ⊥) →
     block * 2 ^ bits + 2 ^ bits ≤ 2 ^ length mask → length old ≡ size * 2 ^ bits → ((HoldsAll region box → ⊥) → old ≡ replicate (length old) 0) →
     old ≡ flat_map (stored mask region size raw) (range_with_len (block * 2 ^ bits) (2 ^ bits))

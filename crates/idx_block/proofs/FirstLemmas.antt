@@ -9,7 +9,8 @@ use Rattle.idx_layout.proofs.ListLemmas.{range-split}
 use Rattle.idx_lanes.proofs.LevelLemmas.{double}
 
 -- one level more
-pub level-more : (want : ℕ → List ℕ) (size level filled n : ℕ) (old piece : List ℕ) → filled ≡ size * 2 ^ level → n ≡ filled → length piece ≡ filled → filled ≤ length old → take filled old ≡ flat_map want (range_with_len 0 (2 ^ level)) →
+pub level-more : (want : ℕ → List ℕ) (size level filled n : ℕ) (old piece : List ℕ) → filled ≡ size * 2 ^ level → n ≡ filled → length piece ≡ filled → filled ≤ length old →
+    take filled old ≡ flat_map want (range_with_len 0 (2 ^ level)) →
     piece ≡ flat_map want (range_with_len (1 * 2 ^ level) (2 ^ level)) → take (filled * 2) (put_mid filled n old piece) ≡ flat_map want (range_with_len 0 (2 ^ (level + 1)))
 level-more want size level filled n old piece front same long room before is =
     let m : ℕ = 2 ^ level in

@@ -28,7 +28,8 @@ steps : (k j s : ℕ) → (k + j) * s ≡ k * s + j * s
 steps k j s = grind arith
 
 -- what holds of each copy along two lanes holds of each along the faster one and some coordinates of the slower one
-pub each-some : (P : ℕ → ℕ → Type 0) (slower lane : Lane) (from place k n part : ℕ) → k + n ≤ slower.count → part ≡ part_after slower.bits slower.first k → EachCopy P (slower ∷ (lane ∷ [])) from place →
+pub each-some : (P : ℕ → ℕ → Type 0) (slower lane : Lane) (from place k n part : ℕ) → k + n ≤ slower.count → part ≡ part_after slower.bits slower.first k →
+    EachCopy P (slower ∷ (lane ∷ [])) from place →
     EachCopy P (lane ∷ (some_of slower n part ∷ [])) (from + k * slower.step) place
 each-some P slower lane from place k n part within is each = λ i i_lt j j_lt.
     let here : part_after slower.bits part j ≡ part_after slower.bits slower.first (k + j) = ap (λ p. part_after slower.bits p j) is ∙ part_after-add slower.bits slower.first k j in
@@ -38,17 +39,20 @@ each-some P slower lane from place k n part within is each = λ i i_lt j j_lt.
 
 -- the copies at some coordinates more
 pub so_far-some : (want : ℕ → List ℕ) (size : ℕ) (slower lane : Lane) (from place k n part : ℕ) (old mid new : List ℕ) → part ≡ part_after slower.bits slower.first k →
-    AreSoFar want size slower (lane ∷ []) from place k old mid → AreMade want size (lane ∷ (some_of slower n part ∷ [])) (from + k * slower.step) place mid new → AreSoFar want size slower (lane ∷ []) from place (k + n) old new
+    AreSoFar want size slower (lane ∷ []) from place k old mid → AreMade want size (lane ∷ (some_of slower n part ∷ [])) (from + k * slower.step) place mid new →
+    AreSoFar want size slower (lane ∷ []) from place (k + n) old new
 so_far-some want size slower lane from place k n part old mid new is before more = record {
   kept = λ o h. more.kept o (before.kept o h);
   placed = λ m m_lt. elim (cases_lt m k) [
-    | inl less ↦ each-implied (λ f o. IsRight want size mid o) (λ f o. IsRight want size new o) (λ f o. more.kept o) (lane ∷ []) (from + m * slower.step) (place + part_after slower.bits slower.first m) (before.placed m less)
+    | inl less ↦ each-implied (λ f o. IsRight want size mid o) (λ f o. IsRight want size new o) (λ f o. more.kept o) (lane ∷ []) (from + m * slower.step)
+        (place + part_after slower.bits slower.first m) (before.placed m less)
     | inr ge ↦ λ i i_lt.
         let j : ℕ = m - k in
         let whole : k + j ≡ m = omega (arith, ge) in
         let here : part_after slower.bits part j ≡ part_after slower.bits slower.first m =
         ap (λ p. part_after slower.bits p j) is ∙ part_after-add slower.bits slower.first k j ∙ ap (part_after slower.bits slower.first) whole in
-        let place_is : place + part_after lane.bits lane.first i + part_after slower.bits part j ≡ place + part_after slower.bits slower.first m + part_after lane.bits lane.first i = omega (arith, here) in
+        let place_is : place + part_after lane.bits lane.first i + part_after slower.bits part j ≡ place + part_after slower.bits slower.first m + part_after lane.bits lane.first i =
+        omega (arith, here) in
         subst (λ (o : ℕ). IsRight want size new o) place_is (more.placed i i_lt j (omega (arith, ge, m_lt)))
   ];
 }

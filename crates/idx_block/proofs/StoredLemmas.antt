@@ -26,7 +26,8 @@ pub find_some : {X : Type 0} (test : X → Bool) (xs : List X) (k : ℕ) (x : X)
 find_some {X = X} test [] k x e passes = let wrong : ◌≡◌ {A = Option X} None (Some x) = e in cc
 find_some {X = X} test (y ∷ ys) k x e passes = by_test (λ k e. find_some test ys k x e passes) (test y) refl k e
   where
-    by_test : ((k : ℕ) → slice_get ys k ≡ Some x → (z : X) × (find test ys ≡ Some z) × IsFound test ys z) → (b : Bool) → test y ≡ b → (k : ℕ) → slice_get (y ∷ ys) k ≡ Some x → (z : X) × (find test (y ∷ ys) ≡ Some z) × IsFound test (y ∷ ys) z
+    by_test : ((k : ℕ) → slice_get ys k ≡ Some x → (z : X) × (find test ys ≡ Some z) × IsFound test ys z) → (b : Bool) → test y ≡ b → (k : ℕ) → slice_get (y ∷ ys) k ≡ Some x →
+        (z : X) × (find test (y ∷ ys) ≡ Some z) × IsFound test (y ∷ ys) z
     by_test more true is k e = (y, ap (λ (b : Bool). cond b (Some y) (find test ys)) is, record { at = 0; stands = refl; passes = is })
     by_test more false is zero e = let same : y ≡ x = cc in let wrong : false ≡ true = sym is ∙ ap test same ∙ passes in cc
     by_test more false is (suc k) e =
@@ -38,21 +39,26 @@ find_none test [] none = refl
 find_none test (y ∷ ys) none = ap (λ (b : Bool). cond b (Some y) (find test ys)) (none 0 y refl) ∙ find_none test ys (λ k x e. none (suc k) x e)
 
 -- a point of the box is found by its address
-pub stored-point : (mask : List ℕ) (box : List (ℕ × ℕ)) (size : ℕ) (raw p : List ℕ) → ((q : List ℕ) → LiesIn box q → HasAddress mask q) → LiesIn box p → stored mask box size raw (hz_address mask p) ≡ take size (drop (size * place_of box p) raw)
+pub stored-point : (mask : List ℕ) (box : List (ℕ × ℕ)) (size : ℕ) (raw p : List ℕ) → ((q : List ℕ) → LiesIn box q → HasAddress mask q) → LiesIn box p →
+    stored mask box size raw (hz_address mask p) ≡ take size (drop (size * place_of box p) raw)
 unfolding stored
 stored-point mask box size raw p has inside =
-    let found = find_some (λ (q : List ℕ). hz_address mask q == hz_address mask p) (points box) (place_of box p) p (slice_get-place_of box p inside) (eq-eqb (hz_address mask p) (hz_address mask p) refl) in
+    let found = find_some (λ (q : List ℕ). hz_address mask q == hz_address mask p) (points box) (place_of box p) p (slice_get-place_of box p inside)
+    (eq-eqb (hz_address mask p) (hz_address mask p) refl) in
     let q : List ℕ = found.0 in
     let within : LiesIn box q = (LiesIn-slice_get box found.2.at q found.2.stands).0 in
-    let same : q ≡ p = hz_address-injective mask q p (has q within) (has p inside) (length_from_LiesIn box q within ∙ sym (length_from_LiesIn box p inside)) (eqb-true (hz_address mask q) (hz_address mask p) found.2.passes) in
+    let same : q ≡ p = hz_address-injective mask q p (has q within) (has p inside) (length_from_LiesIn box q within ∙ sym (length_from_LiesIn box p inside))
+    (eqb-true (hz_address mask q) (hz_address mask p) found.2.passes) in
     ap (λ (o : Option (List ℕ)). option_map_or (sample_at box (samples_of size (length (points box)) raw)) o (replicate {A = ℕ} size 0)) (found.1 ∙ ap Some same)
     ∙ sample_at-raw box size raw p inside
 
 -- an address that no point of the box has holds zeros
-pub stored-none : (mask : List ℕ) (box : List (ℕ × ℕ)) (size : ℕ) (raw : List ℕ) (address : ℕ) → ((q : List ℕ) → LiesIn box q → hz_address mask q ≢ address) → stored mask box size raw address ≡ replicate size 0
+pub stored-none : (mask : List ℕ) (box : List (ℕ × ℕ)) (size : ℕ) (raw : List ℕ) (address : ℕ) → ((q : List ℕ) → LiesIn box q → hz_address mask q ≢ address) →
+    stored mask box size raw address ≡ replicate size 0
 unfolding stored
 stored-none mask box size raw address none =
-    let nothing : find (λ (q : List ℕ). hz_address mask q == address) (points box) ≡ None = find_none (λ (q : List ℕ). hz_address mask q == address) (points box) (λ k q e. off q (none q (LiesIn-slice_get box k q e).0) (hz_address mask q == address) refl) in
+    let nothing : find (λ (q : List ℕ). hz_address mask q == address) (points box) ≡ None =
+    find_none (λ (q : List ℕ). hz_address mask q == address) (points box) (λ k q e. off q (none q (LiesIn-slice_get box k q e).0) (hz_address mask q == address) refl) in
     ap (λ (o : Option (List ℕ)). option_map_or (sample_at box (samples_of size (length (points box)) raw)) o (replicate {A = ℕ} size 0)) nothing
   where
     off : (q : List ℕ) → hz_address mask q ≢ address → (b : Bool) → (hz_address mask q == address) ≡ b → (hz_address mask q == address) ≡ false
@@ -60,12 +66,14 @@ stored-none mask box size raw address none =
     off q apart true e = absurd (apart (eqb-true (hz_address mask q) address e))
 
 -- the samples of a block of a header
-pub block-stored : (h : HeaderValue) (size : ℕ) (raw : List ℕ) (block : ℕ) → flat_map (stored h.mask h.box size raw) (range_with_len (block * 2 ^ h.block_bits) (2 ^ h.block_bits)) ≡ block_of_samples (layout_of h) size (samples_of size (length (points h.box)) raw) block
+pub block-stored : (h : HeaderValue) (size : ℕ) (raw : List ℕ) (block : ℕ) →
+    flat_map (stored h.mask h.box size raw) (range_with_len (block * 2 ^ h.block_bits) (2 ^ h.block_bits)) ≡ block_of_samples (layout_of h) size (samples_of size (length (points h.box)) raw) block
 unfolding stored
 block-stored h size raw block = refl
 
 -- a block by a mask, a box, bits and a size that are a header's
-pub block-of_header : (h : HeaderValue) (mask : List ℕ) (box : List (ℕ × ℕ)) (bits size bytes : ℕ) (raw : List ℕ) (block : ℕ) (new : List ℕ) → mask ≡ h.mask → box ≡ h.box → bits ≡ h.block_bits → bytes ≡ size →
+pub block-of_header : (h : HeaderValue) (mask : List ℕ) (box : List (ℕ × ℕ)) (bits size bytes : ℕ) (raw : List ℕ) (block : ℕ) (new : List ℕ) → mask ≡ h.mask → box ≡ h.box →
+    bits ≡ h.block_bits → bytes ≡ size →
     new ≡ flat_map (stored mask box bytes raw) (range_with_len (block * 2 ^ bits) (2 ^ bits)) → new ≡ block_of_samples (layout_of h) size (samples_of size (length (points h.box)) raw) block
 block-of_header h mask box bits size bytes raw block new same_mask same_box same_bits same_size is =
     is

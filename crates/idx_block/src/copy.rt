@@ -9,8 +9,8 @@ use crate::walk::walk;
 use idx_grid::Grid;
 use idx_lanes::{BlockPart, Lane, by_size, find_lanes};
 
-/// Copies the samples that are asked for, which are those on a grid, to their places in a block, and leaves the others as
-/// they are.
+/// Copies the samples that are asked for, which are those on a grid, to their places in a block, and leaves the others
+/// as they are.
 pub(crate) fn copy_points(part: &BlockPart, grid: &Grid, samples: &[u8], into: &mut [u8])
     requires mask { IsMask part.now.mask }
     requires digits { part.now.bits + part.now.k < length part.now.mask }
@@ -38,8 +38,8 @@ pub(crate) fn copy_points(part: &BlockPart, grid: &Grid, samples: &[u8], into: &
     }
 }
 
-/// Copies the samples along these lanes, the slowest first, to their places in a block: one loop for each usual size of a
-/// sample.
+/// Copies the samples along these lanes, the slowest first, to their places in a block: one loop for each usual size of
+/// a sample.
 fn copy_lanes(size: usize, lanes: &[Lane], samples: &[u8], from: usize, into: &mut [u8])
     requires some { 0 < size }
     requires few { size ≤ 64 }

@@ -9,10 +9,10 @@ use crate::by_lanes::fill_by_lanes;
 use crate::first_block::fill_first_block;
 use idx_header::Header;
 
-/// Makes a block of a field, present or not, out of the field's raw samples: those of the points of the dataset's box, in
-/// row-major order, axis 0 fastest, the samples of one field behind one another without the other fields'. The block's
-/// samples stand in the order of their hierarchical addresses, and an address that no point of the box has holds zeros
-/// (Pascucci and Frank 2001; the OpenVisus IDX documentation).
+/// Makes a block of a field, present or not, out of the field's raw samples: those of the points of the dataset's box,
+/// in row-major order, axis 0 fastest, the samples of one field behind one another without the other fields'. The
+/// block's samples stand in the order of their hierarchical addresses, and an address that no point of the box has
+/// holds zeros (Pascucci and Frank 2001; the OpenVisus IDX documentation).
 pub fn fill_block(header: &Header, field: u32, samples: &[u8], block: u64, into: &mut [u8])
     requires field { field < length header.now.fields }
     requires samples { length samples.now ≡ sample_bytes_of header.now field * length (points header.now.box) }

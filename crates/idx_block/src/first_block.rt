@@ -9,8 +9,8 @@ use crate::by_lanes::fill_by_lanes;
 use idx_geom::Region;
 use idx_hz::Mask;
 
-/// Makes block 0, of 2^bits addresses, out of the raw samples of a box. It has the sample with the address 0, and behind it
-/// the levels 1 to `bits`, each of them as many addresses as there are before it: block 1 of as many.
+/// Makes block 0, of 2^bits addresses, out of the raw samples of a box. It has the sample with the address 0, and
+/// behind it the levels 1 to `bits`, each of them as many addresses as there are before it: block 1 of as many.
 pub(crate) fn fill_first_block(
     mask: &Mask,
     region: &Region,

@@ -1,4 +1,5 @@
-//! The bytes of a block, made out of the raw samples of a field, and the lanes along which a block's samples lie among them.
+//! The bytes of a block, made out of the raw samples of a field, and the lanes along which a block's samples lie among
+//! them.
 #![tactic(auto)]
 
 mod by_addresses;

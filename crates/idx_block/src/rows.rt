@@ -1,5 +1,5 @@
-//! The two fastest lanes of a walk. Some neighbouring rows, a band, are copied side by side, so that more reads of the raw
-//! samples are under way at a time.
+//! The two fastest lanes of a walk. Some neighbouring rows, a band, are copied side by side, so that more reads of the
+//! raw samples are under way at a time.
 ghost use Rattle.std.specs.Prelude.{◌≡◌, ℕ, ◌+◌, ◌*◌, ◌<◌, ◌≤◌, List, [], ◌∷◌, slice_index};
 ghost use Rattle.idx_lanes.specs.Copies.{AreMade, EachCopy, HasCoordinate, IsWanted, IsWithin};
 ghost use Rattle.idx_lanes.specs.Spread.{part_after};

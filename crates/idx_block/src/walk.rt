@@ -4,8 +4,8 @@ ghost use Rattle.idx_lanes.specs.Copies.{AreMade, EachCopy, HasCoordinate, IsWan
 use crate::rows::{row, rows};
 use idx_lanes::{Lane, Sample, next_part};
 
-/// Copies the samples along these lanes, the slowest first, into a block. The first one begins at byte `from` of the raw
-/// samples, and goes to the place `place` with what each lane's first coordinate gives to it.
+/// Copies the samples along these lanes, the slowest first, into a block. The first one begins at byte `from` of the
+/// raw samples, and goes to the place `place` with what each lane's first coordinate gives to it.
 pub(crate) fn walk<S: Sample>(
     sample: S,
     lanes: &[Lane],

@@ -6,7 +6,7 @@ use Rattle.std.proofs.lemmas.Nat.{div-add-mod', mod-mul-add, div-mul-add, pow_po
 use Rattle.idx_grid.specs.Grid.{IsOnAxis}
 use Rattle.idx_hz.specs.Mask.{bit_count}
 use Rattle.idx_hz.specs.Stride.{stride}
-use Rattle.idx_lanes.specs.Axis.{start_of, step_of, count_of}
+use Rattle.idx_lanes.specs.Axis.{first_from, step_of, count_to}
 
 one_more : (n x : ℕ) → (n + 1) * x ≡ n * x + x
 one_more n x = grind arith
@@ -18,7 +18,7 @@ pub record IsStart (lo first step start : ℕ) : Type 0 where
   pub from : lo ≤ start
   pub least : start < lo + step
 
-pub start-is : (lo first step : ℕ) → first < step → IsStart lo first step (start_of lo first step)
+pub start-is : (lo first step : ℕ) → first < step → IsStart lo first step (first_from lo first step)
 start-is lo first step small =
     let r : ℕ = lo % step in
     let below : r < step = mod-lt lo (omega arith) in
@@ -50,7 +50,7 @@ on-steps lo first step start k is = (is.number + k, omega (arith, is.on, sum is.
     sum : (a b x : ℕ) → (a + b) * x ≡ a * x + b * x
     sum a b x = grind arith
 
-pub step-le : (start hi step k : ℕ) → 0 < step → k < count_of start hi step → start + k * step ≤ hi
+pub step-le : (start hi step k : ℕ) → 0 < step → k < count_to start hi step → start + k * step ≤ hi
 step-le start hi step k some within =
     let le : k + 1 ≤ (hi + step - start) / step = omega arith in
     let room : (k + 1) * step ≤ hi + step - start = (le-div_iff_mul-le {k = step} {x = k + 1} {y = hi + step - start} some).0 le in
@@ -60,7 +60,7 @@ step-le start hi step k some within =
 -- each coordinate of the grid between the bounds is one of them
 pub record IsAlong (start hi step x : ℕ) : Type 0 where
   pub is : x ≡ start + (x - start) / step * step
-  pub within : (x - start) / step < count_of start hi step
+  pub within : (x - start) / step < count_to start hi step
 
 pub along : (lo hi first step start x : ℕ) → 0 < step → IsStart lo first step start → IsOnAxis first step x → lo ≤ x → x ≤ hi → IsAlong start hi step x
 along lo hi first step start x some start_is on from to =

@@ -14,7 +14,8 @@ pub record AreBounds (es bs : List (ℕ × ℕ)) (k : ℕ) (e b : ℕ × ℕ) : 
   pub high : b.1 ≤ e.1
   pub ordered : b.0 ≤ b.1
 
-pub AreBounds-at : (es bs : List (ℕ × ℕ)) (k : ℕ) (e b : ℕ × ℕ) → IsRegion bs → LiesIn es (lower_ends bs) → LiesIn es (upper_ends bs) → k < length bs → e ≡ get_or es k (0, 0) → b ≡ get_or bs k (0, 0) → AreBounds es bs k e b
+pub AreBounds-at : (es bs : List (ℕ × ℕ)) (k : ℕ) (e b : ℕ × ℕ) → IsRegion bs → LiesIn es (lower_ends bs) → LiesIn es (upper_ends bs) → k < length bs → e ≡ get_or es k (0, 0) →
+    b ≡ get_or bs k (0, 0) → AreBounds es bs k e b
 AreBounds-at es bs k e b region lower upper within at_e at_b =
     let same : length es ≡ length bs = axes_from_ends es bs lower in
     let inside : k < length es = omega arith in

@@ -19,7 +19,8 @@ times : (k size : ℕ) → size + k * size ≡ suc k * size
 times k size = grind arith
 
 -- a list is the places that it holds, one behind the other
-pub all-right : (want : ℕ → List ℕ) (size n first : ℕ) (bytes : List ℕ) → length bytes ≡ n * size → ((o : ℕ) → o < n → take size (drop (o * size) bytes) ≡ want (first + o)) → bytes ≡ flat_map want (range_with_len first n)
+pub all-right : (want : ℕ → List ℕ) (size n first : ℕ) (bytes : List ℕ) → length bytes ≡ n * size → ((o : ℕ) → o < n → take size (drop (o * size) bytes) ≡ want (first + o)) →
+    bytes ≡ flat_map want (range_with_len first n)
 all-right want size zero first [] long right = refl
 all-right want size zero first (b ∷ bytes) long right = absurd (omega (arith, long))
 all-right want size (suc n) first bytes long right =
@@ -78,7 +79,8 @@ drop-written at n piece old behind fits =
     ∙ ap (λ k. drop k old) same
 
 -- another place
-right-other : (size place o : ℕ) (piece old : List ℕ) → length piece ≡ size → (place + 1) * size ≤ length old → o ≢ place → take size (drop (o * size) (written (place * size) piece old)) ≡ take size (drop (o * size) old)
+right-other : (size place o : ℕ) (piece old : List ℕ) → length piece ≡ size → (place + 1) * size ≤ length old → o ≢ place →
+    take size (drop (o * size) (written (place * size) piece old)) ≡ take size (drop (o * size) old)
 right-other size place o piece old long room apart =
     let more : (place + 1) * size ≡ place * size + size = grind arith in
     let one_more : (o + 1) * size ≡ o * size + size = grind arith in
@@ -94,7 +96,8 @@ right-other size place o piece old long room apart =
     ]
 
 -- what was right stays so, where what is written is right
-pub kept-written : (want : ℕ → List ℕ) (size place : ℕ) (piece old : List ℕ) → length piece ≡ size → (place + 1) * size ≤ length old → piece ≡ want place → (o : ℕ) → IsRight want size old o → IsRight want size (written (place * size) piece old) o
+pub kept-written : (want : ℕ → List ℕ) (size place : ℕ) (piece old : List ℕ) → length piece ≡ size → (place + 1) * size ≤ length old → piece ≡ want place → (o : ℕ) →
+    IsRight want size old o → IsRight want size (written (place * size) piece old) o
 kept-written want size place piece old long room right o h =
     elim (cases_eq o place) [
       | inl same ↦
@@ -103,7 +106,8 @@ kept-written want size place piece old long room right o h =
       | inr apart ↦ right-other size place o piece old long room apart ∙ h
     ]
 
-pub placed-written : (want : ℕ → List ℕ) (size place : ℕ) (piece old : List ℕ) → length piece ≡ size → (place + 1) * size ≤ length old → piece ≡ want place → IsRight want size (written (place * size) piece old) place
+pub placed-written : (want : ℕ → List ℕ) (size place : ℕ) (piece old : List ℕ) → length piece ≡ size → (place + 1) * size ≤ length old → piece ≡ want place →
+    IsRight want size (written (place * size) piece old) place
 placed-written want size place piece old long room right = right-here size place piece old long room ∙ right
 
 -- ---- copies along lanes
@@ -130,7 +134,8 @@ put_mid-written at n old piece long =
     ap (λ t. take at old ++ (piece ++ t)) (drop-drop n at old ∙ ap (λ k. drop (at + k) old) (sym long))
 
 -- one place more
-pub right-next : (want : ℕ → List ℕ) (size k n : ℕ) (piece old : List ℕ) → length piece ≡ size → n ≡ size → (k + 1) * size ≤ length old → piece ≡ want k → ((o : ℕ) → o < k → IsRight want size old o) → (o : ℕ) → o < k + 1 → IsRight want size (put_mid (k * size) n old piece) o
+pub right-next : (want : ℕ → List ℕ) (size k n : ℕ) (piece old : List ℕ) → length piece ≡ size → n ≡ size → (k + 1) * size ≤ length old → piece ≡ want k →
+    ((o : ℕ) → o < k → IsRight want size old o) → (o : ℕ) → o < k + 1 → IsRight want size (put_mid (k * size) n old piece) o
 right-next want size k n piece old long same room right before o within =
     let here : put_mid (k * size) n old piece ≡ written (k * size) piece old = put_mid-written (k * size) n old piece (long ∙ sym same) in
     ap (λ t. take size (drop (o * size) t)) here
@@ -164,7 +169,8 @@ pub so_far-more : (want : ℕ → List ℕ) (size : ℕ) (lane : Lane) (faster :
 so_far-more want size lane faster from place count old mid new before one = record {
   kept = λ o h. one.kept o (before.kept o h);
   placed = λ k lt. elim (cases_lt k count) [
-    | inl less ↦ each-implied (λ f o. IsRight want size mid o) (λ f o. IsRight want size new o) (λ f o. one.kept o) faster (from + k * lane.step) (place + part_after lane.bits lane.first k) (before.placed k less)
+    | inl less ↦ each-implied (λ f o. IsRight want size mid o) (λ f o. IsRight want size new o) (λ f o. one.kept o) faster (from + k * lane.step) (place + part_after lane.bits lane.first k)
+        (before.placed k less)
     | inr ge ↦
         let last : count ≡ k = omega (arith, lt) in
         subst (λ (n : ℕ). EachCopy (λ f o. IsRight want size new o) faster (from + n * lane.step) (place + part_after lane.bits lane.first n)) last one.placed
@@ -224,14 +230,16 @@ no_lane-is [] few = refl
 no_lane-is (lane ∷ lanes) few = absurd (omega arith)
 
 -- where each copy is within the raw samples and the block, so are the byte and the place that they begin at
-pub begins_within : (size : ℕ) (raw block : List ℕ) (lanes : List Lane) (from place : ℕ) → 1 ≤ size → All HasCoordinate lanes → EachCopy (IsWithin size raw block) lanes from place → (from ≤ length raw) × (place < length block)
+pub begins_within : (size : ℕ) (raw block : List ℕ) (lanes : List Lane) (from place : ℕ) → 1 ≤ size → All HasCoordinate lanes → EachCopy (IsWithin size raw block) lanes from place →
+    (from ≤ length raw) × (place < length block)
 begins_within size raw block lanes from place some counts within =
     let found = some_copy (IsWithin size raw block) lanes from place counts within in
     let wide : (found.1 + 1) * 1 ≤ (found.1 + 1) * size = mul-le-mul_left (found.1 + 1) some in
     (omega (arith, found.2, found.3), omega (arith, found.2, found.4, wide))
 
 -- the copies along the other lanes, at one coordinate of the slowest
-module _ (P : ℕ → ℕ → Type 0) (lanes : List Lane) (from place k part : ℕ) (some : 1 ≤ length lanes) (within : k < (slowest_of lanes).count) (at : part ≡ part_after (slowest_of lanes).bits (slowest_of lanes).first k) (each : EachCopy P lanes from place) where
+module _ (P : ℕ → ℕ → Type 0) (lanes : List Lane) (from place k part : ℕ) (some : 1 ≤ length lanes) (within : k < (slowest_of lanes).count)
+    (at : part ≡ part_after (slowest_of lanes).bits (slowest_of lanes).first k) (each : EachCopy P lanes from place) where
   pub each-faster : EachCopy P (faster_of lanes) (from + k * (slowest_of lanes).step) (place + part)
   each-faster =
       let whole : EachCopy P (slowest_of lanes ∷ faster_of lanes) from place = subst (λ (ls : List Lane). EachCopy P ls from place) (sym (lanes-are lanes some)) each in

@@ -43,8 +43,10 @@ each-intro P part (suc n) from place given = λ k lt.
     each-intro P part n (from + k * (lane_on part n).step) (place + part_after (lane_on part n).bits (lane_on part n).first k) (λ ks are f o at_byte at_place.
     let more : ℕ → ℕ = with_axis ks n k in
     let here : more n ≡ k = with_axis-here ks n k in
-    let steps : sum_to (step_at part more) n ≡ sum_to (step_at part ks) n = sum_to-same (step_at part more) (step_at part ks) n (λ a less. ap (λ m. m * (lane_on part a).step) (with_axis-before ks n k a less)) in
-    let parts : sum_to (part_at part more) n ≡ sum_to (part_at part ks) n = sum_to-same (part_at part more) (part_at part ks) n (λ a less. ap (part_after (lane_on part a).bits (lane_on part a).first) (with_axis-before ks n k a less)) in
+    let steps : sum_to (step_at part more) n ≡ sum_to (step_at part ks) n =
+    sum_to-same (step_at part more) (step_at part ks) n (λ a less. ap (λ m. m * (lane_on part a).step) (with_axis-before ks n k a less)) in
+    let parts : sum_to (part_at part more) n ≡ sum_to (part_at part ks) n =
+    sum_to-same (part_at part more) (part_at part ks) n (λ a less. ap (part_after (lane_on part a).bits (lane_on part a).first) (with_axis-before ks n k a less)) in
     let step : step_at part more n ≡ k * (lane_on part n).step = ap (λ m. m * (lane_on part n).step) here in
     let given_part : part_at part more n ≡ part_after (lane_on part n).bits (lane_on part n).first k = ap (part_after (lane_on part n).bits (lane_on part n).first) here in
     given more (numbers-with part n ks k are lt) f o (omega (arith, at_byte, steps, step)) (omega (arith, at_place, parts, given_part)))
@@ -57,7 +59,8 @@ each-elim P part zero from place each ks are f o at_byte at_place =
     let there : place ≡ o = omega (arith, at_place) in
     subst (λ (m : ℕ). P f m) there (subst (λ (m : ℕ). P m place) byte each)
 each-elim P part (suc n) from place each ks are f o at_byte at_place =
-    each-elim P part n (from + ks n * (lane_on part n).step) (place + part_after (lane_on part n).bits (lane_on part n).first (ks n)) (each (ks n) (are n (omega arith))) ks (λ a less. are a (omega (arith, less))) f o
+    each-elim P part n (from + ks n * (lane_on part n).step) (place + part_after (lane_on part n).bits (lane_on part n).first (ks n)) (each (ks n) (are n (omega arith))) ks
+    (λ a less. are a (omega (arith, less))) f o
     (omega (arith, at_byte)) (omega (arith, at_place))
 
 -- ---- a lanes
@@ -78,7 +81,8 @@ lanes-each P part axes from lanes is given =
     let there : place_at part axes ks ≡ o = omega (arith, at_place) in
     subst (λ (m : ℕ). P f m) there (subst (λ (m : ℕ). P m (place_at part axes ks)) byte (given ks are))))
 
-pub lanes-copied : (want : ℕ → List ℕ) (part : BlockPart) (axes from : ℕ) (lanes : List Lane) (old new : List ℕ) → AreLanes part axes from lanes → AreMade want part.size lanes from 0 old new → AreCopied want part axes old new
+pub lanes-copied : (want : ℕ → List ℕ) (part : BlockPart) (axes from : ℕ) (lanes : List Lane) (old new : List ℕ) → AreLanes part axes from lanes →
+    AreMade want part.size lanes from 0 old new → AreCopied want part axes old new
 lanes-copied want part axes from lanes old new is made = record {
   kept = made.kept;
   placed = λ ks are.

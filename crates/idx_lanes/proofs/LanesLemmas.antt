@@ -15,7 +15,7 @@ use Rattle.idx_lanes.specs.declared.block_part.BlockPart.{BlockPart}
 use Rattle.idx_lanes.specs.declared.lane.Lane.{Lane}
 use Rattle.idx_lanes.specs.declared.lanes.Found.{Found}
 use Rattle.idx_lanes.specs.Lanes.{AreLanes, bounds_on, box_on, count_on, from_of, lane_on, lanes_of, lowest_on, start_on, step_on, weight_on}
-use Rattle.idx_lanes.specs.Axis.{count_of, start_of}
+use Rattle.idx_lanes.specs.Axis.{count_to, first_from}
 use Rattle.idx_lanes.proofs.RankLemmas.{weight, weight-all, weight-part, weight-up}
 use Rattle.idx_lanes.proofs.AxisLemmas.{IsStart, start-is, step-le, stride_pos}
 use Rattle.idx_lanes.proofs.BoundsLemmas.{AreBounds, AreBounds-at}
@@ -55,18 +55,18 @@ pub record AreFound (part : BlockPart) (axis : ℕ) (b : ℕ × ℕ) (first step
   pub bounds : b ≡ bounds_on part axis
   pub lowest : first ≡ lowest_on part axis
   pub pace : step ≡ step_on part axis
-  pub start_is : start ≡ start_of b.0 first step
+  pub start_is : start ≡ first_from b.0 first step
 
 pub start-found : (part : BlockPart) (axis : ℕ) (b : ℕ × ℕ) (first step start : ℕ) → AreFound part axis b first step start → start ≡ start_on part axis
-start-found part axis b first step start are = are.start_is ∙ (λ i. start_of (are.bounds i).0 (are.lowest i) (are.pace i))
+start-found part axis b first step start are = are.start_is ∙ (λ i. first_from (are.bounds i).0 (are.lowest i) (are.pace i))
 
-pub count-found : (part : BlockPart) (axis : ℕ) (b : ℕ × ℕ) (first step start : ℕ) → AreFound part axis b first step start → count_of start b.1 step ≡ count_on part axis
+pub count-found : (part : BlockPart) (axis : ℕ) (b : ℕ × ℕ) (first step start : ℕ) → AreFound part axis b first step start → count_to start b.1 step ≡ count_on part axis
 count-found part axis b first step start are =
     let at : start ≡ start_on part axis = start-found part axis b first step start are in
-    λ i. count_of (at i) (are.bounds i).1 (are.pace i)
+    λ i. count_to (at i) (are.bounds i).1 (are.pace i)
 
 -- where there is a second coordinate, the bytes up to it are few
-pub few-bytes : (start hi lo step weight : ℕ) → 0 < step → lo ≤ start → (hi - lo) * weight < 2 ^ 64 → 1 < count_of start hi step → step * weight < 2 ^ 64
+pub few-bytes : (start hi lo step weight : ℕ) → 0 < step → lo ≤ start → (hi - lo) * weight < 2 ^ 64 → 1 < count_to start hi step → step * weight < 2 ^ 64
 few-bytes start hi lo step weight some from small more =
     let le : start + 1 * step ≤ hi = step-le start hi step 1 some more in
     let wide : step ≤ hi - lo = omega (arith, le, from) in
@@ -75,7 +75,8 @@ few-bytes start hi lo step weight some from small more =
 -- ---- one axis after another
 
 -- the bounds that are asked for lie in those of the box
-pub bounds-part : (part : BlockPart) (axis : ℕ) → IsRegion part.common → HoldsAll part.region part.common → axis < length part.common → AreBounds part.region part.common axis (box_on part axis) (bounds_on part axis)
+pub bounds-part : (part : BlockPart) (axis : ℕ) → IsRegion part.common → HoldsAll part.region part.common → axis < length part.common →
+    AreBounds part.region part.common axis (box_on part axis) (bounds_on part axis)
 bounds-part part axis region inside within =
     AreBounds-at part.region part.common axis (box_on part axis) (bounds_on part axis) region
     (inside (lower_ends part.common) (LiesIn-lower_ends part.common region.ordered)) (inside (upper_ends part.common) (LiesIn-upper_ends part.common region.ordered)) within refl refl
@@ -114,13 +115,15 @@ lanes-none part lanes some room = record {
 }
 
 -- where the first coordinate of an axis lies in the box
-pub start-in_box : (part : BlockPart) (axis t : ℕ) → t ≡ part.bits + part.k → t < length part.mask → AreBounds part.region part.common axis (box_on part axis) (bounds_on part axis) → 1 ≤ count_on part axis →
+pub start-in_box : (part : BlockPart) (axis t : ℕ) → t ≡ part.bits + part.k → t < length part.mask → AreBounds part.region part.common axis (box_on part axis) (bounds_on part axis) →
+    1 ≤ count_on part axis →
     ((box_on part axis).0 ≤ start_on part axis) × (start_on part axis + 1 ≤ (box_on part axis).0 + extent (box_on part axis)) × (start_on part axis ≤ (bounds_on part axis).1)
 start-in_box part axis t same within are some =
     let step : ℕ = step_on part axis in
     let low : lowest_on part axis < step = subst (λ (n : ℕ). first_on part.mask (suc n) axis < stride part.mask n axis) same (lowest-lt part.mask t axis within) in
     let is : IsStart (bounds_on part axis).0 (lowest_on part axis) step (start_on part axis) = start-is (bounds_on part axis).0 (lowest_on part axis) step low in
-    let le : start_on part axis + 0 * step ≤ (bounds_on part axis).1 = step-le (start_on part axis) (bounds_on part axis).1 step 0 (stride_pos part.mask (part.bits + part.k) axis) (omega (arith, some)) in
+    let le : start_on part axis + 0 * step ≤ (bounds_on part axis).1 =
+    step-le (start_on part axis) (bounds_on part axis).1 step 0 (stride_pos part.mask (part.bits + part.k) axis) (omega (arith, some)) in
     (omega (arith, is.from, are.low), omega (arith, le, is.from, are.low, are.high), omega (arith, le))
 
 pub lanes-more : (part : BlockPart) (axis from weight : ℕ) (lanes : List Lane) (from' weight' at : ℕ) → axis < 5 → at ≡ 4 - axis →
@@ -144,7 +147,8 @@ lanes-more part axis from weight lanes from' weight' at few where_at low high co
           ∙ ap (λ ls. lane_on part axis ∷ ls) are.lanes_are
           ∙ ap (lanes_of part) (sym next);
       room = length-set lanes at (lane_on part axis) ∙ are.room;
-      some = λ a lt. ⊎_elim (λ (less : a < axis). are.some a less) (λ (ge : axis ≤ a). let same : axis ≡ a = omega (arith, lt, ge) in subst (λ (n : ℕ). 1 ≤ count_on part n) same count) (cases_lt a axis);
+      some = λ a lt. ⊎_elim (λ (less : a < axis). are.some a less) (λ (ge : axis ≤ a). let same : axis ≡ a = omega (arith, lt, ge) in subst (λ (n : ℕ). 1 ≤ count_on part n) same count)
+          (cases_lt a axis);
       below = omega (arith, to_from, to_weight, are.below, more, one_more ahead weight, mul_comm (extent (box_on part axis)) weight);
     }
   where
@@ -157,8 +161,10 @@ pub record IsNext (part : BlockPart) (axis from weight : ℕ) (lanes : List Lane
   pub small : weight * (e.1 - e.0 + 1) ≤ 2 ^ 46
   pub next : AreLanesSoFar part (axis + 1) (from + (start - e.0) * weight) (weight * (e.1 - e.0 + 1)) (set lanes (4 - axis) lane)
 
-pub next-found : (part : BlockPart) (axis from weight t : ℕ) (lanes : List Lane) (e : ℕ × ℕ) (found : Found) → IsRegion part.region → IsRegion part.common → HoldsAll part.region part.common → part.size ≤ 64 → t ≡ part.bits + part.k → t < length part.mask →
-    axis < length part.common → e ≡ box_on part axis → 1 ≤ count_on part axis → found ≡ record { start = start_on part axis; lane = lane_on part axis } → AreLanesSoFar part axis from weight lanes → IsNext part axis from weight lanes e found.start found.lane
+pub next-found : (part : BlockPart) (axis from weight t : ℕ) (lanes : List Lane) (e : ℕ × ℕ) (found : Found) → IsRegion part.region → IsRegion part.common →
+    HoldsAll part.region part.common → part.size ≤ 64 → t ≡ part.bits + part.k → t < length part.mask →
+    axis < length part.common → e ≡ box_on part axis → 1 ≤ count_on part axis → found ≡ record { start = start_on part axis; lane = lane_on part axis } →
+    AreLanesSoFar part axis from weight lanes → IsNext part axis from weight lanes e found.start found.lane
 next-found part axis from weight t lanes e found region common inside few level digits within at some is are =
     let same : length part.region ≡ length part.common = same_axes-part part common inside in
     let here : axis < length part.region = omega (arith, same, within) in
@@ -181,7 +187,8 @@ next-found part axis from weight t lanes e found region common inside few level 
     }
 
 -- with the last axis the lanes is made
-pub lanes-made : (part : BlockPart) (axis axes from weight : ℕ) (lanes : List Lane) → IsRegion part.common → HoldsAll part.region part.common → length part.common ≤ axis → axis ≤ length part.common → axes ≡ length part.region → AreLanesSoFar part axis from weight lanes → AreLanes part (length part.region) from (drop (5 - axes) lanes)
+pub lanes-made : (part : BlockPart) (axis axes from weight : ℕ) (lanes : List Lane) → IsRegion part.common → HoldsAll part.region part.common → length part.common ≤ axis →
+    axis ≤ length part.common → axes ≡ length part.region → AreLanesSoFar part axis from weight lanes → AreLanes part (length part.region) from (drop (5 - axes) lanes)
 lanes-made part axis axes from weight lanes common inside all within count are =
     let same : length part.region ≡ length part.common = same_axes-part part common inside in
     let last : axis ≡ length part.region = omega (arith, same, all, within) in

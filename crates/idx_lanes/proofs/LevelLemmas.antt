@@ -6,7 +6,8 @@ use Rattle.std.proofs.Math.Nat.{mul-le-mul_left, mul-le-mul_right, pow-suc}
 use Rattle.std.proofs.Math.Pow.{pow_mono}
 
 -- an address of a block is below the number of addresses
-pub address-in_block : (digits bits block count k : ℕ) → bits ≤ digits → digits ≤ 40 → block < 2 ^ (digits - bits) → count ≡ 2 ^ bits → k < count → (block * count + k < 2 ^ digits) × (2 ^ digits ≤ 2 ^ 40)
+pub address-in_block : (digits bits block count k : ℕ) → bits ≤ digits → digits ≤ 40 → block < 2 ^ (digits - bits) → count ≡ 2 ^ bits → k < count →
+    (block * count + k < 2 ^ digits) × (2 ^ digits ≤ 2 ^ 40)
 address-in_block digits bits block count k within few exists is below =
     let split : digits - bits + bits ≡ digits = omega arith in
     let whole : 2 ^ digits ≡ 2 ^ (digits - bits) * 2 ^ bits = ap (λ n. 2 ^ n) (sym split) ∙ pow-add 2 (digits - bits) bits in
@@ -31,7 +32,8 @@ pub record HasDigits (digits bits block level : ℕ) : Type 0 where
   pub same : suc (bits + (level - 1 - bits)) ≡ level
   pub exists : block * 2 ^ bits + 2 ^ bits ≤ 2 ^ digits
 
-pub digits-of_level : (digits bits block level : ℕ) → bits ≤ digits → digits ≤ 40 → block < 2 ^ (digits - bits) → 1 ≤ block → (2 ^ (level - 1) ≤ block * 2 ^ bits) × (block * 2 ^ bits < 2 ^ level) → HasDigits digits bits block level
+pub digits-of_level : (digits bits block level : ℕ) → bits ≤ digits → digits ≤ 40 → block < 2 ^ (digits - bits) → 1 ≤ block →
+    (2 ^ (level - 1) ≤ block * 2 ^ bits) × (block * 2 ^ bits < 2 ^ level) → HasDigits digits bits block level
 digits-of_level digits bits block level fits few exists other range =
     let some : 0 < 2 ^ bits = pow_pos bits in
     let first = address-in_block digits bits block (2 ^ bits) 0 fits few exists refl some in

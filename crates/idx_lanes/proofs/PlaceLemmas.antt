@@ -29,7 +29,8 @@ places-none digits axis x = record {
   is_rest = sym (ap (λ ds. x / 2 ^ bit_count axis ds) (none-left digits) ∙ omega arith);
 }
 
-pub places-small : (digits : List ℕ) (axis x j unit bits first rest : ℕ) → length digits ≤ 20 → j < length digits → ArePlaces digits axis x j unit bits first rest → (unit ≤ 2 ^ 20) × (bits < unit) × (first < unit)
+pub places-small : (digits : List ℕ) (axis x j unit bits first rest : ℕ) → length digits ≤ 20 → j < length digits → ArePlaces digits axis x j unit bits first rest →
+    (unit ≤ 2 ^ 20) × (bits < unit) × (first < unit)
 places-small digits axis x j unit bits first rest few more are =
     let left : List ℕ = drop (length digits - j) digits in
     let size : length left ≡ j = length-drop (length digits - j) digits ∙ omega arith in
@@ -82,7 +83,8 @@ places-more digits axis x j unit bits first rest own bits' first' rest' unit' mo
     halved false rest x c is = let same : c ≡ 0 + c = omega arith in is ∙ ap (λ n. x / 2 ^ n) same
 
 -- all of them
-pub places-all : (digits : List ℕ) (axis x j unit bits first rest : ℕ) → length digits ≤ j → ArePlaces digits axis x j unit bits first rest → (bits ≡ axis_bits axis digits) × (first ≡ spread axis digits x)
+pub places-all : (digits : List ℕ) (axis x j unit bits first rest : ℕ) → length digits ≤ j → ArePlaces digits axis x j unit bits first rest →
+    (bits ≡ axis_bits axis digits) × (first ≡ spread axis digits x)
 places-all digits axis x j unit bits first rest all are =
     let none : length digits - j ≡ 0 = omega arith in
     (are.is_bits ∙ ap (λ n. axis_bits axis (drop n digits)) none, are.is_first ∙ ap (λ n. spread axis (drop n digits) x) none)

@@ -41,14 +41,14 @@ pub record IsSetting (part : BlockPart) (box : List (ℕ × ℕ)) (grid : Grid) 
 abbrev pub coordinate : BlockPart → (ℕ → ℕ) → ℕ → ℕ
 coordinate part ks axis = start_on part axis + ks axis * step_on part axis
 
-abbrev pub point_of : BlockPart → (ℕ → ℕ) → List ℕ
-point_of part ks = map (coordinate part ks) (range_with_len 0 (length part.region))
+abbrev pub point_by : BlockPart → (ℕ → ℕ) → List ℕ
+point_by part ks = map (coordinate part ks) (range_with_len 0 (length part.region))
 
-length-point_of : (part : BlockPart) (ks : ℕ → ℕ) → length (point_of part ks) ≡ length part.region
-length-point_of part ks = length-map-range_with_len (coordinate part ks) 0 (length part.region)
+length-point_by : (part : BlockPart) (ks : ℕ → ℕ) → length (point_by part ks) ≡ length part.region
+length-point_by part ks = length-map-range_with_len (coordinate part ks) 0 (length part.region)
 
-get_or-point_of : (part : BlockPart) (ks : ℕ → ℕ) (axis : ℕ) → axis < length part.region → get_or (point_of part ks) axis 0 ≡ coordinate part ks axis
-get_or-point_of part ks axis within = get_or-map-range_with_len (coordinate part ks) 0 (length part.region) axis axis 0 within (omega arith)
+get_or-point_by : (part : BlockPart) (ks : ℕ → ℕ) (axis : ℕ) → axis < length part.region → get_or (point_by part ks) axis 0 ≡ coordinate part ks axis
+get_or-point_by part ks axis within = get_or-map-range_with_len (coordinate part ks) 0 (length part.region) axis axis 0 within (omega arith)
 
 sum_to-two : (f g h : ℕ → ℕ) (n : ℕ) → ((a : ℕ) → a < n → f a ≡ g a + h a) → sum_to f n ≡ sum_to g n + sum_to h n
 sum_to-two f g h zero is = refl
@@ -69,44 +69,49 @@ module _ (part : BlockPart) (box : List (ℕ × ℕ)) (grid : Grid) (block : ℕ
   on_axis axis within = grid-on part.mask (part.bits + part.k) (length part.region) axis grid is.grid_is within
 
   grid_axes : (length grid.first ≡ length part.region) × (length grid.step ≡ length part.region)
-  grid_axes = (ap length is.grid_is.first ∙ length-first_of part.mask (suc (part.bits + part.k)) (length part.region), ap length is.grid_is.step ∙ length-strides part.mask (suc (part.bits + part.k) - 1) (length part.region))
+  grid_axes = (
+    ap length is.grid_is.first ∙ length-first_of part.mask (suc (part.bits + part.k)) (length part.region),
+    ap length is.grid_is.step
+        ∙ length-strides part.mask (suc (part.bits + part.k) - 1) (length part.region),
+  )
 
   -- the point of numbers lies between the bounds, and on the grid
-  in_common : (ks : ℕ → ℕ) → AreNumbers part (length part.region) ks → LiesIn part.common (point_of part ks)
-  in_common ks are = LiesIn-from_axes part.common (point_of part ks) (length-point_of part ks ∙ sym is.axes) (λ axis within.
+  in_common : (ks : ℕ → ℕ) → AreNumbers part (length part.region) ks → LiesIn part.common (point_by part ks)
+  in_common ks are = LiesIn-from_axes part.common (point_by part ks) (length-point_by part ks ∙ sym is.axes) (λ axis within.
       let here : axis < length part.region = omega (arith, within, is.axes) in
-      let value = get_or-point_of part ks axis here in
+      let value = get_or-point_by part ks axis here in
       let below = step-le (start_on part axis) (bounds_on part axis).1 (step_on part axis) (ks axis) (step-positive axis) (are axis here) in
       (omega (arith, value, (starts axis).from), omega (arith, value, below)))
 
-  on_grid : (ks : ℕ → ℕ) → LiesOn grid (point_of part ks)
-  on_grid ks = IsOnAxes-from_axes grid.first grid.step (point_of part ks) (grid_axes.0 ∙ sym (length-point_of part ks)) (grid_axes.1 ∙ sym (length-point_of part ks)) (λ axis within.
-      let here : axis < length part.region = omega (arith, within, length-point_of part ks) in
+  on_grid : (ks : ℕ → ℕ) → LiesOn grid (point_by part ks)
+  on_grid ks = IsOnAxes-from_axes grid.first grid.step (point_by part ks) (grid_axes.0 ∙ sym (length-point_by part ks)) (grid_axes.1 ∙ sym (length-point_by part ks)) (λ axis within.
+      let here : axis < length part.region = omega (arith, within, length-point_by part ks) in
       let are = on_axis axis here in
-      let steps : IsOnAxis (lowest_on part axis) (step_on part axis) (coordinate part ks axis) = on-steps (bounds_on part axis).0 (lowest_on part axis) (step_on part axis) (start_on part axis) (ks axis) (starts axis) in
-      subst (λ (x : ℕ). IsOnAxis (get_or grid.first axis 0) (get_or grid.step axis 0) x) (sym (get_or-point_of part ks axis here))
+      let steps : IsOnAxis (lowest_on part axis) (step_on part axis) (coordinate part ks axis) =
+      on-steps (bounds_on part axis).0 (lowest_on part axis) (step_on part axis) (start_on part axis) (ks axis) (starts axis) in
+      subst (λ (x : ℕ). IsOnAxis (get_or grid.first axis 0) (get_or grid.step axis 0) x) (sym (get_or-point_by part ks axis here))
       (subst (λ (s : ℕ). IsOnAxis (get_or grid.first axis 0) s (coordinate part ks axis)) (sym are.step)
       (subst (λ (f : ℕ). IsOnAxis f (step_on part axis) (coordinate part ks axis)) (sym are.first) steps)))
 
-  pub in_region : (ks : ℕ → ℕ) → AreNumbers part (length part.region) ks → LiesIn part.region (point_of part ks)
-  in_region ks are = ((is.both (point_of part ks)).0 (in_common ks are)).0
+  pub in_region : (ks : ℕ → ℕ) → AreNumbers part (length part.region) ks → LiesIn part.region (point_by part ks)
+  in_region ks are = ((is.both (point_by part ks)).0 (in_common ks are)).0
 
-  pub in_block : (ks : ℕ → ℕ) → AreNumbers part (length part.region) ks → IsInBlock part.mask (length part.region) part.bits block (point_of part ks)
-  in_block ks are = (is.points (point_of part ks)).1 (((is.both (point_of part ks)).0 (in_common ks are)).1, on_grid ks)
+  pub in_block : (ks : ℕ → ℕ) → AreNumbers part (length part.region) ks → IsInBlock part.mask (length part.region) part.bits block (point_by part ks)
+  in_block ks are = (is.points (point_by part ks)).1 (((is.both (point_by part ks)).0 (in_common ks are)).1, on_grid ks)
 
   -- the sample comes from the point's place in the volume
-  pub byte-point : (ks : ℕ → ℕ) → AreNumbers part (length part.region) ks → part.size * place_of part.region (point_of part ks) ≡ byte_at part (length part.region) ks
+  pub byte-point : (ks : ℕ → ℕ) → AreNumbers part (length part.region) ks → part.size * place_of part.region (point_by part ks) ≡ byte_at part (length part.region) ks
   byte-point ks are =
       let n : ℕ = length part.region in
-      place_of-sum part.size part.region (point_of part ks) (in_region ks are)
-      ∙ sum_to-two (λ a. (get_or (point_of part ks) a 0 - (box_on part a).0) * weight part.size part.region a)
+      place_of-sum part.size part.region (point_by part ks) (in_region ks are)
+      ∙ sum_to-two (λ a. (get_or (point_by part ks) a 0 - (box_on part a).0) * weight part.size part.region a)
       (λ a. (start_on part a - (box_on part a).0) * weight_on part a) (λ a. ks a * (lane_on part a).step) n
       (λ a within.
-      let value = get_or-point_of part ks a within in
-      let bounds = LiesIn-at_axis part.region (point_of part ks) (in_region ks are) a within in
+      let value = get_or-point_by part ks a within in
+      let bounds = LiesIn-at_axis part.region (point_by part ks) (in_region ks are) a within in
       let low : (box_on part a).0 ≤ start_on part a = lowest a within ks are in
       let steps : ks a * (lane_on part a).step ≡ ks a * (step_on part a * weight_on part a) = times-step_of (weight_on part a) (step_on part a) (count_on part a) (ks a) (are a within) in
-      let ahead : get_or (point_of part ks) a 0 - (box_on part a).0 ≡ (start_on part a - (box_on part a).0) + ks a * step_on part a = omega (arith, value, low) in
+      let ahead : get_or (point_by part ks) a 0 - (box_on part a).0 ≡ (start_on part a - (box_on part a).0) + ks a * step_on part a = omega (arith, value, low) in
       (λ i. ahead i * sym (weight-part part a) i)
       ∙ split (start_on part a - (box_on part a).0) (ks a) (step_on part a) (weight_on part a)
       ∙ ap (λ m. (start_on part a - (box_on part a).0) * weight_on part a + m) (sym steps))
@@ -119,11 +124,11 @@ module _ (part : BlockPart) (box : List (ℕ × ℕ)) (grid : Grid) (block : ℕ
       lowest a within ks are =
           let zeros : ℕ → ℕ = λ (b : ℕ). 0 in
           let zeros_are : AreNumbers part (length part.region) zeros = λ b here. omega (arith, are b here) in
-          let bounds = LiesIn-at_axis part.region (point_of part zeros) (in_region zeros zeros_are) a within in
-          omega (arith, bounds.0, get_or-point_of part zeros a within)
+          let bounds = LiesIn-at_axis part.region (point_by part zeros) (in_region zeros zeros_are) a within in
+          omega (arith, bounds.0, get_or-point_by part zeros a within)
 
   -- and goes to the point's place in the block
-  pub place-point : (ks : ℕ → ℕ) → AreNumbers part (length part.region) ks → hz_address part.mask (point_of part ks) ≡ block * 2 ^ part.bits + place_at part (length part.region) ks
+  pub place-point : (ks : ℕ → ℕ) → AreNumbers part (length part.region) ks → hz_address part.mask (point_by part ks) ≡ block * 2 ^ part.bits + place_at part (length part.region) ks
   place-point ks are =
       let n : ℕ = length part.region in
       let t : ℕ = part.bits + part.k in
@@ -131,12 +136,12 @@ module _ (part : BlockPart) (box : List (ℕ × ℕ)) (grid : Grid) (block : ℕ
       let within_mask : t ≤ length part.mask = omega (arith, is.digits) in
       let few : length digits ≤ 64 = omega (arith, is.few, short part.mask part.k (part.bits + part.k)) in
       let inside = in_block ks are in
-      hz_address-in_block part.mask (point_of part ks) part.bits part.k block within_mask (is.level_is (point_of part ks) inside) inside.address
+      hz_address-in_block part.mask (point_by part ks) part.bits part.k block within_mask (is.level_is (point_by part ks) inside) inside.address
       ∙ ap (λ m. block * 2 ^ part.bits + m)
-      (z_by-sum digits (λ a. slice_index (point_of part ks) a / stride part.mask t a) n (All-drop (λ d. d < n) part.k (take t part.mask) (All-take (λ d. d < n) t part.mask is.named))
-      ∙ sum_to-same (λ a. spread a digits (slice_index (point_of part ks) a / stride part.mask t a)) (λ a. part_after (lane_on part a).bits (lane_on part a).first (ks a)) n
+      (z_by-sum digits (λ a. slice_index (point_by part ks) a / stride part.mask t a) n (All-drop (λ d. d < n) part.k (take t part.mask) (All-take (λ d. d < n) t part.mask is.named))
+      ∙ sum_to-same (λ a. spread a digits (slice_index (point_by part ks) a / stride part.mask t a)) (λ a. part_after (lane_on part a).bits (lane_on part a).first (ks a)) n
       (λ a here.
-      ap (λ x. spread a digits (x / step_on part a)) (get_or-point_of part ks a here)
+      ap (λ x. spread a digits (x / step_on part a)) (get_or-point_by part ks a here)
       ∙ ap (spread a digits) (div-steps (start_on part a) (ks a) (step_on part a) (step-positive a))
       ∙ sym (part_after-spread a digits (start_on part a / step_on part a) (ks a) few)))
     where
@@ -144,7 +149,7 @@ module _ (part : BlockPart) (box : List (ℕ × ℕ)) (grid : Grid) (block : ℕ
       short mask k t = omega (arith, length-drop k (take t mask), length-take t mask)
 
   -- each point of the block in the volume's box has its numbers
-  pub numbers-of : (p : List ℕ) → IsInBlock part.mask (length part.region) part.bits block p → LiesIn part.region p → (ks : ℕ → ℕ) × AreNumbers part (length part.region) ks × (point_of part ks ≡ p)
+  pub numbers-of : (p : List ℕ) → IsInBlock part.mask (length part.region) part.bits block p → LiesIn part.region p → (ks : ℕ → ℕ) × AreNumbers part (length part.region) ks × (point_by part ks ≡ p)
   numbers-of p inside within =
       let n : ℕ = length part.region in
       let parts = (is.points p).0 inside in
@@ -159,7 +164,7 @@ module _ (part : BlockPart) (box : List (ℕ × ℕ)) (grid : Grid) (block : ℕ
       (subst (λ (s : ℕ). IsOnAxis (lowest_on part a) s (get_or p a 0)) are.step (subst (λ (f : ℕ). IsOnAxis f (get_or grid.step a 0) (get_or p a 0)) are.first on)) between.0 between.1 in (
         ks,
         λ a here. (each a here).within,
-        ext_get_or 0 (point_of part ks) p (length-point_of part ks ∙ sym size) (λ a here.
-            let inside_axes : a < n = omega (arith, here, length-point_of part ks) in
-            get_or-point_of part ks a inside_axes ∙ sym (each a inside_axes).is),
+        ext_get_or 0 (point_by part ks) p (length-point_by part ks ∙ sym size) (λ a here.
+            let inside_axes : a < n = omega (arith, here, length-point_by part ks) in
+            get_or-point_by part ks a inside_axes ∙ sym (each a inside_axes).is),
       )

@@ -180,7 +180,8 @@ spread_next axis mask x room =
 pub spread_zero : (axis : ℕ) (mask : List ℕ) → spread axis mask 0 ≡ 0
 spread_zero axis [] = refl
 spread_zero axis (d ∷ finer) =
-    let none : cond (eqb d axis) (bit_at 0 (bit_count axis finer)) 0 ≡ 0 = elim (eqb d axis) as (λ b. cond b (bit_at 0 (bit_count axis finer)) 0 ≡ 0) [ true ↦ bit_at-zero (bit_count axis finer) | false ↦ refl ] in
+    let none : cond (eqb d axis) (bit_at 0 (bit_count axis finer)) 0 ≡ 0 =
+    elim (eqb d axis) as (λ b. cond b (bit_at 0 (bit_count axis finer)) 0 ≡ 0) [ true ↦ bit_at-zero (bit_count axis finer) | false ↦ refl ] in
     omega (arith, ap (λ t. t * 2 ^ length finer) none, spread_zero axis finer)
 
 -- the greatest coordinate gives all bits

@@ -90,12 +90,18 @@ one_digit d finer f (suc n) le =
     let off : eqb d n ≡ false = ne_eqb d n (λ e. omega (arith, e)) in
     omega (arith, one_digit d finer f n (omega arith), ap (λ (b : Bool). cond b (bit_at (f n) (bit_count n finer)) 0 * 2 ^ length finer) off)
 
-with_digit : (d : ℕ) (finer : List ℕ) (f : ℕ → ℕ) (n : ℕ) → d < n → sum_to (λ a. spread a (d ∷ finer) (f a)) n ≡ bit_at (f d) (bit_count d finer) * 2 ^ length finer + sum_to (λ a. spread a finer (f a)) n
+with_digit : (d : ℕ) (finer : List ℕ) (f : ℕ → ℕ) (n : ℕ) → d < n →
+    sum_to (λ a. spread a (d ∷ finer) (f a)) n ≡ bit_at (f d) (bit_count d finer) * 2 ^ length finer + sum_to (λ a. spread a finer (f a)) n
 with_digit d finer f zero lt = absurd (omega arith)
 with_digit d finer f (suc n) lt = ⊎_elim
     (λ (same : d ≡ n).
     let on : eqb d n ≡ true = eq-eqb d n same in
-    omega (arith, one_digit d finer f n (omega arith), ap (λ (b : Bool). cond b (bit_at (f n) (bit_count n finer)) 0 * 2 ^ length finer) on, ap (λ a. bit_at (f a) (bit_count a finer) * 2 ^ length finer) same))
+    omega (
+      arith,
+      one_digit d finer f n (omega arith),
+      ap (λ (b : Bool). cond b (bit_at (f n) (bit_count n finer)) 0 * 2 ^ length finer) on,
+      ap (λ a. bit_at (f a) (bit_count a finer) * 2 ^ length finer) same,
+    ))
     (λ (other : d ≢ n).
     let less : d < n = elim (cases_lt d n) [ inl h ↦ h | inr ge ↦ absurd (other (omega arith)) ] in
     let off : eqb d n ≡ false = ne_eqb d n other in

@@ -2,12 +2,12 @@
 use Rattle.std.specs.Prelude.{ℕ, ◌+◌, ◌-◌, ◌*◌, ◌/◌, ◌%◌, Bool, true, ◌&&◌, eqb, nat_lt, List, [], ◌∷◌, if◌then◌else◌}
 
 -- the first number from `lo` on that is `first` more than a multiple of a step
-abbrev pub start_of : ℕ → ℕ → ℕ → ℕ
-start_of lo first step = lo + (first + step - lo % step) % step
+abbrev pub first_from : ℕ → ℕ → ℕ → ℕ
+first_from lo first step = lo + (first + step - lo % step) % step
 
 -- how many numbers, each a step behind the one before, there are from `start` to `hi`
-abbrev pub count_of : ℕ → ℕ → ℕ → ℕ
-count_of start hi step = (hi + step - start) / step
+abbrev pub count_to : ℕ → ℕ → ℕ → ℕ
+count_to start hi step = (hi + step - start) / step
 
 -- how many bytes lie from one of so many coordinates to the next, a stride behind it, where neighbouring ones lie
 -- `weight` bytes apart

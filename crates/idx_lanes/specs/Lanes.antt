@@ -5,7 +5,7 @@ use Rattle.std.specs.List.{slice_index_or}
 use Rattle.idx_geom.specs.Region.{extent}
 use Rattle.idx_hz.specs.Stride.{stride}
 use Rattle.idx_grid.specs.LevelGrid.{first_on}
-use Rattle.idx_lanes.specs.Axis.{count_of, start_of, step_of}
+use Rattle.idx_lanes.specs.Axis.{count_to, first_from, step_of}
 use Rattle.idx_lanes.specs.Spread.{axis_bits, part_after, spread}
 use Rattle.idx_lanes.specs.Copies.{IsRight}
 use Rattle.idx_lanes.specs.declared.block_part.BlockPart.{BlockPart}
@@ -31,10 +31,10 @@ lowest_on part axis = first_on part.mask (suc (part.bits + part.k)) axis
 
 -- the first coordinate between the bounds, and how many there are
 abbrev pub start_on : BlockPart → ℕ → ℕ
-start_on part axis = start_of (bounds_on part axis).0 (lowest_on part axis) (step_on part axis)
+start_on part axis = first_from (bounds_on part axis).0 (lowest_on part axis) (step_on part axis)
 
 abbrev pub count_on : BlockPart → ℕ → ℕ
-count_on part axis = count_of (start_on part axis) (bounds_on part axis).1 (step_on part axis)
+count_on part axis = count_to (start_on part axis) (bounds_on part axis).1 (step_on part axis)
 
 -- how many bytes neighbouring coordinates lie apart in the volume
 abbrev pub weight_on : BlockPart → ℕ → ℕ

@@ -2,7 +2,7 @@
 ghost use Rattle.std.specs.Prelude.{◌≡◌, ◌+◌, ◌*◌, ◌^◌, ◌<◌, ◌≤◌, length};
 ghost use Rattle.std.specs.List.{slice_index_or};
 ghost use Rattle.idx_geom.specs.Region.{IsRegion};
-ghost use Rattle.idx_lanes.specs.Axis.{start_of, step_of};
+ghost use Rattle.idx_lanes.specs.Axis.{first_from, step_of};
 
 use idx_geom::Region;
 
@@ -22,7 +22,7 @@ pub fn first_from(lo: u64, first: u64, step: u64) -> u64
     requires lo { lo ≤ 2 ^ 40 }
     requires first { first < step }
     requires step { step ≤ 2 ^ 40 }
-    ensures value { result ≡ start_of lo first step }
+    ensures value { result ≡ first_from lo first step }
     ensures from { lo ≤ result }
     ensures to { result < lo + step }
 {

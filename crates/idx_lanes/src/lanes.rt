@@ -49,7 +49,8 @@ struct Found {
     lane: Lane,
 }
 
-/// The lanes of the points on a grid between the bounds that are asked for: `None` exactly where there is no such point.
+/// The lanes of the points on a grid between the bounds that are asked for: `None` exactly where there is no such
+/// point.
 pub fn find_lanes(part: &BlockPart, grid: &Grid) -> Option<Lanes>
     requires mask { IsMask part.now.mask }
     requires digits { part.now.bits + part.now.k < length part.now.mask }

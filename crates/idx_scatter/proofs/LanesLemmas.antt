@@ -174,8 +174,24 @@ module _ (a : Asked) (part : BlockPart) (legs : List Leg) (is : IsCourse a part 
       coarse = leg_is.coarse.sane;
       within = omega (arith, small, leg_is.fine.wide);
       within_coarse = omega (arith, small, leg_is.coarse.wide);
-      few = omega (arith, room, length-points (b ∷ bs), near, mul-le-mul_left (extent b) (before-few (stride a.mask a.hi) (suc n) bs r rows.fine.count rows.fine.lies before.fine), mul_comm r (extent b), ap (λ e. e * rows.fine.count) leg_is.fine.wide);
-      few_coarse = omega (arith, room, length-points (b ∷ bs), near, mul-le-mul_left (extent b) (coarse-few a bs (suc n) r rows before), mul_comm r (extent b), ap (λ e. e * rows.coarse.count) leg_is.coarse.wide);
+      few = omega (
+        arith,
+        room,
+        length-points (b ∷ bs),
+        near,
+        mul-le-mul_left (extent b) (before-few (stride a.mask a.hi) (suc n) bs r rows.fine.count rows.fine.lies before.fine),
+        mul_comm r (extent b),
+        ap (λ e. e * rows.fine.count) leg_is.fine.wide,
+      );
+      few_coarse = omega (
+        arith,
+        room,
+        length-points (b ∷ bs),
+        near,
+        mul-le-mul_left (extent b) (coarse-few a bs (suc n) r rows before),
+        mul_comm r (extent b),
+        ap (λ e. e * rows.coarse.count) leg_is.coarse.wide,
+      );
     }
 
   pub all-fit : (n r : ℕ) (rows : Tally) → n ≤ length part.region → IsTally a (drop n part.region) n r rows → AllFit legs (lanes_of part n) rows
@@ -183,7 +199,8 @@ module _ (a : Asked) (part : BlockPart) (legs : List Leg) (is : IsCourse a part 
   all-fit (suc n) r rows within before = λ k lt.
       let less : n < length part.region = omega (arith, within) in (
         fits n r k rows less lt before,
-        all-fit n (r * extent (box_on part n) + coordinate_on (leg_of legs (lanes_of part n)) k) (tally_at (leg_of legs (lanes_of part n)) rows k) (omega (arith, less)) (next n r k rows less lt before),
+        all-fit n (r * extent (box_on part n) + coordinate_on (leg_of legs (lanes_of part n)) k) (tally_at (leg_of legs (lanes_of part n)) rows k) (omega (arith, less))
+            (next n r k rows less lt before),
       )
 
   -- the place in the region of the first point of a row of fewer axes
@@ -191,7 +208,8 @@ module _ (a : Asked) (part : BlockPart) (legs : List Leg) (is : IsCourse a part 
       at + k * (lane_on part n).step ≡ (r * extent (box_on part n) + coordinate_on (leg_of legs (lanes_of part n)) k) * weight_on part n + from_of part n
   moved n at r k within lt is_at =
       let steps = times-step_of (weight_on part n) (step_on part n) (count_on part n) k lt in
-      is_sum at (k * (lane_on part n).step) r (weight_on part n) (extent (box_on part n)) (from_of part n) (start_on part n - (box_on part n).0) k (step_on part n) (coordinate_on (leg_of legs (lanes_of part n)) k) is_at steps (coordinate-is n k within)
+      is_sum at (k * (lane_on part n).step) r (weight_on part n) (extent (box_on part n)) (from_of part n) (start_on part n - (box_on part n).0) k (step_on part n)
+      (coordinate_on (leg_of legs (lanes_of part n)) k) is_at steps (coordinate-is n k within)
     where
       is_sum : (at far r w e f d k s x : ℕ) → at ≡ r * (w * e) + (f + d * w) → far ≡ k * (s * w) → x ≡ d + k * s → at + far ≡ (r * e + x) * w + f
       is_sum at far r w e f d k s x first second third = (λ i. first i + second i) ∙ sum r w e f d k s ∙ ap (λ x. (r * e + x) * w + f) (sym third)
@@ -206,12 +224,14 @@ module _ (a : Asked) (part : BlockPart) (legs : List Leg) (is : IsCourse a part 
       let same : r ≡ at = omega (arith, is_at, one) in
       subst (λ (n : ℕ). IsAnswer a n rows) same (answered a r rows is.valid (subst (λ (bs : List (ℕ × ℕ)). IsTally a bs 0 r rows) is.same before))
 
-  pub moves-from : (P : ℕ → ℕ → Type 0) (Q : ℕ → Tally → Type 0) → ((at place : ℕ) (t : Tally) → IsAnswer a at t → P at place → Q place t) → (n at place r : ℕ) (rows : Tally) → n ≤ length part.region →
+  pub moves-from : (P : ℕ → ℕ → Type 0) (Q : ℕ → Tally → Type 0) → ((at place : ℕ) (t : Tally) → IsAnswer a at t → P at place → Q place t) → (n at place r : ℕ) (rows : Tally) →
+      n ≤ length part.region →
       at ≡ r * weight_on part n + from_of part n → IsTally a (drop n part.region) n r rows → EachCopy P (lanes_of part n) at place → EachMove Q legs (lanes_of part n) place rows
   moves-from P Q given zero at place r rows within is_at before each = given at place rows (at_point at r rows is_at before) each
   moves-from P Q given (suc n) at place r rows within is_at before each = λ k lt.
       let less : n < length part.region = omega (arith, within) in
-      moves-from P Q given n (at + k * (lane_on part n).step) (place + part_after (lane_on part n).bits (lane_on part n).first k) (r * extent (box_on part n) + coordinate_on (leg_of legs (lanes_of part n)) k) (tally_at (leg_of legs (lanes_of part n)) rows k)
+      moves-from P Q given n (at + k * (lane_on part n).step) (place + part_after (lane_on part n).bits (lane_on part n).first k)
+      (r * extent (box_on part n) + coordinate_on (leg_of legs (lanes_of part n)) k) (tally_at (leg_of legs (lanes_of part n)) rows k)
       (omega (arith, less)) (moved n at r k less lt is_at) (next n r k rows less lt before) (each k lt)
 
   pub moves-to : (P : ℕ → ℕ → Type 0) (Q : ℕ → Tally → Type 0) → ((at place : ℕ) (t : Tally) → IsAnswer a at t → Q place t → P at place) → (n at place r : ℕ) (rows : Tally) → n ≤ length part.region →
@@ -219,7 +239,8 @@ module _ (a : Asked) (part : BlockPart) (legs : List Leg) (is : IsCourse a part 
   moves-to P Q given zero at place r rows within is_at before each = given at place rows (at_point at r rows is_at before) each
   moves-to P Q given (suc n) at place r rows within is_at before each = λ k lt.
       let less : n < length part.region = omega (arith, within) in
-      moves-to P Q given n (at + k * (lane_on part n).step) (place + part_after (lane_on part n).bits (lane_on part n).first k) (r * extent (box_on part n) + coordinate_on (leg_of legs (lanes_of part n)) k) (tally_at (leg_of legs (lanes_of part n)) rows k)
+      moves-to P Q given n (at + k * (lane_on part n).step) (place + part_after (lane_on part n).bits (lane_on part n).first k)
+      (r * extent (box_on part n) + coordinate_on (leg_of legs (lanes_of part n)) k) (tally_at (leg_of legs (lanes_of part n)) rows k)
       (omega (arith, less)) (moved n at r k less lt is_at) (next n r k rows less lt before) (each k lt)
 
   -- ---- a lanes
@@ -237,7 +258,8 @@ module _ (a : Asked) (part : BlockPart) (legs : List Leg) (is : IsCourse a part 
     pub few-lanes : IsRegion part.region → length lanes ≤ 5
     few-lanes region = omega (arith, ap length found.along, length-lanes part (length part.region), region.axes)
 
-    pub lanes-from : (P : ℕ → ℕ → Type 0) (Q : ℕ → Tally → Type 0) → ((at place : ℕ) (t : Tally) → IsAnswer a at t → P at place → Q place t) → EachCopy P lanes at 0 → EachMove Q legs lanes 0 (start_of a)
+    pub lanes-from : (P : ℕ → ℕ → Type 0) (Q : ℕ → Tally → Type 0) → ((at place : ℕ) (t : Tally) → IsAnswer a at t → P at place → Q place t) → EachCopy P lanes at 0 →
+        EachMove Q legs lanes 0 (start_of a)
     lanes-from P Q given each =
         subst (λ (ls : List Lane). EachMove Q legs ls 0 (start_of a)) (sym found.along)
         (moves-from P Q given (length part.region) at 0 0 (start_of a) (omega arith) (begun at found.begins) start (subst (λ (ls : List Lane). EachCopy P ls at 0) found.along each))
@@ -259,7 +281,8 @@ module _ (a : Asked) (part : BlockPart) (legs : List Leg) (is : IsCourse a part 
       placed = λ ks are.
           let byte : at + sum_to (λ axis. ks axis * (lane_on part axis).step) (length part.region) ≡ byte_at part (length part.region) ks = omega (arith, found.begins) in
           let each : EachCopy (λ at place. IsPut a want size new at) (lanes_of part (length part.region)) at 0 =
-          moves-to (λ at place. IsPut a want size new at) (λ place tally. IsRight want size new (place_by tally)) (λ at place t answer right. subst (λ (o : ℕ). IsRight want size new o) answer.place right)
+          moves-to (λ at place. IsPut a want size new at) (λ place tally. IsRight want size new (place_by tally))
+          (λ at place t answer right. subst (λ (o : ℕ). IsRight want size new o) answer.place right)
           (length part.region) at 0 0 (start_of a) (omega arith) (begun at found.begins) start
           (subst (λ (ls : List Lane). EachMove (λ place tally. IsRight want size new (place_by tally)) legs ls 0 (start_of a)) found.along made.placed) in
           subst (λ (o : ℕ). IsPut a want size new o) byte
@@ -268,7 +291,8 @@ module _ (a : Asked) (part : BlockPart) (legs : List Leg) (is : IsCourse a part 
     }
 
 -- where an axis has no coordinate there are no moves
-pub none-moved : (a : Asked) (want : ℕ → List ℕ) (size : ℕ) (part : BlockPart) (axes : ℕ) (old : List ℕ) → (axis : ℕ) × (axis < axes) × (count_on part axis ≡ 0) → AreMovedBy a want size part axes old old
+pub none-moved : (a : Asked) (want : ℕ → List ℕ) (size : ℕ) (part : BlockPart) (axes : ℕ) (old : List ℕ) → (axis : ℕ) × (axis < axes) × (count_on part axis ≡ 0) →
+    AreMovedBy a want size part axes old old
 none-moved a want size part axes old none = record {
   kept = λ o h. h;
   placed = λ ks are. absurd (omega (arith, are none.0 none.1, none.2));

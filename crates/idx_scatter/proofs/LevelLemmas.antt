@@ -42,7 +42,8 @@ put-other size at o piece old long room apart =
 
 -- ---- what stands behind the first addresses
 
-first-below : (a : Asked) (count size : ℕ) (samples old : List ℕ) (i : ℕ) (p : List ℕ) → hz_address a.mask p < count → put_of_first a count size samples old i p ≡ sample_of size samples (hz_address a.mask p)
+first-below : (a : Asked) (count size : ℕ) (samples old : List ℕ) (i : ℕ) (p : List ℕ) → hz_address a.mask p < count →
+    put_of_first a count size samples old i p ≡ sample_of size samples (hz_address a.mask p)
 first-below a count size samples old i p less =
     ap (λ (b : Bool). cond b (sample_of size samples (hz_address a.mask p)) (sample_of size old i)) (below (hz_address a.mask p) count less)
 
@@ -76,7 +77,8 @@ first-in a size o sample old first new only address stands long room is i p at =
     ]
 
 -- where it is not, nothing changes
-pub first-out : (a : Asked) (size : ℕ) (sample old : List ℕ) → ((p : List ℕ) → LiesIn a.region p → has_level a.mask a.lo a.hi p ≡ true → hz_address a.mask p ≢ 0) → AreFirstScattered a 1 size sample old old
+pub first-out : (a : Asked) (size : ℕ) (sample old : List ℕ) → ((p : List ℕ) → LiesIn a.region p → has_level a.mask a.lo a.hi p ≡ true → hz_address a.mask p ≢ 0) →
+    AreFirstScattered a 1 size sample old old
 first-out a size sample old none i p at =
     let from = asked-from a i p at in
     elim (cases_lt (hz_address a.mask p) 1) [
@@ -85,7 +87,8 @@ first-out a size sample old none i p at =
     ]
 
 -- the first sample is the first one of all
-pub first-front : (a : Asked) (size n : ℕ) (sample samples old new : List ℕ) → n ≡ size → sample ≡ take size samples → AreFirstScattered a 1 n sample old new → AreFirstScattered a 1 size samples old new
+pub first-front : (a : Asked) (size n : ℕ) (sample samples old new : List ℕ) → n ≡ size → sample ≡ take size samples → AreFirstScattered a 1 n sample old new →
+    AreFirstScattered a 1 size samples old new
 first-front a size n sample samples old new same front made i p at =
     elim (cases_lt (hz_address a.mask p) 1) [
       | inl less ↦
@@ -106,7 +109,8 @@ first-front a size n sample samples old new same front made i p at =
 -- ---- one level more
 
 -- a sample of a part of the block is one of the block
-part-sample : (size filled n place address : ℕ) (samples : List ℕ) → address ≡ filled + place → (place + 1) * size ≤ n → sample_of size (take n (drop (filled * size) samples)) place ≡ sample_of size samples address
+part-sample : (size filled n place address : ℕ) (samples : List ℕ) → address ≡ filled + place → (place + 1) * size ≤ n →
+    sample_of size (take n (drop (filled * size) samples)) place ≡ sample_of size samples address
 part-sample size filled n place address samples is room =
     let more : (place + 1) * size ≡ place * size + size = grind arith in
     let split : place * size + (n - place * size) ≡ n = omega (arith, room, more) in

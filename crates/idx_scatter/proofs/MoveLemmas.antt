@@ -30,7 +30,8 @@ pub record IsMade (want : ℕ → List ℕ) (size to : ℕ) (old new : List ℕ)
   pub kept : (o : ℕ) → IsRight want size old o → IsRight want size new o
   pub placed : IsRight want size new to
 
-pub sample-made : (want : ℕ → List ℕ) (size place to from at : ℕ) (samples old new : List ℕ) → (to + 1) * size ≤ length old → (place + 1) * size ≤ length samples → from ≡ place * size → at ≡ to * size →
+pub sample-made : (want : ℕ → List ℕ) (size place to from at : ℕ) (samples old new : List ℕ) → (to + 1) * size ≤ length old → (place + 1) * size ≤ length samples → from ≡ place * size →
+    at ≡ to * size →
     new ≡ written at (take size (drop from samples)) old → sample_of size samples place ≡ want to → IsMade want size to old new
 sample-made want size place to from at samples old new room there from_is at_is is right =
     let piece : List ℕ = sample_of size samples place in
@@ -44,7 +45,8 @@ sample-made want size place to from at samples old new room there from_is at_is 
     }
 
 -- one sample is moved
-pub move-made : (want : ℕ → List ℕ) (size place from to : ℕ) (legs : List Leg) (tally : Tally) (samples old new : List ℕ) → (place_by tally + 1) * size ≤ length old → (place + 1) * size ≤ length samples → from ≡ place * size → to ≡ place_by tally * size →
+pub move-made : (want : ℕ → List ℕ) (size place from to : ℕ) (legs : List Leg) (tally : Tally) (samples old new : List ℕ) → (place_by tally + 1) * size ≤ length old →
+    (place + 1) * size ≤ length samples → from ≡ place * size → to ≡ place_by tally * size →
     new ≡ written to (take size (drop from samples)) old → IsWanted want size samples place tally → AreMoved want size legs [] place tally old new
 move-made want size place from to legs tally samples old new room there from_is to_is is right =
     let made = sample-made want size place (place_by tally) from to samples old new room there from_is to_is is right in
@@ -53,13 +55,15 @@ move-made want size place from to legs tally samples old new room there from_is 
 -- ---- moves along lanes
 
 -- of each move, what follows from what holds of each
-pub moves-implied : (P Q : ℕ → Tally → Type 0) → ((o : ℕ) (t : Tally) → P o t → Q o t) → (legs : List Leg) (lanes : List Lane) (place : ℕ) (rows : Tally) → EachMove P legs lanes place rows → EachMove Q legs lanes place rows
+pub moves-implied : (P Q : ℕ → Tally → Type 0) → ((o : ℕ) (t : Tally) → P o t → Q o t) → (legs : List Leg) (lanes : List Lane) (place : ℕ) (rows : Tally) → EachMove P legs lanes place rows →
+    EachMove Q legs lanes place rows
 moves-implied P Q implies legs [] place rows h = implies place rows h
 moves-implied P Q implies legs (lane ∷ faster) place rows h =
     λ k lt. moves-implied P Q implies legs faster (place + part_after lane.bits lane.first k) (tally_at (leg_of legs faster) rows k) (h k lt)
 
 -- lanes that have coordinates have a move, which comes from no lower place
-some_move : (P : ℕ → Tally → Type 0) (legs : List Leg) (lanes : List Lane) (place : ℕ) (rows : Tally) → All HasCoordinate lanes → EachMove P legs lanes place rows → (o : ℕ) × (t : Tally) × P o t × (place ≤ o)
+some_move : (P : ℕ → Tally → Type 0) (legs : List Leg) (lanes : List Lane) (place : ℕ) (rows : Tally) → All HasCoordinate lanes → EachMove P legs lanes place rows →
+    (o : ℕ) × (t : Tally) × P o t × (place ≤ o)
 some_move P legs [] place rows some h = (place, rows, h, omega arith)
 some_move P legs (lane ∷ faster) place rows some h =
     let first : 0 < lane.count = All-head HasCoordinate lane faster some in
@@ -67,19 +71,22 @@ some_move P legs (lane ∷ faster) place rows some h =
     (found.0, found.1, found.2, omega (arith, found.3))
 
 -- where each move is there, so is the place that the first one begins at
-pub begins_there : (size : ℕ) (samples into : List ℕ) (legs : List Leg) (lanes : List Lane) (place : ℕ) (rows : Tally) → 1 ≤ size → All HasCoordinate lanes → EachMove (IsRoom size samples into) legs lanes place rows → place < length samples
+pub begins_there : (size : ℕ) (samples into : List ℕ) (legs : List Leg) (lanes : List Lane) (place : ℕ) (rows : Tally) → 1 ≤ size → All HasCoordinate lanes →
+    EachMove (IsRoom size samples into) legs lanes place rows → place < length samples
 begins_there size samples into legs lanes place rows some counts within =
     let found = some_move (IsRoom size samples into) legs lanes place rows counts within in
     omega (arith, found.2.read, found.3, one_is found.0 size some)
 
 -- the moves along the other lanes, at one coordinate of the slowest
-pub moves-faster : (P : ℕ → Tally → Type 0) (legs : List Leg) (lanes : List Lane) (place k part : ℕ) (rows : Tally) → 1 ≤ length lanes → k < (slowest_of lanes).count → part ≡ part_after (slowest_of lanes).bits (slowest_of lanes).first k →
+pub moves-faster : (P : ℕ → Tally → Type 0) (legs : List Leg) (lanes : List Lane) (place k part : ℕ) (rows : Tally) → 1 ≤ length lanes → k < (slowest_of lanes).count →
+    part ≡ part_after (slowest_of lanes).bits (slowest_of lanes).first k →
     EachMove P legs lanes place rows → EachMove P legs (faster_of lanes) (place + part) (tally_at (leg_of legs (faster_of lanes)) rows k)
 moves-faster P legs lanes place k part rows some within at each =
     let whole : EachMove P legs (slowest_of lanes ∷ faster_of lanes) place rows = subst (λ (ls : List Lane). EachMove P legs ls place rows) (sym (lanes-are lanes some)) each in
     subst (λ (n : ℕ). EachMove P legs (faster_of lanes) (place + n) (tally_at (leg_of legs (faster_of lanes)) rows k)) (sym at) (whole k within)
 
-pub fits-faster : (legs : List Leg) (lanes : List Lane) (k : ℕ) (rows : Tally) → 1 ≤ length lanes → k < (slowest_of lanes).count → AllFit legs lanes rows → Fits (leg_of legs (faster_of lanes)) rows k × AllFit legs (faster_of lanes) (tally_at (leg_of legs (faster_of lanes)) rows k)
+pub fits-faster : (legs : List Leg) (lanes : List Lane) (k : ℕ) (rows : Tally) → 1 ≤ length lanes → k < (slowest_of lanes).count → AllFit legs lanes rows →
+    Fits (leg_of legs (faster_of lanes)) rows k × AllFit legs (faster_of lanes) (tally_at (leg_of legs (faster_of lanes)) rows k)
 fits-faster legs lanes k rows some within fits =
     let whole : AllFit legs (slowest_of lanes ∷ faster_of lanes) rows = subst (λ (ls : List Lane). AllFit legs ls rows) (sym (lanes-are lanes some)) fits in
     whole k within
@@ -90,7 +97,8 @@ pub apart-none : (want : ℕ → List ℕ) (size first more : ℕ) (old : List �
 apart-none want size first more old = record { kept = λ o h. h; placed = λ k lt. absurd (omega arith) }
 
 -- one more of them
-pub apart-more : (want : ℕ → List ℕ) (size count first more : ℕ) (old mid new : List ℕ) → AreApart want size count first more old mid → IsMade want size (first + count * more) mid new → AreApart want size (count + 1) first more old new
+pub apart-more : (want : ℕ → List ℕ) (size count first more : ℕ) (old mid new : List ℕ) → AreApart want size count first more old mid → IsMade want size (first + count * more) mid new →
+    AreApart want size (count + 1) first more old new
 apart-more want size count first more old mid new before one = record {
   kept = λ o h. one.kept o (before.kept o h);
   placed = λ k lt. elim (cases_lt k count) [
@@ -103,7 +111,8 @@ apart-more want size count first more old mid new before one = record {
 
 -- a lane whose points lie so in the answer is moved
 pub apart-moved : (want : ℕ → List ℕ) (size : ℕ) (legs : List Leg) (lane : Lane) (place : ℕ) (rows : Tally) (first more : ℕ) (old new : List ℕ) →
-    ((k : ℕ) → k < lane.count → place_by (tally_at (leg_of legs []) rows k) ≡ first + k * more) → AreApart want size lane.count first more old new → AreMoved want size legs (lane ∷ []) place rows old new
+    ((k : ℕ) → k < lane.count → place_by (tally_at (leg_of legs []) rows k) ≡ first + k * more) → AreApart want size lane.count first more old new →
+    AreMoved want size legs (lane ∷ []) place rows old new
 apart-moved want size legs lane place rows first more old new even made = record {
   kept = made.kept;
   placed = λ k lt. subst (λ (o : ℕ). IsRight want size new o) (sym (even k lt)) (made.placed k lt);
@@ -127,7 +136,8 @@ pub record AreSoFar (want : ℕ → List ℕ) (size : ℕ) (legs : List Leg) (la
   pub kept : (o : ℕ) → IsRight want size old o → IsRight want size new o
   pub placed : (k : ℕ) → k < count → EachMove (λ place tally. IsRight want size new (place_by tally)) legs faster (place + part_after lane.bits lane.first k) (tally_at (leg_of legs faster) rows k)
 
-pub so_far-none : (want : ℕ → List ℕ) (size : ℕ) (legs : List Leg) (lane : Lane) (faster : List Lane) (place : ℕ) (rows : Tally) (old : List ℕ) → AreSoFar want size legs lane faster place rows 0 old old
+pub so_far-none : (want : ℕ → List ℕ) (size : ℕ) (legs : List Leg) (lane : Lane) (faster : List Lane) (place : ℕ) (rows : Tally) (old : List ℕ) →
+    AreSoFar want size legs lane faster place rows 0 old old
 so_far-none want size legs lane faster place rows old = record { kept = λ o h. h; placed = λ k lt. absurd (omega arith) }
 
 -- those at one coordinate more
@@ -143,7 +153,8 @@ so_far-more want size legs lane faster place rows count old mid new before one =
         (place + part_after lane.bits lane.first k) (tally_at (leg_of legs faster) rows k) (before.placed k less)
     | inr ge ↦
         let last : count ≡ k = omega (arith, lt) in
-        subst (λ (n : ℕ). EachMove (λ place tally. IsRight want size new (place_by tally)) legs faster (place + part_after lane.bits lane.first n) (tally_at (leg_of legs faster) rows n)) last one.placed
+        subst (λ (n : ℕ). EachMove (λ place tally. IsRight want size new (place_by tally)) legs faster (place + part_after lane.bits lane.first n)
+        (tally_at (leg_of legs faster) rows n)) last one.placed
   ];
 }
 

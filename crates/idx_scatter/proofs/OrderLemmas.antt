@@ -32,7 +32,8 @@ all-sane s k [] (side ∷ sides) are = absurd are
 all-sane s k (b ∷ bs) [] are = absurd are
 all-sane s k (b ∷ bs) (side ∷ sides) are = All-cons IsSane side sides are.0.sane (all-sane s (k + 1) bs sides are.1)
 
-pub sides-from : (s : ℕ → ℕ) (k : ℕ) (bs : List (ℕ × ℕ)) (sides : List Side) → length sides ≡ length bs → ((a : ℕ) → a < length bs → IsSide (s (k + a)) (get_or bs a (0, 0)) (get_or sides a no_side)) → AreSides s k bs sides
+pub sides-from : (s : ℕ → ℕ) (k : ℕ) (bs : List (ℕ × ℕ)) (sides : List Side) → length sides ≡ length bs →
+    ((a : ℕ) → a < length bs → IsSide (s (k + a)) (get_or bs a (0, 0)) (get_or sides a no_side)) → AreSides s k bs sides
 sides-from s k [] [] long each = tt
 sides-from s k [] (side ∷ sides) long each = absurd (omega (arith, long))
 sides-from s k (b ∷ bs) [] long each = absurd (omega (arith, long))
@@ -78,7 +79,8 @@ split-levels n lo hi some le (x ∷ xs) = by_test (split-levels n lo hi some le 
     one : (m : ℕ) → cond (leb lo m && leb m hi) 1 0 + cond (leb m (lo - 1)) 1 0 ≡ cond (leb m hi) 1 0
     one m = grind (arith, nat_tests)
 
-    by_test : length (filter (λ x. leb lo (n x) && leb (n x) hi) xs) + length (filter (λ x. leb (n x) (lo - 1)) xs) ≡ length (filter (λ x. leb (n x) hi) xs) → (h c f : Bool) → cond h 1 0 + cond c 1 0 ≡ cond f 1 0 →
+    by_test : length (filter (λ x. leb lo (n x) && leb (n x) hi) xs) + length (filter (λ x. leb (n x) (lo - 1)) xs) ≡ length (filter (λ x. leb (n x) hi) xs) → (h c f : Bool) →
+        cond h 1 0 + cond c 1 0 ≡ cond f 1 0 →
         length (cond h (x ∷ filter (λ x. leb lo (n x) && leb (n x) hi) xs) (filter (λ x. leb lo (n x) && leb (n x) hi) xs))
         + length (cond c (x ∷ filter (λ x. leb (n x) (lo - 1)) xs) (filter (λ x. leb (n x) (lo - 1)) xs))
         ≡ length (cond f (x ∷ filter (λ x. leb (n x) hi) xs) (filter (λ x. leb (n x) hi) xs))
@@ -92,7 +94,8 @@ split-levels n lo hi some le (x ∷ xs) = by_test (split-levels n lo hi some le 
     by_test rest false false false e = rest
 
 -- the points on the strides of a level that come before a place are those of the levels up to it
-count-levels : (mask : List ℕ) (region : List (ℕ × ℕ)) (h place : ℕ) → NamesAxes mask (length region) → count_before (stride mask h) 0 region place ≡ length (filter (λ p. leb (level mask p) h) (take place (points region)))
+count-levels : (mask : List ℕ) (region : List (ℕ × ℕ)) (h place : ℕ) → NamesAxes mask (length region) →
+    count_before (stride mask h) 0 region place ≡ length (filter (λ p. leb (level mask p) h) (take place (points region)))
 count-levels mask region h place named =
     ap length (sym (filter-agree_on (LiesIn region) (λ p. leb (level mask p) h) (on (stride mask h) 0)
     (λ p inside. level-test mask p h (subst (NamesAxes mask) (sym (length_from_LiesIn region p inside)) named))

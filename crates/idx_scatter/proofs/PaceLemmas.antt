@@ -35,7 +35,8 @@ fine-later side rows here step k sane stands whole =
     let near_lies : (in_row side rows (here + 0 * step)).lies ≡ eqb ((side.lo + (here + 0 * step)) % side.stride) 0 = ap (λ (e : Earlier). e.lies) near in
     let more = multiples-on side.stride side.lo here k step sane.paced whole in
     let none = multiples-on side.stride side.lo here 0 step sane.paced whole in
-    let counts : side.whole * rows.count + multiples_in side.stride side.lo (here + k * step) ≡ (in_row side rows (here + 0 * step)).count + k * (step / side.stride) = omega (arith, near_count, more, none) in
+    let counts : side.whole * rows.count + multiples_in side.stride side.lo (here + k * step) ≡ (in_row side rows (here + 0 * step)).count + k * (step / side.stride) =
+    omega (arith, near_count, more, none) in
     let behind : side.lo + (here + k * step) ≡ side.lo + here + k * step = omega arith in
     let before : side.lo + here + 0 * step ≡ side.lo + (here + 0 * step) = omega arith in
     let rests : (side.lo + (here + k * step)) % side.stride ≡ (side.lo + (here + 0 * step)) % side.stride =

@@ -92,7 +92,8 @@ shifted side n sane =
 -- ---- rows
 
 -- the first rows, and a part of the next one
-take-rows : {X Y : Type 0} (f : X → List Y) (e : ℕ) → ((x : X) → length (f x) ≡ e) → (xs : List X) (r i : ℕ) (x : X) → slice_get xs r ≡ Some x → i ≤ e → take (r * e + i) (flat_map f xs) ≡ flat_map f (take r xs) ++ take i (f x)
+take-rows : {X Y : Type 0} (f : X → List Y) (e : ℕ) → ((x : X) → length (f x) ≡ e) → (xs : List X) (r i : ℕ) (x : X) → slice_get xs r ≡ Some x → i ≤ e →
+    take (r * e + i) (flat_map f xs) ≡ flat_map f (take r xs) ++ take i (f x)
 take-rows f e long [] r i x at le = cc
 take-rows {X = X} f e long (y ∷ ys) zero i x at le =
     let same : y ≡ x = cc in
@@ -140,7 +141,9 @@ rows-count s k b (p ∷ ps) some =
     ∙ ap (λ n. cond (on s (k + 1) p) (multiples_in (s k) b.0 (extent b)) 0 + n) (rows-count s k b ps some)
     ∙ by_test (on s (k + 1) p)
   where
-    by_test : (t : Bool) → cond t (multiples_in (s k) b.0 (extent b)) 0 + multiples_in (s k) b.0 (extent b) * length (filter (on s (k + 1)) ps) ≡ multiples_in (s k) b.0 (extent b) * length (cond t (p ∷ filter (on s (k + 1)) ps) (filter (on s (k + 1)) ps))
+    by_test : (t : Bool) →
+        cond t (multiples_in (s k) b.0 (extent b)) 0 + multiples_in (s k) b.0 (extent b) * length (filter (on s (k + 1)) ps) ≡ multiples_in (s k) b.0 (extent b) * length
+        (cond t (p ∷ filter (on s (k + 1)) ps) (filter (on s (k + 1)) ps))
     by_test true = grind arith
     by_test false = omega arith
 
@@ -238,12 +241,14 @@ before-one s k b bs side place rows is within below = by_test rows.lies refl
         let on_is : on s (k + 1) (point_of bs (place / e)) ≡ true = sym lies_is ∙ stands in
         record {
           count =
-              ap (λ (t : Bool). (cond {A = Earlier} t (record { count = side.whole * rows.count + multiples_in side.stride side.lo (place % side.extent); lies = eqb ((side.lo + place % side.extent) % side.stride) 0 })
+              ap (λ (t : Bool). (cond {A = Earlier} t
+              (record { count = side.whole * rows.count + multiples_in side.stride side.lo (place % side.extent); lies = eqb ((side.lo + place % side.extent) % side.stride) 0 })
               (record { count = side.whole * rows.count; lies = false })).count) stands
               ∙ (λ j. all j + here j)
               ∙ sym (step ∙ ap (λ (t : Bool). multiples_in (s k) b.0 e * count_before s (k + 1) bs (place / e) + cond t (multiples_in (s k) b.0 (place % e)) 0) on_is);
           lies =
-              ap (λ (t : Bool). (cond {A = Earlier} t (record { count = side.whole * rows.count + multiples_in side.stride side.lo (place % side.extent); lies = eqb ((side.lo + place % side.extent) % side.stride) 0 })
+              ap (λ (t : Bool). (cond {A = Earlier} t
+              (record { count = side.whole * rows.count + multiples_in side.stride side.lo (place % side.extent); lies = eqb ((side.lo + place % side.extent) % side.stride) 0 })
               (record { count = side.whole * rows.count; lies = false })).lies) stands
               ∙ tested
               ∙ sym (ap (λ (t : Bool). t && eqb ((b.0 + place % e) % s k) 0) on_is);
@@ -253,12 +258,14 @@ before-one s k b bs side place rows is within below = by_test rows.lies refl
         let none : multiples_in (s k) b.0 e * count_before s (k + 1) bs (place / e) ≡ multiples_in (s k) b.0 e * count_before s (k + 1) bs (place / e) + 0 = omega arith in
         record {
           count =
-              ap (λ (t : Bool). (cond {A = Earlier} t (record { count = side.whole * rows.count + multiples_in side.stride side.lo (place % side.extent); lies = eqb ((side.lo + place % side.extent) % side.stride) 0 })
+              ap (λ (t : Bool). (cond {A = Earlier} t
+              (record { count = side.whole * rows.count + multiples_in side.stride side.lo (place % side.extent); lies = eqb ((side.lo + place % side.extent) % side.stride) 0 })
               (record { count = side.whole * rows.count; lies = false })).count) apart
               ∙ all ∙ none
               ∙ sym (step ∙ ap (λ (t : Bool). multiples_in (s k) b.0 e * count_before s (k + 1) bs (place / e) + cond t (multiples_in (s k) b.0 (place % e)) 0) off);
           lies =
-              ap (λ (t : Bool). (cond {A = Earlier} t (record { count = side.whole * rows.count + multiples_in side.stride side.lo (place % side.extent); lies = eqb ((side.lo + place % side.extent) % side.stride) 0 })
+              ap (λ (t : Bool). (cond {A = Earlier} t
+              (record { count = side.whole * rows.count + multiples_in side.stride side.lo (place % side.extent); lies = eqb ((side.lo + place % side.extent) % side.stride) 0 })
               (record { count = side.whole * rows.count; lies = false })).lies) apart
               ∙ sym (ap (λ (t : Bool). t && eqb ((b.0 + place % e) % s k) 0) off);
         }
@@ -288,7 +295,8 @@ before-row s k b bs side rows r here is below within small =
     let room : place < length (points (b ∷ bs)) = omega (arith, same, small, length-points (b ∷ bs), mul-le-mul_right (extent b) le, more, mul_comm (size bs) (extent b)) in
     subst (λ (n : ℕ). IsBefore s k (b ∷ bs) n (in_row side rows here).count (in_row side rows here).lies) same
     (subst (λ (n : ℕ). IsBefore s k (b ∷ bs) place (in_row side rows n).count (in_row side rows n).lies) rest
-    (before-one s k b bs side place rows is room (subst (λ (n : ℕ). IsBefore s n bs (place / side.extent) rows.count rows.lies) next (subst (λ (n : ℕ). IsBefore s (suc k) bs n rows.count rows.lies) row below))))
+    (before-one s k b bs side place rows is room
+    (subst (λ (n : ℕ). IsBefore s n bs (place / side.extent) rows.count rows.lies) next (subst (λ (n : ℕ). IsBefore s (suc k) bs n rows.count rows.lies) row below))))
 
 -- a row that lies on no strides
 pub off-row : (side : Side) (rows : Earlier) (here : ℕ) → rows.lies ≡ false → ((in_row side rows here).count ≡ side.whole * rows.count) × ((in_row side rows here).lies ≡ false)

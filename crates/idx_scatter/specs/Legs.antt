@@ -1,5 +1,5 @@
--- The places of points in the answer, counted along lanes axis by axis, the slowest first: what comes before a coordinate
--- of a lane follows from what comes before the row that the lane is in.
+-- The places of points in the answer, counted along lanes axis by axis, the slowest first: what comes before a
+-- coordinate of a lane follows from what comes before the row that the lane is in.
 use Rattle.std.specs.Prelude.{◌≡◌, ℕ, ◌+◌, ◌-◌, ◌*◌, ◌^◌, ◌<◌, ◌≤◌, nat_lt, true, List, [], ◌∷◌, length}
 use Rattle.std.specs.List.{slice_index_or}
 use Rattle.idx_hz.specs.Mask.{NamesAxes}
@@ -71,8 +71,8 @@ AllFit legs [] rows = Unit {0}
 AllFit legs (lane ∷ faster) rows =
     (k : ℕ) → k < lane.count → Fits (leg_of legs faster) rows k × AllFit legs faster (tally_at (leg_of legs faster) rows k)
 
--- of each move along these lanes, the slowest first, something holds of the place in the block that it comes from, and of
--- what comes before the point in the answer
+-- of each move along these lanes, the slowest first, something holds of the place in the block that it comes from, and
+-- of what comes before the point in the answer
 abbrev pub EachMove : (ℕ → Tally → Type 0) → List Leg → List Lane → ℕ → Tally → Type 0
 EachMove P legs [] place rows = P place rows
 EachMove P legs (lane ∷ faster) place rows =

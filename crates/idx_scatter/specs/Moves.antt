@@ -1,5 +1,6 @@
--- Moves of samples along lanes, each from a place of a block to the place of its point in the answer. The lanes are those
--- of the copies the other way round: they give the places of the points in the region, and the legs those in the answer.
+-- Moves of samples along lanes, each from a place of a block to the place of its point in the answer. The lanes are
+-- those of the copies the other way round: they give the places of the points in the region, and the legs those in the
+-- answer.
 use Rattle.std.specs.Prelude.{◌≡◌, ℕ, ◌+◌, ◌*◌, ◌^◌, ◌<◌, ◌≤◌, List, length}
 use Rattle.idx_geom.specs.Region.{points}
 use Rattle.idx_lanes.specs.Copies.{IsRight}

@@ -11,8 +11,8 @@ sample_of size bytes place = take size (drop (place * size) bytes)
 abbrev pub is_in_block : List ℕ → ℕ → ℕ → List ℕ → Bool
 is_in_block mask bits block p = hz_address mask p / 2 ^ bits == block
 
--- what stands at the place of a point in the answer afterwards: where the point is in the block, the block's sample at the
--- place of the point's address in it, and else what stood there
+-- what stands at the place of a point in the answer afterwards: where the point is in the block, the block's sample at
+-- the place of the point's address in it, and else what stood there
 abbrev pub put_of_block : Asked → ℕ → ℕ → ℕ → List ℕ → List ℕ → ℕ → List ℕ → List ℕ
 put_of_block a bits block size samples old place p =
     if is_in_block a.mask bits block p then sample_of size samples (hz_address a.mask p % 2 ^ bits)

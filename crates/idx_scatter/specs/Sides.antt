@@ -1,4 +1,5 @@
--- The axes of a region with a stride on each: how many of the points whose coordinates are multiples come before a place.
+-- The axes of a region with a stride on each: how many of the points whose coordinates are multiples come before a
+-- place.
 use Rattle.std.specs.Prelude.{◌≡◌, ℕ, Bool, ◌+◌, ◌-◌, ◌*◌, ◌/◌, ◌%◌, ◌^◌, ◌≤◌, ◌==◌, false, if◌then◌else◌, List, [], ◌∷◌, length, filter, take}
 use Rattle.idx_lanes.specs.Axis.{on}
 use Rattle.idx_geom.specs.Region.{extent, points, point_of}

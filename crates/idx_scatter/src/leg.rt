@@ -4,8 +4,8 @@ ghost use Rattle.idx_scatter.specs.Legs.{Fits, later, place_by, tally_at};
 use crate::side::{NO_SIDE, Side, before_in_row};
 use crate::tally::Tally;
 
-/// The coordinates of a lane along an axis of a region, and what they count for the place in the answer. The first one is
-/// `here`, counted from the lower end, and each other one lies `step` behind the one before.
+/// The coordinates of a lane along an axis of a region, and what they count for the place in the answer. The first one
+/// is `here`, counted from the lower end, and each other one lies `step` behind the one before.
 #[derive(Clone, Copy)]
 pub(crate) struct Leg {
     /// The axis with the strides of the finest level that is asked for.
@@ -25,8 +25,8 @@ pub(crate) const NO_LEG: Leg = Leg {
 };
 
 impl Leg {
-    /// What comes before the row, or the point, at the coordinate of number `k`, from what comes before the row that it is
-    /// a part of.
+    /// What comes before the row, or the point, at the coordinate of number `k`, from what comes before the row that it
+    /// is a part of.
     #[inline(always)]
     pub(crate) fn at(&self, rows: &Tally, k: usize) -> Tally
         requires { Fits self.now rows.now k }
@@ -39,8 +39,8 @@ impl Leg {
         }
     }
 
-    /// How many places the points of a row lie apart in the answer, where they all lie equally far apart: always where no
-    /// point of the row lies on the coarser strides.
+    /// How many places the points of a row lie apart in the answer, where they all lie equally far apart: always where
+    /// no point of the row lies on the coarser strides.
     pub(crate) fn more_each(&self, rows: &Tally) -> Option<usize>
         requires { Fits self.now rows.now 0 }
         ensures { IfSome result (λ more. (k : ℕ) →
@@ -54,8 +54,8 @@ impl Leg {
         }
     }
 
-    /// How many places the rows at the coordinates of this leg lie apart in the answer, and the points of each row, which
-    /// are those of the faster leg, where they all lie equally far apart.
+    /// How many places the rows at the coordinates of this leg lie apart in the answer, and the points of each row,
+    /// which are those of the faster leg, where they all lie equally far apart.
     pub(crate) fn paces(&self, faster: &Leg, rows: &Tally) -> Option<(usize, usize)>
         requires rows { Fits self.now rows.now 0 }
         requires row { Fits faster.now (tally_at self.now rows.now 0) 0 }

@@ -18,8 +18,8 @@ use idx_hz::Mask;
 use idx_lanes::{BlockPart, bounds, first_from};
 use std::marker::Model;
 
-/// The order of the points of a region whose level is `lo` to `hi`, both among them: row-major, axis 0 fastest. They are
-/// the points on the strides of `hi`, without those on the strides of `lo` - 1 (Pascucci and Frank 2001).
+/// The order of the points of a region whose level is `lo` to `hi`, both among them: row-major, axis 0 fastest. They
+/// are the points on the strides of `hi`, without those on the strides of `lo` - 1 (Pascucci and Frank 2001).
 #[derive(Debug, Drop)]
 pub struct Order {
     mask: Mask,

@@ -3,8 +3,8 @@ ghost use Rattle.idx_scatter.specs.Legs.{place_by};
 
 use crate::side::Earlier;
 
-/// What comes before a row of a region's points, or before a point: on the strides of the finest level that is asked for,
-/// and on those of the levels before the coarsest one, if there are any.
+/// What comes before a row of a region's points, or before a point: on the strides of the finest level that is asked
+/// for, and on those of the levels before the coarsest one, if there are any.
 #[derive(Clone, Copy)]
 pub(crate) struct Tally {
     pub(crate) fine: Earlier,

@@ -8,8 +8,8 @@ use std::alloc::{AllocError, Global};
 use std::process::Abort;
 use std::test::Fail;
 
-/// The samples of a volume of four by four points under the mask `V0101`, in the order of their addresses. The sample at
-/// (x, y) is 4y + x.
+/// The samples of a volume of four by four points under the mask `V0101`, in the order of their addresses. The sample
+/// at (x, y) is 4y + x.
 const STORED: [u8; 16] = [0, 2, 8, 10, 1, 9, 3, 11, 4, 5, 12, 13, 6, 7, 14, 15];
 
 fn mask_of(rt: &impl Abort, text: &[u8]) -> Mask {

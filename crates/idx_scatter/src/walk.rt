@@ -11,8 +11,8 @@ use idx_geom::MAX_AXES;
 use idx_lanes::{Lane, Sample, next_part};
 
 /// Moves the samples along these lanes, the slowest first, out of a block. The first one comes from the place `place`
-/// with what each lane's first coordinate gives to it. The legs, axis 0 first, and what comes before the row of the lanes
-/// say where the samples go.
+/// with what each lane's first coordinate gives to it. The legs, axis 0 first, and what comes before the row of the
+/// lanes say where the samples go.
 pub(crate) fn walk<S: Sample>(
     sample: S,
     legs: &[Leg; MAX_AXES],

@@ -34,5 +34,6 @@ product-next so_far here rest next total whole same =
     omega arith
 
 -- what is packed from an axis on
-pub IsPacked-drop : (axes : List Axis) (k : ℕ) (d : Axis) (width : ℕ) → k < length axes → IsPacked width (drop k axes) ≡ (((get_or axes k d).step ≡ width) × IsPacked (width * (get_or axes k d).count) (drop (k + 1) axes))
+pub IsPacked-drop : (axes : List Axis) (k : ℕ) (d : Axis) (width : ℕ) → k < length axes →
+    IsPacked width (drop k axes) ≡ (((get_or axes k d).step ≡ width) × IsPacked (width * (get_or axes k d).count) (drop (k + 1) axes))
 IsPacked-drop axes k d width h = ap (IsPacked width) (drop_more axes k d h)

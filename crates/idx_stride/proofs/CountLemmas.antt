@@ -43,7 +43,9 @@ flagged-behind_coarse : (a : Axis) (base : ℕ) (ks : List ℕ) → length (filt
 flagged-behind_coarse a base [] = refl
 flagged-behind_coarse a base (k ∷ ks) =
     let rest : length (filter is_flagged (map (λ k. (base + k * a.step, is_coarse a k)) ks)) ≡ length (filter (is_coarse a) ks) = flagged-behind_coarse a base ks in
-    elim (is_coarse a k) as (λ b. length (cond b ((base + k * a.step, b) ∷ filter is_flagged (map (λ k. (base + k * a.step, is_coarse a k)) ks)) (filter is_flagged (map (λ k. (base + k * a.step, is_coarse a k)) ks))) ≡ length (cond b (k ∷ filter (is_coarse a) ks) (filter (is_coarse a) ks))) [
+    elim (is_coarse a k) as
+    (λ b. length (cond b ((base + k * a.step, b) ∷ filter is_flagged (map (λ k. (base + k * a.step, is_coarse a k)) ks))
+    (filter is_flagged (map (λ k. (base + k * a.step, is_coarse a k)) ks))) ≡ length (cond b (k ∷ filter (is_coarse a) ks) (filter (is_coarse a) ks))) [
       | true ↦ ap suc rest
       | false ↦ rest
     ]
@@ -66,7 +68,8 @@ flagged-rows a (p ∷ ps) =
     let parts : length (filter is_flagged (flat_map (row_of a) (p ∷ ps))) ≡ length (filter is_flagged (row_of a p)) + length (filter is_flagged (flat_map (row_of a) ps)) =
     ap length (filter-append is_flagged (row_of a p) (flat_map (row_of a) ps)) ∙ length-append (filter is_flagged (row_of a p)) (filter is_flagged (flat_map (row_of a) ps)) in
     let step : cond p.1 (coarse_coordinates a) 0 + coarse_coordinates a * length (filter is_flagged ps) ≡ coarse_coordinates a * length (cond p.1 (p ∷ filter is_flagged ps) (filter is_flagged ps)) =
-    elim p.1 as (λ b. cond b (coarse_coordinates a) 0 + coarse_coordinates a * length (filter is_flagged ps) ≡ coarse_coordinates a * length (cond b (p ∷ filter is_flagged ps) (filter is_flagged ps))) [
+    elim p.1 as (λ b. cond b (coarse_coordinates a) 0 + coarse_coordinates a * length (filter is_flagged ps) ≡ coarse_coordinates a * length
+    (cond b (p ∷ filter is_flagged ps) (filter is_flagged ps))) [
       | true ↦ omega arith
       | false ↦ omega arith
     ] in
@@ -116,7 +119,8 @@ offsets-none_coarse base coarse axes none =
     kept : (ps : List (ℕ × Bool)) → length (filter is_flagged ps) ≡ 0 → map place (filter is_kept ps) ≡ map place ps
     kept [] h = refl
     kept (p ∷ ps) h =
-        let F : Bool → Type 0 = λ b. length (cond b (p ∷ filter is_flagged ps) (filter is_flagged ps)) ≡ 0 → map place (cond (not b) (p ∷ filter is_kept ps) (filter is_kept ps)) ≡ p.0 ∷ map place ps in
+        let F : Bool → Type 0 = λ b. length (cond b (p ∷ filter is_flagged ps) (filter is_flagged ps)) ≡ 0 →
+        map place (cond (not b) (p ∷ filter is_kept ps) (filter is_kept ps)) ≡ p.0 ∷ map place ps in
         let by_flag : F p.1 = elim p.1 as (λ b. F b) [ true ↦ (λ e. cc e) | false ↦ (λ e. ap (λ t. p.0 ∷ t) (kept ps e)) ] in
         by_flag h
 

@@ -33,6 +33,8 @@ module _ (axes faster : List Axis) (a : Axis) (whole : faster ++ a ∷ [] ≡ ax
       let most : k ≤ a.count - 1 = omega arith in
       omega (arith, ap reach whole, reach-snoc faster a, mul-le-mul_right a.step most)
 
-  pub layer_fits : (size : ℕ) (bytes : List ℕ) (base : ℕ) (coarse : Bool) (k at next room : ℕ) → k < a.count → next ≡ at + length (flat_map (layer size bytes base coarse faster a) (range_with_len 0 k)) → at + length (gathered size bytes base coarse axes) ≤ room → next + length (layer size bytes base coarse faster a k) ≤ room
+  pub layer_fits : (size : ℕ) (bytes : List ℕ) (base : ℕ) (coarse : Bool) (k at next room : ℕ) → k < a.count →
+      next ≡ at + length (flat_map (layer size bytes base coarse faster a) (range_with_len 0 k)) → at + length (gathered size bytes base coarse axes) ≤ room →
+      next + length (layer size bytes base coarse faster a k) ≤ room
   layer_fits size bytes base coarse k at next room inside here fits =
       omega (arith, ap length (gathered-layers size bytes base coarse), length-flat_map-range (layer size bytes base coarse faster a) k a.count inside)

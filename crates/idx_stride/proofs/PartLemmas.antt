@@ -38,7 +38,8 @@ grid_points-positive (a ∷ slower) h =
     mul-le 1 1 a.count (grid_points slower) here.counted (grid_points-positive slower (All-tail IsAxis a slower h))
 
 -- a walk is two parts of it
-pub offsets-cut : (base : ℕ) (coarse : Bool) (faster : List Axis) (a : Axis) (h m : ℕ) → h + m ≡ a.count → offsets base coarse (faster ++ a ∷ []) ≡ offsets (base + 0 * a.step) coarse (faster ++ axis_part a 0 h ∷ []) ++ offsets (base + h * a.step) coarse (faster ++ axis_part a h m ∷ [])
+pub offsets-cut : (base : ℕ) (coarse : Bool) (faster : List Axis) (a : Axis) (h m : ℕ) → h + m ≡ a.count →
+    offsets base coarse (faster ++ a ∷ []) ≡ offsets (base + 0 * a.step) coarse (faster ++ axis_part a 0 h ∷ []) ++ offsets (base + h * a.step) coarse (faster ++ axis_part a h m ∷ [])
 offsets-cut base coarse faster a h m whole =
     let F : ℕ → List ℕ = λ k. offsets (base + k * a.step) (coarse && is_coarse a k) faster in
     let same_base : base ≡ base + 0 * a.step = omega arith in
@@ -66,7 +67,8 @@ end_of-part w faster a from count same some fits =
     let whole : reach w.axes ≡ reach faster + (a.count - 1) * a.step = ap reach same ∙ reach-snoc faster a in
     omega (arith, whole, reach-snoc faster (axis_part a from count), mul-le-mul_right a.step last)
 
-pub grid_points-part : (w : Walk) (faster : List Axis) (a : Axis) (from count : ℕ) → w.axes ≡ faster ++ a ∷ [] → All IsAxis w.axes → count < a.count → grid_points (walk_part w faster a from count).axes < grid_points w.axes
+pub grid_points-part : (w : Walk) (faster : List Axis) (a : Axis) (from count : ℕ) → w.axes ≡ faster ++ a ∷ [] → All IsAxis w.axes → count < a.count →
+    grid_points (walk_part w faster a from count).axes < grid_points w.axes
 grid_points-part w faster a from count same valid fewer =
     let axes : All IsAxis (faster ++ a ∷ []) = rw same at valid in
     let some : 1 ≤ grid_points faster = grid_points-positive faster (All-snoc_front IsAxis faster a axes) in
@@ -74,7 +76,8 @@ grid_points-part w faster a from count same valid fewer =
     let whole : grid_points w.axes ≡ grid_points faster * a.count = ap grid_points same ∙ grid_points-snoc faster a in
     omega (arith, whole, grid_points-snoc faster (axis_part a from count), mul-le-mul_left (grid_points faster) more)
 
-pub IsStrides-part : (w : Walk) (faster : List Axis) (a : Axis) (from count : ℕ) → w.axes ≡ faster ++ a ∷ [] → IsStrides w → 1 ≤ count → from + count ≤ a.count → IsStrides (walk_part w faster a from count)
+pub IsStrides-part : (w : Walk) (faster : List Axis) (a : Axis) (from count : ℕ) → w.axes ≡ faster ++ a ∷ [] → IsStrides w → 1 ≤ count → from + count ≤ a.count →
+    IsStrides (walk_part w faster a from count)
 IsStrides-part w faster a from count same valid some fits =
     let axes : All IsAxis (faster ++ a ∷ []) = rw same at valid.axes in
     let slowest : IsAxis a = All-snoc_last IsAxis faster a axes in

@@ -19,7 +19,8 @@ abbrev pub place : ℕ × Bool → ℕ
 place p = p.0
 
 -- the places by the slowest axis
-pub places-snoc : (base : ℕ) (coarse : Bool) (faster : List Axis) (a : Axis) → places base coarse (faster ++ a ∷ []) ≡ flat_map (λ k. places (base + k * a.step) (coarse && is_coarse a k) faster) (range_with_len 0 a.count)
+pub places-snoc : (base : ℕ) (coarse : Bool) (faster : List Axis) (a : Axis) →
+    places base coarse (faster ++ a ∷ []) ≡ flat_map (λ k. places (base + k * a.step) (coarse && is_coarse a k) faster) (range_with_len 0 a.count)
 places-snoc base coarse [] a =
     append-nil (row_of a (base, coarse))
     ∙ sym (flat_map_single (λ (k : ℕ). (base + k * a.step, coarse && is_coarse a k)) (range_with_len 0 a.count))
@@ -27,14 +28,16 @@ places-snoc base coarse (b ∷ faster) a =
     ap (flat_map (row_of b)) (places-snoc base coarse faster a)
     ∙ flat_map-of_flat_map (row_of b) (λ (k : ℕ). places (base + k * a.step) (coarse && is_coarse a k) faster) (range_with_len 0 a.count)
 
-pub offsets-snoc : (base : ℕ) (coarse : Bool) (faster : List Axis) (a : Axis) → offsets base coarse (faster ++ a ∷ []) ≡ flat_map (λ k. offsets (base + k * a.step) (coarse && is_coarse a k) faster) (range_with_len 0 a.count)
+pub offsets-snoc : (base : ℕ) (coarse : Bool) (faster : List Axis) (a : Axis) →
+    offsets base coarse (faster ++ a ∷ []) ≡ flat_map (λ k. offsets (base + k * a.step) (coarse && is_coarse a k) faster) (range_with_len 0 a.count)
 offsets-snoc base coarse faster a =
     let pieces : ℕ → List (ℕ × Bool) = λ k. places (base + k * a.step) (coarse && is_coarse a k) faster in
     ap (λ ps. map place (filter is_kept ps)) (places-snoc base coarse faster a)
     ∙ ap (map place) (filter-of_flat_map is_kept pieces (range_with_len 0 a.count))
     ∙ map-of_flat_map place (λ k. filter is_kept (pieces k)) (range_with_len 0 a.count)
 
-pub samples-snoc : (size : ℕ) (bytes : List ℕ) (base : ℕ) (coarse : Bool) (faster : List Axis) (a : Axis) → samples_at size bytes (offsets base coarse (faster ++ a ∷ [])) ≡ flat_map (λ k. samples_at size bytes (offsets (base + k * a.step) (coarse && is_coarse a k) faster)) (range_with_len 0 a.count)
+pub samples-snoc : (size : ℕ) (bytes : List ℕ) (base : ℕ) (coarse : Bool) (faster : List Axis) (a : Axis) →
+    samples_at size bytes (offsets base coarse (faster ++ a ∷ [])) ≡ flat_map (λ k. samples_at size bytes (offsets (base + k * a.step) (coarse && is_coarse a k) faster)) (range_with_len 0 a.count)
 samples-snoc size bytes base coarse faster a =
     ap (samples_at size bytes) (offsets-snoc base coarse faster a)
     ∙ flat_map-of_flat_map _ (λ (k : ℕ). offsets (base + k * a.step) (coarse && is_coarse a k) faster) (range_with_len 0 a.count)
@@ -64,7 +67,8 @@ offsets-moved further base coarse axes =
     kept : (ps : List (ℕ × Bool)) → map place (filter is_kept (map (moved further true) ps)) ≡ map (λ o. further + o) (map place (filter is_kept ps))
     kept [] = refl
     kept (p ∷ ps) =
-        elim p.1 as (λ b. map place (cond (not b) (moved further true p ∷ filter is_kept (map (moved further true) ps)) (filter is_kept (map (moved further true) ps))) ≡ map (λ o. further + o) (map place (cond (not b) (p ∷ filter is_kept ps) (filter is_kept ps)))) [
+        elim p.1 as (λ b. map place (cond (not b) (moved further true p ∷ filter is_kept (map (moved further true) ps)) (filter is_kept (map (moved further true) ps))) ≡ map
+        (λ o. further + o) (map place (cond (not b) (p ∷ filter is_kept ps) (filter is_kept ps)))) [
           | true ↦ kept ps
           | false ↦ ap (λ t. (further + p.0) ∷ t) (kept ps)
         ]

@@ -55,7 +55,8 @@ module _ (size : ℕ) (bytes : List ℕ) (F : ℕ → List ℕ) (first step : �
       ∙ sym (flat_map-map (λ o. take size (drop o bytes)) (λ j. first + j * step) (range_with_len 0 n))
 
   -- every second piece is a sample, and the others are empty
-  pub pieces-every_other : (k n : ℕ) → ((j : ℕ) → j < n → F (k + 2 * j) ≡ take size (drop (first + j * step) bytes)) → ((j : ℕ) → j < n → F (k + 2 * j + 1) ≡ []) → flat_map F (range_with_len k (2 * n)) ≡ samples_at size bytes (progression first step n)
+  pub pieces-every_other : (k n : ℕ) → ((j : ℕ) → j < n → F (k + 2 * j) ≡ take size (drop (first + j * step) bytes)) → ((j : ℕ) → j < n → F (k + 2 * j + 1) ≡ []) →
+      flat_map F (range_with_len k (2 * n)) ≡ samples_at size bytes (progression first step n)
   pieces-every_other k n each none =
       halved F k n
       ∙ flat_map-range_same (λ j. F (k + 2 * j) ++ (F (k + 2 * j + 1) ++ [])) (λ j. take size (drop (first + j * step) bytes)) 0 n (λ j low high.
@@ -87,7 +88,8 @@ coarse_at a k left at =
 
 module _ (size : ℕ) (bytes : List ℕ) (base : ℕ) (a : Axis) where
   -- where every second coordinate is coarse, the others are a progression of twice the step
-  pub gathered-every_other : (first n : ℕ) → a.ratio ≡ 2 → first ≤ 1 → 1 ≤ a.count → (a.phase + first) % 2 ≡ 1 → n ≡ (a.count - first + 1) / 2 → gathered size bytes base true (a ∷ []) ≡ samples_at size bytes (progression (base + first * a.step) (2 * a.step) n)
+  pub gathered-every_other : (first n : ℕ) → a.ratio ≡ 2 → first ≤ 1 → 1 ≤ a.count → (a.phase + first) % 2 ≡ 1 → n ≡ (a.count - first + 1) / 2 →
+      gathered size bytes base true (a ∷ []) ≡ samples_at size bytes (progression (base + first * a.step) (2 * a.step) n)
   gathered-every_other first n ratio few some odd half =
       let F : ℕ → List ℕ = piece size bytes base true a in
       let fine : (j : ℕ) → is_coarse a (first + 2 * j) ≡ false = λ j.
@@ -123,7 +125,8 @@ module _ (size : ℕ) (bytes : List ℕ) (base : ℕ) (a : Axis) where
       gathered-row size bytes base true a ∙ whole ∙ front
 
   -- one run more, and the coarse coordinate behind it
-  pub pieces-next_run : (k left n next : ℕ) → (a.phase + k + left) % a.ratio ≡ 0 → left < a.ratio → k < a.count → n ≡ min left (a.count - k) → next ≡ min (k + n + 1) a.count → flat_map (piece size bytes base true a) (range_with_len 0 next) ≡ flat_map (piece size bytes base true a) (range_with_len 0 k) ++ samples_at size bytes (progression (base + k * a.step) a.step n)
+  pub pieces-next_run : (k left n next : ℕ) → (a.phase + k + left) % a.ratio ≡ 0 → left < a.ratio → k < a.count → n ≡ min left (a.count - k) → next ≡ min (k + n + 1) a.count →
+      flat_map (piece size bytes base true a) (range_with_len 0 next) ≡ flat_map (piece size bytes base true a) (range_with_len 0 k) ++ samples_at size bytes (progression (base + k * a.step) a.step n)
   pieces-next_run k left n next at less inside run then =
       let F : ℕ → List ℕ = piece size bytes base true a in
       let each : (j : ℕ) → j < n → F (k + j) ≡ take size (drop (base + k * a.step + j * a.step) bytes) = λ j h.
@@ -147,7 +150,8 @@ module _ (size : ℕ) (bytes : List ℕ) (base : ℕ) (a : Axis) where
       whole ∙ front
 
 -- the last of every second sample lies within
-pub every_other-read : (base size step count first n len : ℕ) → n ≡ (count - first + 1) / 2 → first ≤ 1 → 1 < count → base + (count - 1) * step + size ≤ len → 0 < n → base + first * step + (n - 1) * (2 * step) + size ≤ len
+pub every_other-read : (base size step count first n len : ℕ) → n ≡ (count - first + 1) / 2 → first ≤ 1 → 1 < count → base + (count - 1) * step + size ≤ len → 0 < n →
+    base + first * step + (n - 1) * (2 * step) + size ≤ len
 every_other-read base size step count first n len half few wide read some =
     let m : ℕ = n - 1 in
     let most : 2 * m + first ≤ count - 1 = omega arith in

@@ -33,13 +33,15 @@ progression-more first step n = map-range_with_len_more (λ k. first + k * step)
 pub length-progression : (first step n : ℕ) → length (progression first step n) ≡ n
 length-progression first step n = length-map-range_with_len (λ k. first + k * step) 0 n
 
-pub samples_at-progression-more : (size : ℕ) (bytes : List ℕ) (first step n : ℕ) → samples_at size bytes (progression first step (n + 1)) ≡ samples_at size bytes (progression first step n) ++ take size (drop (first + n * step) bytes)
+pub samples_at-progression-more : (size : ℕ) (bytes : List ℕ) (first step n : ℕ) →
+    samples_at size bytes (progression first step (n + 1)) ≡ samples_at size bytes (progression first step n) ++ take size (drop (first + n * step) bytes)
 samples_at-progression-more size bytes first step n =
     ap (samples_at size bytes) (progression-more first step n)
     ∙ samples_at-append size bytes (progression first step n) ((first + n * step) ∷ [])
     ∙ ap (λ t. samples_at size bytes (progression first step n) ++ t) (samples_at-one size bytes (first + n * step))
 
-pub length-samples_at-progression : (size : ℕ) (bytes : List ℕ) (first step n : ℕ) → ((k : ℕ) → k < n → LiesWithin size bytes (first + k * step)) → length (samples_at size bytes (progression first step n)) ≡ n * size
+pub length-samples_at-progression : (size : ℕ) (bytes : List ℕ) (first step n : ℕ) → ((k : ℕ) → k < n → LiesWithin size bytes (first + k * step)) →
+    length (samples_at size bytes (progression first step n)) ≡ n * size
 length-samples_at-progression size bytes first step zero within = sym (omega arith)
 length-samples_at-progression size bytes first step (suc n) within =
     let e : suc n ≡ n + 1 = omega arith in
@@ -50,7 +52,8 @@ length-samples_at-progression size bytes first step (suc n) within =
     ∙ omega (arith, length-append (samples_at size bytes (progression first step n)) (take size (drop (first + n * step) bytes)), rest, last)
 
 -- the same where the last sample lies within
-pub length-samples_at-read : (size : ℕ) (bytes : List ℕ) (first step n : ℕ) → (0 < n → first + (n - 1) * step + size ≤ length bytes) → length (samples_at size bytes (progression first step n)) ≡ n * size
+pub length-samples_at-read : (size : ℕ) (bytes : List ℕ) (first step n : ℕ) → (0 < n → first + (n - 1) * step + size ≤ length bytes) →
+    length (samples_at size bytes (progression first step n)) ≡ n * size
 length-samples_at-read size bytes first step n read =
     length-samples_at-progression size bytes first step n (λ k h.
     let most : k ≤ n - 1 = omega arith in

@@ -31,7 +31,8 @@ places-wide base coarse [] valid = refl
 places-wide base coarse (a ∷ slower) valid =
     let here : IsAxis a = All-head IsAxis a slower valid in
     let rest : (c : Bool) → places base (list_all is_wide_or_coarse slower && c) (filter is_wide slower) ≡ places base c slower = λ c. places-wide base c slower (All-tail IsAxis a slower valid) in
-    let F : Bool → Type 0 = λ w. is_wide a ≡ w → places base ((w || is_coarse a 0) && list_all is_wide_or_coarse slower && coarse) (cond w (a ∷ filter is_wide slower) (filter is_wide slower)) ≡ places base coarse (a ∷ slower) in
+    let F : Bool → Type 0 = λ w. is_wide a ≡ w →
+    places base ((w || is_coarse a 0) && list_all is_wide_or_coarse slower && coarse) (cond w (a ∷ filter is_wide slower) (filter is_wide slower)) ≡ places base coarse (a ∷ slower) in
     let by_width : F (is_wide a) = elim (is_wide a) as (λ w. F w) [
       | true ↦ (λ e. ap (flat_map (row_of a)) (rest coarse))
       | false ↦ (λ e.

@@ -35,7 +35,8 @@ sample-windowed size bytes at n o fits =
     take-of_take (suc m) k [] = let one : suc m + k ≡ suc (m + k) = omega arith in ap (λ n. take (suc m) (take n [])) one
     take-of_take (suc m) k (x ∷ xs) = let one : suc m + k ≡ suc (m + k) = omega arith in ap (λ n. take (suc m) (take n (x ∷ xs))) one ∙ ap (λ t. x ∷ t) (take-of_take m k xs)
 
-pub samples-windowed : (size : ℕ) (bytes window : List ℕ) (at n base : ℕ) (coarse : Bool) (axes : List Axis) → window ≡ take n (drop at bytes) → at ≤ base → base + reach axes + size ≤ at + n → samples_at size window (offsets (base - at) coarse axes) ≡ samples_at size bytes (offsets base coarse axes)
+pub samples-windowed : (size : ℕ) (bytes window : List ℕ) (at n base : ℕ) (coarse : Bool) (axes : List Axis) → window ≡ take n (drop at bytes) → at ≤ base →
+    base + reach axes + size ≤ at + n → samples_at size window (offsets (base - at) coarse axes) ≡ samples_at size bytes (offsets base coarse axes)
 samples-windowed size bytes window at n base coarse axes part le fits =
     let rel : ℕ = base - at in
     let same : base ≡ at + rel = omega arith in
@@ -49,7 +50,8 @@ samples-windowed size bytes window at n base coarse axes part le fits =
     ∙ ap (λ b. samples_at size bytes (offsets b coarse axes)) (sym same)
 
 -- how many bytes the samples have that are read from a part
-pub length-gathered : (size : ℕ) (window : List ℕ) (at base : ℕ) (coarse : Bool) (axes : List Axis) → at ≤ base → base + reach axes + size ≤ at + length window → length (gathered size window (base - at) coarse axes) ≡ length (offsets base coarse axes) * size
+pub length-gathered : (size : ℕ) (window : List ℕ) (at base : ℕ) (coarse : Bool) (axes : List Axis) → at ≤ base → base + reach axes + size ≤ at + length window →
+    length (gathered size window (base - at) coarse axes) ≡ length (offsets base coarse axes) * size
 length-gathered size window at base coarse axes le fits =
     let rel : ℕ = base - at in
     let same : at + rel ≡ base = omega arith in

@@ -10,10 +10,17 @@ written-nil at list = ap (λ n. take at list ++ drop n list) (omega arith) ∙ t
 
 pub length-written : (at : ℕ) (piece list : List ℕ) → at + length piece ≤ length list → length (written at piece list) ≡ length list
 length-written at piece list fits =
-    omega (arith, length-append (take at list) (piece ++ drop (at + length piece) list), length-append piece (drop (at + length piece) list), length-take-le at list (omega arith), length-drop (at + length piece) list)
+    omega (
+      arith,
+      length-append (take at list) (piece ++ drop (at + length piece) list),
+      length-append piece (drop (at + length piece) list),
+      length-take-le at list (omega arith),
+      length-drop (at + length piece) list,
+    )
 
 -- a piece behind the one before
-pub written-written : (at : ℕ) (first second list : List ℕ) (next : ℕ) → next ≡ at + length first → next + length second ≤ length list → written next second (written at first list) ≡ written at (first ++ second) list
+pub written-written : (at : ℕ) (first second list : List ℕ) (next : ℕ) → next ≡ at + length first → next + length second ≤ length list →
+    written next second (written at first list) ≡ written at (first ++ second) list
 written-written at first second list next same fits =
     let front : List ℕ = take at list in
     let rest : List ℕ = drop (at + length first) list in
@@ -42,7 +49,8 @@ pub WritesAt-nil : (at : ℕ) (list : List ℕ) → WritesAt at at [] list list
 WritesAt-nil at list = record { next_place = omega arith; list = sym (written-nil at list) }
 
 -- one piece behind the other
-pub WritesAt-more : (at next last : ℕ) (first second old mid new : List ℕ) → WritesAt at next first old mid → WritesAt next last second mid new → last ≤ length old → WritesAt at last (first ++ second) old new
+pub WritesAt-more : (at next last : ℕ) (first second old mid new : List ℕ) → WritesAt at next first old mid → WritesAt next last second mid new → last ≤ length old →
+    WritesAt at last (first ++ second) old new
 WritesAt-more at next last first second old mid new one two fits = record {
   next_place = omega (arith, one.next_place, two.next_place, length-append first second);
   list = two.list ∙ ap (written next second) one.list ∙ written-written at first second old next one.next_place (omega (arith, two.next_place));

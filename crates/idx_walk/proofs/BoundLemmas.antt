@@ -49,7 +49,8 @@ last_multiple s b some =
     omega (arith, ap (λ n. n * s) last, div-mul-le_self b.1 s)
 
 -- the axes from k on end before one step of the axis behind them
-pub reach-le : (s r : ℕ → ℕ) → ((k : ℕ) → 0 < s k) → (weight k : ℕ) (es bs : List (ℕ × ℕ)) → LiesIn es (lower_ends bs) → LiesIn es (upper_ends bs) → HasMultiples s k bs → start_of s weight k es bs + reach (axes_of s r weight k es bs) + weight ≤ weight * size es
+pub reach-le : (s r : ℕ → ℕ) → ((k : ℕ) → 0 < s k) → (weight k : ℕ) (es bs : List (ℕ × ℕ)) → LiesIn es (lower_ends bs) → LiesIn es (upper_ends bs) → HasMultiples s k bs →
+    start_of s weight k es bs + reach (axes_of s r weight k es bs) + weight ≤ weight * size es
 reach-le s r some weight k [] [] lower upper counted = omega arith
 reach-le s r some weight k [] (b ∷ bs) lower upper counted = absurd lower
 reach-le s r some weight k (e ∷ es) [] lower upper counted = absurd lower
@@ -96,7 +97,8 @@ IsAxis-axis_at weight s r b paced small some = record {
   early = omega (arith, div-le_self b.1 s);
 }
 
-pub All-axes_of : (s r : ℕ → ℕ) → ((k : ℕ) → 0 < r k) → (weight k : ℕ) (es bs : List (ℕ × ℕ)) → LiesIn es (lower_ends bs) → All (λ (b : ℕ × ℕ). b.1 ≤ 2 ^ 40) bs → HasMultiples s k bs → All IsAxis (axes_of s r weight k es bs)
+pub All-axes_of : (s r : ℕ → ℕ) → ((k : ℕ) → 0 < r k) → (weight k : ℕ) (es bs : List (ℕ × ℕ)) → LiesIn es (lower_ends bs) → All (λ (b : ℕ × ℕ). b.1 ≤ 2 ^ 40) bs → HasMultiples s k bs →
+    All IsAxis (axes_of s r weight k es bs)
 All-axes_of s r paced weight k [] [] lower small counted = All-nil IsAxis
 All-axes_of s r paced weight k [] (b ∷ bs) lower small counted = absurd lower
 All-axes_of s r paced weight k (e ∷ es) [] lower small counted = absurd lower

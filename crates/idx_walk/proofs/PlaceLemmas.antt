@@ -52,10 +52,12 @@ coarse-multiple s r n some paced =
     )
 
 -- the first point of an axis and k steps from there
-step_along : (base phase k s low weight width far : ℕ) → low ≤ phase * s → base + (phase * s - low) * weight + weight * width * far + k * (s * weight) ≡ base + weight * (((phase + k) * s - low) + width * far)
+step_along : (base phase k s low weight width far : ℕ) → low ≤ phase * s →
+    base + (phase * s - low) * weight + weight * width * far + k * (s * weight) ≡ base + weight * (((phase + k) * s - low) + width * far)
 step_along base phase k s low weight width far first =
     let here : (phase + k) * s - low ≡ (phase * s - low) + k * s = omega arith in
-    let spread : weight * ((phase * s - low) + k * s + width * far) ≡ (phase * s - low) * weight + k * (s * weight) + weight * width * far = omega (arith, mul_assoc weight width far, mul_assoc k s weight, mul_comm weight (k * s), mul_comm weight (phase * s - low)) in
+    let spread : weight * ((phase * s - low) + k * s + width * far) ≡ (phase * s - low) * weight + k * (s * weight) + weight * width * far =
+    omega (arith, mul_assoc weight width far, mul_assoc k s weight, mul_comm weight (k * s), mul_comm weight (phase * s - low)) in
     omega (arith, spread, ap (λ t. weight * (t + width * far)) here)
 
 -- a point's place, and whether it is coarse
@@ -63,8 +65,10 @@ abbrev pub placed : (ℕ → ℕ) → ℕ → ℕ → ℕ → Bool → List (ℕ
 placed c base weight k coarse es p = (base + weight * place_of es p, coarse && on c k p)
 
 -- the places of a walk are those of the points on the strides
-pub places-lattice : (s r : ℕ → ℕ) → ((k : ℕ) → 0 < s k) → ((k : ℕ) → 0 < r k) → (base weight k : ℕ) (coarse : Bool) (es bs : List (ℕ × ℕ)) → LiesIn es (lower_ends bs) → places (base + start_of s weight k es bs) coarse (axes_of s r weight k es bs) ≡ map (placed (λ a. s a * r a) base weight k coarse es) (lattice s k bs)
-places-lattice s r some paced base weight k coarse [] [] inside = λ i. let at : base + 0 ≡ base + weight * 0 = omega arith in let all : coarse ≡ (coarse && true) = sym (and-true coarse) in (at i, all i) ∷ []
+pub places-lattice : (s r : ℕ → ℕ) → ((k : ℕ) → 0 < s k) → ((k : ℕ) → 0 < r k) → (base weight k : ℕ) (coarse : Bool) (es bs : List (ℕ × ℕ)) → LiesIn es (lower_ends bs) →
+    places (base + start_of s weight k es bs) coarse (axes_of s r weight k es bs) ≡ map (placed (λ a. s a * r a) base weight k coarse es) (lattice s k bs)
+places-lattice s r some paced base weight k coarse [] [] inside = λ i. let at : base + 0 ≡ base + weight * 0 = omega arith in let all : coarse ≡ (coarse && true) = sym (and-true coarse) in
+    (at i, all i) ∷ []
 places-lattice s r some paced base weight k coarse [] (b ∷ bs) inside = absurd inside
 places-lattice s r some paced base weight k coarse (e ∷ es) [] inside = absurd inside
 places-lattice s r some paced base weight k coarse (e ∷ es) (b ∷ bs) inside =
@@ -77,8 +81,10 @@ places-lattice s r some paced base weight k coarse (e ∷ es) (b ∷ bs) inside 
     let low : e.0 ≤ phase * s k = omega (arith, inside.0, first_multiple (s k) b.0 (some k)) in
     let row : ℕ × Bool → List (ℕ × Bool) = λ p. map (λ j. (p.0 + j * a.step, p.1 && is_coarse a j)) (range_with_len 0 a.count) in
     let step : ℕ = step_of weight (s k) a.count in
-    let point : (q : List ℕ) (j : ℕ) → j < a.count → (from + weight * width * place_of es q + j * step, (coarse && on c (k + 1) q) && is_coarse a j) ≡ placed c base weight k coarse (e ∷ es) (((phase + j) * s k) ∷ q) = λ q j within.
-    let at : from + weight * width * place_of es q + j * step ≡ base + weight * (((phase + j) * s k - e.0) + width * place_of es q) = ap (λ t. from + weight * width * place_of es q + t) (times-step_of weight (s k) a.count j within) ∙ step_along base phase j (s k) e.0 weight width (place_of es q) low in
+    let point : (q : List ℕ) (j : ℕ) → j < a.count →
+    (from + weight * width * place_of es q + j * step, (coarse && on c (k + 1) q) && is_coarse a j) ≡ placed c base weight k coarse (e ∷ es) (((phase + j) * s k) ∷ q) = λ q j within.
+    let at : from + weight * width * place_of es q + j * step ≡ base + weight * (((phase + j) * s k - e.0) + width * place_of es q) =
+    ap (λ t. from + weight * width * place_of es q + t) (times-step_of weight (s k) a.count j within) ∙ step_along base phase j (s k) e.0 weight width (place_of es q) low in
     let all : ((coarse && on c (k + 1) q) && is_coarse a j) ≡ (coarse && (on c (k + 1) q && eqb (((phase + j) * s k) % c k) 0)) =
     and_assoc coarse (on c (k + 1) q) (is_coarse a j) ∙ ap (λ t. coarse && (on c (k + 1) q && t)) (sym (coarse-multiple (s k) (r k) (phase + j) (some k) (paced k))) in
     λ i. (at i, all i) in
@@ -93,7 +99,8 @@ places-lattice s r some paced base weight k coarse (e ∷ es) (b ∷ bs) inside 
     ∙ sym (map-flat_map (placed c base weight k coarse (e ∷ es)) (λ slower. map (λ x. x ∷ slower) (progression (s k) b)) (lattice s (k + 1) bs))
 
 -- the places that a walk visits are those of the points on the strides, without those on the coarse ones
-pub offsets-of_points : (s r : ℕ → ℕ) → ((k : ℕ) → 0 < s k) → ((k : ℕ) → 0 < r k) → (weight : ℕ) (coarse : Bool) (es bs : List (ℕ × ℕ)) → LiesIn es (lower_ends bs) → IsOrdered bs → offsets (start_of s weight 0 es bs) coarse (axes_of s r weight 0 es bs) ≡ map (λ p. weight * place_of es p) (filter (λ p. on s 0 p && not (coarse && on (λ a. s a * r a) 0 p)) (points bs))
+pub offsets-of_points : (s r : ℕ → ℕ) → ((k : ℕ) → 0 < s k) → ((k : ℕ) → 0 < r k) → (weight : ℕ) (coarse : Bool) (es bs : List (ℕ × ℕ)) → LiesIn es (lower_ends bs) → IsOrdered bs →
+    offsets (start_of s weight 0 es bs) coarse (axes_of s r weight 0 es bs) ≡ map (λ p. weight * place_of es p) (filter (λ p. on s 0 p && not (coarse && on (λ a. s a * r a) 0 p)) (points bs))
 offsets-of_points s r some paced weight coarse es bs inside ordered =
     let c : ℕ → ℕ = λ a. s a * r a in
     let h : List ℕ → ℕ × Bool = placed c 0 weight 0 coarse es in

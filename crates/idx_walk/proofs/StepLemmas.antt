@@ -50,7 +50,9 @@ region_rest es bs k e b at = drop_more bs k (0, 0) at.region_axis ∙ ap (λ c. 
 pub first-within : (s : ℕ) (b : ℕ × ℕ) → 0 < s → 1 ≤ count_of s b → (b.0 ≤ phase_of s b.0 * s) × (phase_of s b.0 * s ≤ b.1)
 first-within s b some counted = (omega (arith, first_multiple s b.0 some), omega (arith, last_multiple s b counted))
 
-pub IsMade-step : (s r : ℕ → ℕ) → ((a : ℕ) → 0 < s a) → (bytes : ℕ) (es bs : List (ℕ × ℕ)) (k base weight : ℕ) (axes : List Axis) (e b : ℕ × ℕ) (a : Axis) → AreBounds es bs k e b → length bs ≤ 5 → 1 ≤ count_of (s k) b → a ≡ axis_at weight (s k) (r k) b → IsMade s r bytes es bs k base weight axes → IsMade s r bytes es bs (k + 1) (base + (phase_of (s k) b.0 * s k - e.0) * weight) (weight * (e.1 - e.0 + 1)) (set axes k a)
+pub IsMade-step : (s r : ℕ → ℕ) → ((a : ℕ) → 0 < s a) → (bytes : ℕ) (es bs : List (ℕ × ℕ)) (k base weight : ℕ) (axes : List Axis) (e b : ℕ × ℕ) (a : Axis) → AreBounds es bs k e b →
+    length bs ≤ 5 → 1 ≤ count_of (s k) b → a ≡ axis_at weight (s k) (r k) b → IsMade s r bytes es bs k base weight axes →
+    IsMade s r bytes es bs (k + 1) (base + (phase_of (s k) b.0 * s k - e.0) * weight) (weight * (e.1 - e.0 + 1)) (set axes k a)
 IsMade-step s r some bytes es bs k base weight axes e b a at few_axes counted is made =
     let room : k < length axes = omega (arith, at.region_axis, made.room) in
     let width : e.1 - e.0 + 1 ≡ extent e = omega (arith, at.low, at.high, at.ordered) in
@@ -67,7 +69,8 @@ IsMade-step s r some bytes es bs k base weight axes e b a at few_axes counted is
           ∙ made.made;
       start =
           ap (λ w. base + (phase_of (s k) b.0 * s k - e.0) * weight + start_of s (weight * w) (k + 1) (drop (k + 1) es) (drop (k + 1) bs)) width
-          ∙ (let whole : base + (phase_of (s k) b.0 * s k - e.0) * weight + start_of s (weight * extent e) (k + 1) (drop (k + 1) es) (drop (k + 1) bs) ≡ base + start_of s weight k (e ∷ drop (k + 1) es) (b ∷ drop (k + 1) bs) = omega arith in whole)
+          ∙ (let whole : base + (phase_of (s k) b.0 * s k - e.0) * weight + start_of s (weight * extent e) (k + 1) (drop (k + 1) es) (drop (k + 1) bs) ≡ base + start_of s weight k
+          (e ∷ drop (k + 1) es) (b ∷ drop (k + 1) bs) = omega arith in whole)
           ∙ sym (λ i. base + start_of s weight k (es_rest i) (bs_rest i))
           ∙ made.start;
       volume =
@@ -84,7 +87,8 @@ IsMade-step s r some bytes es bs k base weight axes e b a at few_axes counted is
     }
 
 -- the extent's points so far, and those of one axis more, fit in the volume
-pub weight-le : (s r : ℕ → ℕ) (bytes : ℕ) (es bs : List (ℕ × ℕ)) (k base weight : ℕ) (axes : List Axis) (e b : ℕ × ℕ) → IsRegion es → bytes ≤ 64 → AreBounds es bs k e b → IsMade s r bytes es bs k base weight axes → weight * (e.1 - e.0 + 1) ≤ 2 ^ 46
+pub weight-le : (s r : ℕ → ℕ) (bytes : ℕ) (es bs : List (ℕ × ℕ)) (k base weight : ℕ) (axes : List Axis) (e b : ℕ × ℕ) → IsRegion es → bytes ≤ 64 → AreBounds es bs k e b →
+    IsMade s r bytes es bs k base weight axes → weight * (e.1 - e.0 + 1) ≤ 2 ^ 46
 weight-le s r bytes es bs k base weight axes e b region few at made =
     let width : e.1 - e.0 + 1 ≡ extent e = omega (arith, at.low, at.high, at.ordered) in
     let rest : 1 ≤ size (drop (k + 1) es) = size-positive (drop (k + 1) es) (All-drop (λ c. c.0 ≤ c.1) (k + 1) es region.ordered) in
@@ -94,12 +98,14 @@ weight-le s r bytes es bs k base weight axes e b region few at made =
     omega (arith, ap (λ n. weight * n) width, mul-le bytes (size es) 64 (2 ^ 40) few (let small : size es ≤ 2 ^ 40 = omega (arith, length-points es, region.few) in small))
 
 -- an axis without a multiple leaves no point
-pub lattice-none_at : (s r : ℕ → ℕ) (bytes : ℕ) (es bs : List (ℕ × ℕ)) (k base weight : ℕ) (axes : List Axis) (e b : ℕ × ℕ) → AreBounds es bs k e b → count_of (s k) b ≡ 0 → IsMade s r bytes es bs k base weight axes → lattice s 0 bs ≡ []
+pub lattice-none_at : (s r : ℕ → ℕ) (bytes : ℕ) (es bs : List (ℕ × ℕ)) (k base weight : ℕ) (axes : List Axis) (e b : ℕ × ℕ) → AreBounds es bs k e b → count_of (s k) b ≡ 0 →
+    IsMade s r bytes es bs k base weight axes → lattice s 0 bs ≡ []
 lattice-none_at s r bytes es bs k base weight axes e b at none made =
     made.none (ap (lattice s k) (region_rest es bs k e b at) ∙ lattice-none s k b (drop (k + 1) bs) none)
 
 -- with the last axis all are made
-pub axes-made : (s r : ℕ → ℕ) (bytes : ℕ) (es bs : List (ℕ × ℕ)) (k base weight : ℕ) (axes : List Axis) → length bs ≤ k → length es ≤ k → IsMade s r bytes es bs k base weight axes → (take k axes ≡ axes_of s r bytes 0 es bs) × (base ≡ start_of s bytes 0 es bs) × HasMultiples s 0 bs
+pub axes-made : (s r : ℕ → ℕ) (bytes : ℕ) (es bs : List (ℕ × ℕ)) (k base weight : ℕ) (axes : List Axis) → length bs ≤ k → length es ≤ k → IsMade s r bytes es bs k base weight axes →
+    (take k axes ≡ axes_of s r bytes 0 es bs) × (base ≡ start_of s bytes 0 es bs) × HasMultiples s 0 bs
 axes-made s r bytes es bs k base weight axes all_b all_e made =
     let es_none : drop k es ≡ [] = drop_all k es all_e in
     let bs_none : drop k bs ≡ [] = drop_all k bs all_b in (
@@ -116,7 +122,9 @@ pub record IsNext (s r : ℕ → ℕ) (bytes : ℕ) (es bs : List (ℕ × ℕ)) 
   pub next : IsMade s r bytes es bs (k + 1) (base + (a.phase * stride - e.0) * weight) (weight * (e.1 - e.0 + 1)) (set axes k a)
   pub small : weight * (e.1 - e.0 + 1) ≤ 2 ^ 46
 
-pub IsNext-found : (s r : ℕ → ℕ) → ((n : ℕ) → 0 < s n) → (bytes : ℕ) (es bs : List (ℕ × ℕ)) (k base weight : ℕ) (axes : List Axis) (e b : ℕ × ℕ) (stride ratio : ℕ) (a : Axis) → IsRegion es → bytes ≤ 64 → AreBounds es bs k e b → length bs ≤ 5 → stride ≡ s k → ratio ≡ r k → 1 ≤ count_of stride b → a ≡ axis_at weight stride ratio b → IsMade s r bytes es bs k base weight axes → IsNext s r bytes es bs k base weight axes e stride a
+pub IsNext-found : (s r : ℕ → ℕ) → ((n : ℕ) → 0 < s n) → (bytes : ℕ) (es bs : List (ℕ × ℕ)) (k base weight : ℕ) (axes : List Axis) (e b : ℕ × ℕ) (stride ratio : ℕ) (a : Axis) → IsRegion es →
+    bytes ≤ 64 → AreBounds es bs k e b → length bs ≤ 5 → stride ≡ s k → ratio ≡ r k → 1 ≤ count_of stride b → a ≡ axis_at weight stride ratio b → IsMade s r bytes es bs k base weight axes →
+    IsNext s r bytes es bs k base weight axes e stride a
 IsNext-found s r some bytes es bs k base weight axes e b stride ratio a region few at few_axes fine coarse counted is made =
     let counted_fine : 1 ≤ count_of (s k) b = subst (λ n. 1 ≤ count_of n b) fine counted in
     let is_fine : a ≡ axis_at weight (s k) (r k) b = is ∙ (λ i. axis_at weight (fine i) (coarse i) b) in
@@ -135,7 +143,8 @@ pub record IsWhole (mask : List ℕ) (es bs : List (ℕ × ℕ)) (lo hi bytes : 
   pub walk : w ≡ walk_of mask es bs lo hi bytes
   pub counted : HasMultiples (stride mask hi) 0 bs
 
-pub IsWhole-made : (mask : List ℕ) (es bs : List (ℕ × ℕ)) (lo hi bytes : ℕ) (k n base weight : ℕ) (axes : List Axis) → length es ≡ length bs → length bs ≤ k → k ≤ n → n ≡ length bs → IsMade (stride mask hi) (ratio_of mask lo hi) bytes es bs k base weight axes → IsWhole mask es bs lo hi bytes (record { base = base; size = bytes; coarse = ltb 0 lo; axes = take n axes })
+pub IsWhole-made : (mask : List ℕ) (es bs : List (ℕ × ℕ)) (lo hi bytes : ℕ) (k n base weight : ℕ) (axes : List Axis) → length es ≡ length bs → length bs ≤ k → k ≤ n → n ≡ length bs →
+    IsMade (stride mask hi) (ratio_of mask lo hi) bytes es bs k base weight axes → IsWhole mask es bs lo hi bytes (record { base = base; size = bytes; coarse = ltb 0 lo; axes = take n axes })
 IsWhole-made mask es bs lo hi bytes k n base weight axes same all within last made =
     let whole = axes-made (stride mask hi) (ratio_of mask lo hi) bytes es bs k base weight axes all (omega arith) made in
     let count : n ≡ k = omega arith in

@@ -84,12 +84,14 @@ points_up_to-some mask es bs lo hi asked counted none =
     omega (arith, lattice-some (stride mask hi) 0 bs counted, ap length (sym (points_up_to-lattice mask es bs lo hi asked) ∙ none))
 
 -- the walk ends where the volume does
-pub end-le : (mask : List ℕ) (es bs : List (ℕ × ℕ)) (lo hi bytes : ℕ) → IsQuestion mask es bs lo hi → HasMultiples (stride mask hi) 0 bs → end_of (walk_of mask es bs lo hi bytes) ≤ bytes * length (points es)
+pub end-le : (mask : List ℕ) (es bs : List (ℕ × ℕ)) (lo hi bytes : ℕ) → IsQuestion mask es bs lo hi → HasMultiples (stride mask hi) 0 bs →
+    end_of (walk_of mask es bs lo hi bytes) ≤ bytes * length (points es)
 end-le mask es bs lo hi bytes asked counted =
     omega (arith, reach-le (stride mask hi) (ratio_of mask lo hi) (stride_pos mask hi) bytes 0 es bs asked.lower asked.upper counted, ap (λ n. bytes * n) (length-points es))
 
 -- it is a walk
-pub IsStrides-walk : (mask : List ℕ) (es bs : List (ℕ × ℕ)) (lo hi bytes : ℕ) → IsQuestion mask es bs lo hi → HasMultiples (stride mask hi) 0 bs → IsRegion es → 1 ≤ bytes → bytes ≤ 64 → IsStrides (walk_of mask es bs lo hi bytes)
+pub IsStrides-walk : (mask : List ℕ) (es bs : List (ℕ × ℕ)) (lo hi bytes : ℕ) → IsQuestion mask es bs lo hi → HasMultiples (stride mask hi) 0 bs → IsRegion es → 1 ≤ bytes → bytes ≤ 64 →
+    IsStrides (walk_of mask es bs lo hi bytes)
 IsStrides-walk mask es bs lo hi bytes asked counted volume some few =
     let fine : ℕ → ℕ = stride mask hi in
     let ratio : ℕ → ℕ = ratio_of mask lo hi in
@@ -119,7 +121,8 @@ pub sample_at-raw : (es : List (ℕ × ℕ)) (bytes : ℕ) (raw p : List ℕ) �
 sample_at-raw es bytes raw p h = get_or-samples_of bytes (length (points es)) raw (place_of es p) (omega (arith, place_of-lt es p h, length-points es))
 
 -- the samples at the wanted places are the answer
-pub samples_at-wanted : (mask : List ℕ) (es bs : List (ℕ × ℕ)) (lo hi bytes : ℕ) (raw : List ℕ) → IsQuestion mask es bs lo hi → samples_at bytes raw (wanted_places mask es bytes bs lo hi) ≡ answer mask es (samples_of bytes (length (points es)) raw) bs lo hi
+pub samples_at-wanted : (mask : List ℕ) (es bs : List (ℕ × ℕ)) (lo hi bytes : ℕ) (raw : List ℕ) → IsQuestion mask es bs lo hi →
+    samples_at bytes raw (wanted_places mask es bytes bs lo hi) ≡ answer mask es (samples_of bytes (length (points es)) raw) bs lo hi
 samples_at-wanted mask es bs lo hi bytes raw asked =
     flat_map-map (λ o. take bytes (drop o raw)) (λ p. bytes * place_of es p) (filter (has_level mask lo hi) (points bs))
     ∙ flat_map-agree_on (LiesIn bs) _ _ (λ p h. sym (sample_at-raw es bytes raw p (HoldsAll-from_ends es bs asked.lower asked.upper p h)))

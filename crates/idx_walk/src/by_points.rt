@@ -10,8 +10,8 @@ use idx_outside::{Bytes, NoMemory};
 use std::alloc::Global;
 
 /// The samples, in row-major order, of a region's points whose level is `levels.0` to `levels.1`, both among them, in a
-/// raw volume that has one sample of `size` bytes for each point of `extent`; `NoMemory` where they cannot be stored. It
-/// asks each point of the region for its level: the plain search that a walk replaces.
+/// raw volume that has one sample of `size` bytes for each point of `extent`; `NoMemory` where they cannot be stored.
+/// It asks each point of the region for its level: the plain search that a walk replaces.
 pub fn answer_by_points(
     alloc: Global,
     mask: &Mask,

@@ -8,12 +8,14 @@ use Rattle.idx_block.proofs.by_addresses.fill_by_addresses.Goals as goal
 
 pub overflow_mul-address : goal.overflow_mul-address
 overflow_mul-address c =
-    let in_block = address-in_block (length c.args.mask.now) c.args.bits c.args.block c.address_count-count.result c.loop-k.k c.requires.bits c.requires.mask.few c.requires.exists c.address_count-count.ensures.value c.loop-k-test.true in
+    let in_block = address-in_block
+    (length c.args.mask.now) c.args.bits c.args.block c.address_count-count.result c.loop-k.k c.requires.bits c.requires.mask.few c.requires.exists c.address_count-count.ensures.value c.loop-k-test.true in
     omega (arith, in_block.0, in_block.1)
 
 pub overflow_add-address : goal.overflow_add-address
 overflow_add-address c =
-    let in_block = address-in_block (length c.args.mask.now) c.args.bits c.args.block c.address_count-count.result c.loop-k.k c.requires.bits c.requires.mask.few c.requires.exists c.address_count-count.ensures.value c.loop-k-test.true in
+    let in_block = address-in_block
+    (length c.args.mask.now) c.args.bits c.args.block c.address_count-count.result c.loop-k.k c.requires.bits c.requires.mask.few c.requires.exists c.address_count-count.ensures.value c.loop-k-test.true in
     omega (arith, in_block.0, in_block.1)
 
 pub put_sample-requires-clause-small : goal.put_sample-requires-clause-small

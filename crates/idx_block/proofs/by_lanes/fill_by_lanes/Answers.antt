@@ -17,7 +17,8 @@ use Rattle.idx_block.proofs.by_lanes.fill_by_lanes.Goals as goal
 use Rattle.idx_block.proofs.by_lanes.fill_by_lanes.Goals.{After-clear_unless}
 
 levels : (c : After-clear_unless) → HasDigits (length c.args.mask.now) c.args.bits c.args.block c.shape-shape.result.hi_level
-levels c = digits-of_level (length c.args.mask.now) c.args.bits c.args.block c.shape-shape.result.hi_level c.requires.bits c.requires.mask.few c.requires.exists c.requires.other (c.shape-shape.ensures.level c.requires.other)
+levels c = digits-of_level (length c.args.mask.now) c.args.bits c.args.block c.shape-shape.result.hi_level c.requires.bits c.requires.mask.few c.requires.exists c.requires.other
+    (c.shape-shape.ensures.level c.requires.other)
 
 named : (c : After-clear_unless) → NamesAxes c.args.mask.now (length c.args.region.now)
 named c = subst (λ (n : ℕ). NamesAxes c.args.mask.now n) (length-map c.args.region.now (λ (b : ℕ × ℕ). b.1)) c.requires.address.named
@@ -25,15 +26,18 @@ named c = subst (λ (n : ℕ). NamesAxes c.args.mask.now n) (length-map c.args.r
 has : (c : After-clear_unless) (p : List ℕ) → LiesIn c.args.region.now p → HasAddress c.args.mask.now p
 has c p inside = HasAddress-from_end c.args.mask.now c.args.region.now p c.requires.address inside
 
-points : (c : After-clear_unless) (p : List ℕ) → IsInBlock c.args.mask.now (length c.args.region.now) c.args.bits c.args.block p ↔ (LiesIn c.shape-shape.result.region p × LiesOn c.shape-shape.result.grid p)
-points c = subst (λ (n : ℕ). (p : List ℕ) → IsInBlock c.args.mask.now n c.args.bits c.args.block p ↔ (LiesIn c.shape-shape.result.region p × LiesOn c.shape-shape.result.grid p)) c.axes.ensures.count c.shape-shape.ensures.points
+points : (c : After-clear_unless) (p : List ℕ) →
+    IsInBlock c.args.mask.now (length c.args.region.now) c.args.bits c.args.block p ↔ (LiesIn c.shape-shape.result.region p × LiesOn c.shape-shape.result.grid p)
+points c = subst (λ (n : ℕ). (p : List ℕ) →
+    IsInBlock c.args.mask.now n c.args.bits c.args.block p ↔ (LiesIn c.shape-shape.result.region p × LiesOn c.shape-shape.result.grid p)) c.axes.ensures.count c.shape-shape.ensures.points
 
 grid : (c : After-clear_unless) → IsGridAt c.args.mask.now (length c.args.region.now) (suc (c.args.bits + (c.shape-shape.result.hi_level - 1 - c.args.bits))) c.shape-shape.result.grid
 grid c =
     subst (λ (h : ℕ). IsGridAt c.args.mask.now (length c.args.region.now) h c.shape-shape.result.grid) (sym (levels c).same)
     (subst (λ (n : ℕ). IsGridAt c.args.mask.now n c.shape-shape.result.hi_level c.shape-shape.result.grid) c.axes.ensures.count (c.shape-shape.ensures.grid c.requires.other))
 
-level_of : (c : After-clear_unless) (p : List ℕ) → IsInBlock c.args.mask.now (length c.args.region.now) c.args.bits c.args.block p → level c.args.mask.now p ≡ suc (c.args.bits + (c.shape-shape.result.hi_level - 1 - c.args.bits))
+level_of : (c : After-clear_unless) (p : List ℕ) → IsInBlock c.args.mask.now (length c.args.region.now) c.args.bits c.args.block p →
+    level c.args.mask.now p ≡ suc (c.args.bits + (c.shape-shape.result.hi_level - 1 - c.args.bits))
 level_of c p inside =
     let block = subst (λ (n : ℕ). IsInBlock c.args.mask.now n c.args.bits c.args.block p) (sym c.axes.ensures.count) inside in
     let range = c.shape-shape.ensures.levels p block in
@@ -57,7 +61,8 @@ part_of c common = record {
   size = c.args.size;
 }
 
-setting : (c : After-clear_unless) (common : List (ℕ × ℕ)) → common ≡ common_bounds c.args.region.now c.shape-shape.result.region → HasExactly common (λ p. LiesIn c.args.region.now p × LiesIn c.shape-shape.result.region p) →
+setting : (c : After-clear_unless) (common : List (ℕ × ℕ)) → common ≡ common_bounds c.args.region.now c.shape-shape.result.region →
+    HasExactly common (λ p. LiesIn c.args.region.now p × LiesIn c.shape-shape.result.region p) →
     IsSetting (part_of c common) c.shape-shape.result.region c.shape-shape.result.grid c.args.block
 setting c common is both = record {
   few = c.requires.mask.few;
@@ -96,7 +101,8 @@ returns-in-Some c =
     let is = setting at c.in-Some.common c.in-Some.ensures.bounds.1 c.in-Some.ensures.points in
     block-made part c.shape-shape.result.region c.shape-shape.result.grid c.args.block c.args.samples.now is c.requires.samples c.clear_unless.new.into c.copy_points.new.into
     (levels at).exists (room at) c.copy_points.auto.into (cleared at)
-    (c.copy_points.ensures (wanted part.mask part.region part.bits c.args.block part.size c.args.samples.now) (copies-wanted part c.shape-shape.result.region c.shape-shape.result.grid c.args.block c.args.samples.now is c.requires.samples))
+    (c.copy_points.ensures (wanted part.mask part.region part.bits c.args.block part.size c.args.samples.now)
+    (copies-wanted part c.shape-shape.result.region c.shape-shape.result.grid c.args.block c.args.samples.now is c.requires.samples))
 
 pub returns-in_default : goal.returns-in_default
 returns-in_default c =

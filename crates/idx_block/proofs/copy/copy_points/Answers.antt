@@ -15,7 +15,8 @@ copy_lanes-requires-clause-lanes c =
 
 pub copy_lanes-requires-clause-within : goal.copy_lanes-requires-clause-within
 copy_lanes-requires-clause-within c =
-    lanes-each (IsWithin c.args.part.now.size c.args.samples.now c.args.into.now) c.args.part.now (length c.args.part.now.region) c.in-Some.lanes.from c.as_slice.result.now (planned (goal.at.copy_lanes-requires-clause-within c).After-as_slice) c.requires.within
+    lanes-each (IsWithin c.args.part.now.size c.args.samples.now c.args.into.now) c.args.part.now (length c.args.part.now.region) c.in-Some.lanes.from c.as_slice.result.now
+    (planned (goal.at.copy_lanes-requires-clause-within c).After-as_slice) c.requires.within
 
 pub returns-in-Some : goal.returns-in-Some
 returns-in-Some c = λ want right.

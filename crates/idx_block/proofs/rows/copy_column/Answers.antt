@@ -20,4 +20,5 @@ loop-k-preserved g c = λ want right.
 pub returns : goal.returns
 returns g c = λ want right.
     let band = c.args.band.now in
-    so_far-all want (g.S.Sample.bytes c.args.sample) band [] c.args.from c.args.place c.loop-k.k c.args.into.now c.loop-k.into (omega (arith, c.loop-k-test.false, c.requires.band)) (c.loop-k.invariant want right)
+    so_far-all want (g.S.Sample.bytes c.args.sample) band [] c.args.from c.args.place c.loop-k.k c.args.into.now c.loop-k.into (omega (arith, c.loop-k-test.false, c.requires.band))
+    (c.loop-k.invariant want right)

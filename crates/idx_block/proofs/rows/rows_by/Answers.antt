@@ -26,7 +26,8 @@ loop-k-preserved-then-slower-k g c =
       within = within;
       part = c.band_rows-part.ensures.part ∙ ap (λ p. part_after slower.bits p g.row.N) c.loop-k.invariant.part ∙ part_after-add slower.bits slower.first k g.row.N;
       made = λ want right.
-          so_far-some want size slower lane c.args.from c.args.place k g.row.N c.loop-k.part c.args.into.now c.loop-k.into c.band_rows-part.new.into c.loop-k.invariant.part (c.loop-k.invariant.made want right)
+          so_far-some want size slower lane c.args.from c.args.place k g.row.N c.loop-k.part c.args.into.now c.loop-k.into c.band_rows-part.new.into c.loop-k.invariant.part
+          (c.loop-k.invariant.made want right)
           (c.band_rows-part.ensures.made want (each-some (IsWanted want size c.args.samples.now) slower lane c.args.from c.args.place k g.row.N c.loop-k.part within c.loop-k.invariant.part right));
     }
 
@@ -35,7 +36,8 @@ overflow_add-place g c =
     let size : ℕ = g.S.Sample.bytes c.args.sample in
     let slower = c.args.slower.now in
     let k : ℕ = c.loop-k.k in
-    let begins = begins_within size c.args.samples.now c.args.into.now (c.args.lane.now ∷ []) (c.args.from + k * slower.step) (c.args.place + part_after slower.bits slower.first k) (omega (arith, c.requires.some))
+    let begins = begins_within size c.args.samples.now c.args.into.now (c.args.lane.now ∷ []) (c.args.from + k * slower.step) (c.args.place + part_after slower.bits slower.first k)
+    (omega (arith, c.requires.some))
     (one_coordinate c.args.lane.now c.requires.coordinates) (c.requires.within k c.loop-k-test.true) in
     omega (arith, begins.1, c.loop-k.invariant.part)
 
@@ -46,7 +48,8 @@ row-requires-clause-within g c =
     let lane = c.args.lane.now in
     let k : ℕ = c.loop-k.k in
     let each : EachCopy (IsWithin size c.args.samples.now c.args.into.now) (lane ∷ []) (c.args.from + k * slower.step) (c.args.place + c.loop-k.part) =
-    subst (λ (n : ℕ). EachCopy (IsWithin size c.args.samples.now c.args.into.now) (lane ∷ []) (c.args.from + k * slower.step) (c.args.place + n)) (sym c.loop-k.invariant.part) (c.requires.within k c.loop-k-test.true) in
+    subst (λ (n : ℕ). EachCopy (IsWithin size c.args.samples.now c.args.into.now) (lane ∷ []) (c.args.from + k * slower.step) (c.args.place + n)) (sym c.loop-k.invariant.part)
+    (c.requires.within k c.loop-k-test.true) in
     each-implied (IsWithin size c.args.samples.now c.args.into.now) (IsWithin size c.args.samples.now c.loop-k.into) (λ f o h. (h.0, omega (arith, h.1, c.loop-k.auto.into)))
     (lane ∷ []) (c.args.from + k * slower.step) (c.args.place + c.loop-k.part) each
 
@@ -63,9 +66,11 @@ loop-k-preserved g c =
       made = λ want right.
           so_far-more want size slower (lane ∷ []) c.args.from c.args.place k c.args.into.now c.loop-k.into c.row.new.into (c.loop-k.invariant.made want right)
           (subst (λ (n : ℕ). AreMade want size (lane ∷ []) (c.args.from + k * slower.step) (c.args.place + n) c.loop-k.into c.row.new.into) c.loop-k.invariant.part
-          (c.row.ensures want (subst (λ (n : ℕ). EachCopy (IsWanted want size c.args.samples.now) (lane ∷ []) (c.args.from + k * slower.step) (c.args.place + n)) (sym c.loop-k.invariant.part) (right k c.loop-k-test.true))));
+          (c.row.ensures want (subst (λ (n : ℕ). EachCopy (IsWanted want size c.args.samples.now) (lane ∷ []) (c.args.from + k * slower.step) (c.args.place + n))
+          (sym c.loop-k.invariant.part) (right k c.loop-k-test.true))));
     }
 
 pub returns : goal.returns
 returns g c = λ want right.
-    so_far-all want (g.S.Sample.bytes c.args.sample) c.args.slower.now (c.args.lane.now ∷ []) c.args.from c.args.place c.loop-k.k c.args.into.now c.loop-k.into (omega (arith, c.loop-k-test.false)) (c.loop-k.invariant.made want right)
+    so_far-all want (g.S.Sample.bytes c.args.sample) c.args.slower.now (c.args.lane.now ∷ []) c.args.from c.args.place c.loop-k.k c.args.into.now c.loop-k.into
+    (omega (arith, c.loop-k-test.false)) (c.loop-k.invariant.made want right)

@@ -10,8 +10,10 @@ overflow_mul-k g t c =
     let lanes : List Lane = c.args.lanes.now in
     let size : ℕ = g.S.Sample.bytes c.args.sample in
     let some : 1 ≤ length lanes = omega (arith, c.in-len1-up.len_at_least) in
-    let each = each-faster (IsWithin size c.args.samples.now c.args.into.now) lanes c.args.from c.args.place c.loop-k.k c.loop-k.part some c.loop-k-test.true c.loop-k.invariant.part c.requires.within in
-    let begins = begins_within size c.args.samples.now c.args.into.now (faster_of lanes) (c.args.from + c.loop-k.k * (slowest_of lanes).step) (c.args.place + c.loop-k.part) (omega (arith, c.requires.some)) (All-faster HasCoordinate lanes some c.requires.lanes) each in
+    let each = each-faster
+    (IsWithin size c.args.samples.now c.args.into.now) lanes c.args.from c.args.place c.loop-k.k c.loop-k.part some c.loop-k-test.true c.loop-k.invariant.part c.requires.within in
+    let begins = begins_within size c.args.samples.now c.args.into.now (faster_of lanes) (c.args.from + c.loop-k.k * (slowest_of lanes).step) (c.args.place + c.loop-k.part)
+    (omega (arith, c.requires.some)) (All-faster HasCoordinate lanes some c.requires.lanes) each in
     omega (arith, begins.0)
 
 pub overflow_add-from : goal.overflow_add-from
@@ -19,8 +21,10 @@ overflow_add-from g t c =
     let lanes : List Lane = c.args.lanes.now in
     let size : ℕ = g.S.Sample.bytes c.args.sample in
     let some : 1 ≤ length lanes = omega (arith, c.in-len1-up.len_at_least) in
-    let each = each-faster (IsWithin size c.args.samples.now c.args.into.now) lanes c.args.from c.args.place c.loop-k.k c.loop-k.part some c.loop-k-test.true c.loop-k.invariant.part c.requires.within in
-    let begins = begins_within size c.args.samples.now c.args.into.now (faster_of lanes) (c.args.from + c.loop-k.k * (slowest_of lanes).step) (c.args.place + c.loop-k.part) (omega (arith, c.requires.some)) (All-faster HasCoordinate lanes some c.requires.lanes) each in
+    let each = each-faster
+    (IsWithin size c.args.samples.now c.args.into.now) lanes c.args.from c.args.place c.loop-k.k c.loop-k.part some c.loop-k-test.true c.loop-k.invariant.part c.requires.within in
+    let begins = begins_within size c.args.samples.now c.args.into.now (faster_of lanes) (c.args.from + c.loop-k.k * (slowest_of lanes).step) (c.args.place + c.loop-k.part)
+    (omega (arith, c.requires.some)) (All-faster HasCoordinate lanes some c.requires.lanes) each in
     omega (arith, begins.0)
 
 pub overflow_add-place : goal.overflow_add-place
@@ -28,8 +32,10 @@ overflow_add-place g t c =
     let lanes : List Lane = c.args.lanes.now in
     let size : ℕ = g.S.Sample.bytes c.args.sample in
     let some : 1 ≤ length lanes = omega (arith, c.in-len1-up.len_at_least) in
-    let each = each-faster (IsWithin size c.args.samples.now c.args.into.now) lanes c.args.from c.args.place c.loop-k.k c.loop-k.part some c.loop-k-test.true c.loop-k.invariant.part c.requires.within in
-    let begins = begins_within size c.args.samples.now c.args.into.now (faster_of lanes) (c.args.from + c.loop-k.k * (slowest_of lanes).step) (c.args.place + c.loop-k.part) (omega (arith, c.requires.some)) (All-faster HasCoordinate lanes some c.requires.lanes) each in
+    let each = each-faster
+    (IsWithin size c.args.samples.now c.args.into.now) lanes c.args.from c.args.place c.loop-k.k c.loop-k.part some c.loop-k-test.true c.loop-k.invariant.part c.requires.within in
+    let begins = begins_within size c.args.samples.now c.args.into.now (faster_of lanes) (c.args.from + c.loop-k.k * (slowest_of lanes).step) (c.args.place + c.loop-k.part)
+    (omega (arith, c.requires.some)) (All-faster HasCoordinate lanes some c.requires.lanes) each in
     omega (arith, begins.1)
 
 pub walk-requires : goal.walk-requires
@@ -37,7 +43,8 @@ walk-requires g t c κs within =
     let lanes : List Lane = c.args.lanes.now in
     let size : ℕ = g.S.Sample.bytes c.args.sample in
     let some : 1 ≤ length lanes = omega (arith, c.in-len1-up.len_at_least) in
-    let each = each-faster (IsWithin size c.args.samples.now c.args.into.now) lanes c.args.from c.args.place c.loop-k.k c.loop-k.part some c.loop-k-test.true c.loop-k.invariant.part c.requires.within in (
+    let each = each-faster
+    (IsWithin size c.args.samples.now c.args.into.now) lanes c.args.from c.args.place c.loop-k.k c.loop-k.part some c.loop-k-test.true c.loop-k.invariant.part c.requires.within in (
       search rules,
       (
         within,
@@ -67,7 +74,9 @@ loop-k-preserved g t c =
       made = λ want right.
           so_far-more want size lane (faster_of lanes) c.args.from c.args.place k c.args.into.now c.loop-k.into c.walk.new.into (c.loop-k.invariant.made want right)
           (subst (λ (n : ℕ). AreMade want size (faster_of lanes) (c.args.from + k * lane.step) (c.args.place + n) c.loop-k.into c.walk.new.into) c.loop-k.invariant.part
-          (c.walk.ensures want (subst (λ (n : ℕ). EachCopy (IsWanted want size c.args.samples.now) (faster_of lanes) (c.args.from + k * lane.step) (c.args.place + n)) (sym c.loop-k.invariant.part) (right k c.loop-k-test.true))));
+          (c.walk.ensures want
+          (subst (λ (n : ℕ). EachCopy (IsWanted want size c.args.samples.now) (faster_of lanes) (c.args.from + k * lane.step) (c.args.place + n)) (sym c.loop-k.invariant.part)
+          (right k c.loop-k-test.true))));
     }
 
 pub returns-in-empty : goal.returns-in-empty
@@ -75,10 +84,13 @@ returns-in-empty g t c = λ want right.
     let lanes : List Lane = c.args.lanes.now in
     let size : ℕ = g.S.Sample.bytes c.args.sample in
     let none : [] ≡ lanes = no_lane-is lanes c.in-empty.len_below in
-    let fits : IsWithin size c.args.samples.now c.args.into.now c.args.from c.args.place = subst (λ (ls : List Lane). EachCopy (IsWithin size c.args.samples.now c.args.into.now) ls c.args.from c.args.place) (sym none) c.requires.within in
-    let wanted : IsWanted want size c.args.samples.now c.args.from c.args.place = subst (λ (ls : List Lane). EachCopy (IsWanted want size c.args.samples.now) ls c.args.from c.args.place) (sym none) right in
+    let fits : IsWithin size c.args.samples.now c.args.into.now c.args.from c.args.place =
+    subst (λ (ls : List Lane). EachCopy (IsWithin size c.args.samples.now c.args.into.now) ls c.args.from c.args.place) (sym none) c.requires.within in
+    let wanted : IsWanted want size c.args.samples.now c.args.from c.args.place =
+    subst (λ (ls : List Lane). EachCopy (IsWanted want size c.args.samples.now) ls c.args.from c.args.place) (sym none) right in
     subst (λ (ls : List Lane). AreMade want size ls c.args.from c.args.place c.args.into.now c.copy.new.out) none
-    (copy-made want size c.args.from c.args.place (c.args.place * c.bytes.result) c.args.samples.now c.args.into.now c.copy.new.out fits.0 fits.1 (ap (λ n. c.args.place * n) c.bytes.ensures) c.copy.ensures wanted)
+    (copy-made want size c.args.from c.args.place (c.args.place * c.bytes.result) c.args.samples.now c.args.into.now c.copy.new.out fits.0 fits.1
+    (ap (λ n. c.args.place * n) c.bytes.ensures) c.copy.ensures wanted)
 
 pub returns-in-len1 : goal.returns-in-len1
 returns-in-len1 g t c = λ want right.

@@ -9,7 +9,8 @@ small : (c : In-loop-j) → (c.loop-j.unit ≤ 2 ^ 20) × (c.loop-j.places.bits 
 small c =
     let digits : List ℕ = block_digits c.args.mask.now c.args.k c.args.bits in
     let size : length digits ≡ c.args.bits = length-block_digits c.args.mask.now c.args.k c.args.bits c.requires.digits in
-    places-small digits c.args.axis c.args.x c.loop-j.j c.loop-j.unit c.loop-j.places.bits c.loop-j.places.first c.loop-j.places.rest (omega (arith, size, c.requires.few)) (omega (arith, size, c.loop-j-test.true)) c.loop-j.invariant
+    places-small digits c.args.axis c.args.x c.loop-j.j c.loop-j.unit c.loop-j.places.bits c.loop-j.places.first c.loop-j.places.rest (omega (arith, size, c.requires.few))
+    (omega (arith, size, c.loop-j-test.true)) c.loop-j.invariant
 
 pub loop-j-init : goal.loop-j-init
 loop-j-init c = places-none (block_digits c.args.mask.now c.args.k c.args.bits) c.args.axis c.args.x

@@ -1,5 +1,5 @@
 use Rattle.std.proofs.Common.{◌≡◌, ℕ, ◌+◌, ◌-◌, ◌*◌, ◌/◌, ◌<◌, List, ap, ◌∙◌, arith}
-use Rattle.idx_lanes.specs.Axis.{count_of, step_of}
+use Rattle.idx_lanes.specs.Axis.{count_to, step_of}
 use Rattle.idx_lanes.specs.Lanes.{block_digits, count_on, start_on, step_on, weight_on}
 use Rattle.idx_lanes.specs.Spread.{spread}
 use Rattle.idx_lanes.proofs.AxisLemmas.{stride_pos}
@@ -48,7 +48,8 @@ returns c =
     let digits : List ℕ = block_digits part.mask part.k part.bits in
     let are = found (goal.at.returns c).After-first_from-start in
     let start : c.first_from-start.result ≡ start_on part axis = start-found part axis c.bounds-lo.result c.get.result c.get-step.result c.first_from-start.result are in
-    let count : count_of c.first_from-start.result c.bounds-lo.result.1 c.get-step.result ≡ count_on part axis = count-found part axis c.bounds-lo.result c.get.result c.get-step.result c.first_from-start.result are in
+    let count : count_to c.first_from-start.result c.bounds-lo.result.1 c.get-step.result ≡ count_on part axis =
+    count-found part axis c.bounds-lo.result c.get.result c.get-step.result c.first_from-start.result are in
     let bytes : c.step_of.result ≡ step_of (weight_on part axis) (step_on part axis) (count_on part axis) =
     c.step_of.ensures ∙ (λ i. step_of (c.requires.weight i) (are.pace i) (count i)) in
     let first : c.axis_places-places.result.first ≡ spread axis digits (start_on part axis / step_on part axis) =

@@ -21,19 +21,28 @@ find_lane-requires-clause-small c =
     let part = c.args.part.now in
     let axis = c.loop-axis.axis in
     let are = bounds-part part axis c.axes-axis-end.ensures.valid c.requires.inside (omega (arith, c.loop-axis-test.true, c.axes-axis-end.ensures.count)) in
-    let small : weight_on part axis * extent (box_on part axis) ≤ 2 ^ 46 = weight-small part axis c.axes-axes.ensures.valid c.requires.few (inside (goal.at.find_lane-requires-clause-small c).In-loop-axis) in
+    let small : weight_on part axis * extent (box_on part axis) ≤ 2 ^ 46 =
+    weight-small part axis c.axes-axes.ensures.valid c.requires.few (inside (goal.at.find_lane-requires-clause-small c).In-loop-axis) in
     let wide : (bounds_on part axis).1 - (bounds_on part axis).0 ≤ extent (box_on part axis) = omega (arith, are.low, are.high, are.ordered) in
-    omega (arith, small, mul-le-mul_right (weight_on part axis) wide, mul_comm (weight_on part axis) (extent (box_on part axis)), ap (λ n. ((bounds_on part axis).1 - (bounds_on part axis).0) * n) c.loop-axis.invariant.weight_is)
+    omega (
+      arith,
+      small,
+      mul-le-mul_right (weight_on part axis) wide,
+      mul_comm (weight_on part axis) (extent (box_on part axis)),
+      ap (λ n. ((bounds_on part axis).1 - (bounds_on part axis).0) * n) c.loop-axis.invariant.weight_is,
+    )
 
 pub loop-axis-init : goal.loop-axis-init
 loop-axis-init c = lanes-none c.args.part.now _ c.requires.some (omega arith)
 
 -- the lane that is found
-next : (c : After-bounds-lo) (found : Found) → (1 ≤ count_on c.args.part.now c.loop-axis.axis) × (found ≡ record { start = start_on c.args.part.now c.loop-axis.axis; lane = lane_on c.args.part.now c.loop-axis.axis }) →
+next : (c : After-bounds-lo) (found : Found) →
+    (1 ≤ count_on c.args.part.now c.loop-axis.axis) × (found ≡ record { start = start_on c.args.part.now c.loop-axis.axis; lane = lane_on c.args.part.now c.loop-axis.axis }) →
     IsNext c.args.part.now c.loop-axis.axis c.loop-axis.from c.loop-axis.weight c.loop-axis.lanes c.bounds-lo.result found.start found.lane
 next c found is =
     next-found c.args.part.now c.loop-axis.axis c.loop-axis.from c.loop-axis.weight (c.args.part.now.bits + c.args.part.now.k) c.loop-axis.lanes c.bounds-lo.result found
-    c.axes-axes.ensures.valid c.axes-axis-end.ensures.valid c.requires.inside c.requires.few refl c.requires.digits (omega (arith, c.loop-axis-test.true, c.axes-axis-end.ensures.count)) c.bounds-lo.ensures.value is.0 is.1 c.loop-axis.invariant
+    c.axes-axes.ensures.valid c.axes-axis-end.ensures.valid c.requires.inside c.requires.few refl c.requires.digits
+    (omega (arith, c.loop-axis-test.true, c.axes-axis-end.ensures.count)) c.bounds-lo.ensures.value is.0 is.1 c.loop-axis.invariant
 
 pub returns-in_err-found-clause-none : goal.returns-in_err-found-clause-none
 returns-in_err-found-clause-none c =

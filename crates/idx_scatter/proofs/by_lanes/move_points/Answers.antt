@@ -39,7 +39,8 @@ move_lanes-requires-clause-within c =
     let at = (goal.at.move_lanes-requires-clause-within c).After-start in
     subst (λ (t : Tally). EachMove (IsRoom c.args.size c.args.samples.now c.args.into.now) c.legs-legs.result c.as_slice.result.now 0 t) (sym c.start.ensures)
     (lanes-room c.args.order.now c.args.part.now c.legs-legs.result (course at) c.in-Some.lanes.from c.as_slice.result.now (planned at) c.args.size c.args.samples.now c.args.into.now
-    (lanes-each (IsThere c.args.order.now c.args.size c.args.samples.now c.args.into.now) c.args.part.now (length c.args.part.now.region) c.in-Some.lanes.from c.as_slice.result.now (planned at) c.requires.within))
+    (lanes-each (IsThere c.args.order.now c.args.size c.args.samples.now c.args.into.now) c.args.part.now (length c.args.part.now.region) c.in-Some.lanes.from c.as_slice.result.now
+    (planned at) c.requires.within))
 
 pub returns-in-Some : goal.returns-in-Some
 returns-in-Some c = λ want right.

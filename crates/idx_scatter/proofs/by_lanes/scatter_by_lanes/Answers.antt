@@ -49,15 +49,18 @@ named c = subst (λ (n : ℕ). NamesAxes c.mask-mask.result.now n) (length-map c
 has : (c : After-shape-shape) (p : List ℕ) → LiesIn c.region-region.result.now p → HasAddress c.mask-mask.result.now p
 has c p inside = HasAddress-from_end c.mask-mask.result.now c.region-region.result.now p (address c) inside
 
-in_shape : (c : After-shape-shape) (p : List ℕ) → IsInBlock c.mask-mask.result.now (length c.region-region.result.now) c.args.bits c.args.block p ↔ (LiesIn c.shape-shape.result.region p × LiesOn c.shape-shape.result.grid p)
-in_shape c = subst (λ (n : ℕ). (p : List ℕ) → IsInBlock c.mask-mask.result.now n c.args.bits c.args.block p ↔ (LiesIn c.shape-shape.result.region p × LiesOn c.shape-shape.result.grid p)) c.axes.ensures.count c.shape-shape.ensures.points
+in_shape : (c : After-shape-shape) (p : List ℕ) →
+    IsInBlock c.mask-mask.result.now (length c.region-region.result.now) c.args.bits c.args.block p ↔ (LiesIn c.shape-shape.result.region p × LiesOn c.shape-shape.result.grid p)
+in_shape c = subst (λ (n : ℕ). (p : List ℕ) →
+    IsInBlock c.mask-mask.result.now n c.args.bits c.args.block p ↔ (LiesIn c.shape-shape.result.region p × LiesOn c.shape-shape.result.grid p)) c.axes.ensures.count c.shape-shape.ensures.points
 
 grid : (c : After-shape-shape) → IsGridAt c.mask-mask.result.now (length c.region-region.result.now) (suc (c.args.bits + (c.shape-shape.result.hi_level - 1 - c.args.bits))) c.shape-shape.result.grid
 grid c =
     subst (λ (h : ℕ). IsGridAt c.mask-mask.result.now (length c.region-region.result.now) h c.shape-shape.result.grid) (sym (levels c).same)
     (subst (λ (n : ℕ). IsGridAt c.mask-mask.result.now n c.shape-shape.result.hi_level c.shape-shape.result.grid) c.axes.ensures.count (c.shape-shape.ensures.grid c.requires.other))
 
-level_is : (c : After-shape-shape) (p : List ℕ) → IsInBlock c.mask-mask.result.now (length c.region-region.result.now) c.args.bits c.args.block p → level c.mask-mask.result.now p ≡ c.shape-shape.result.hi_level
+level_is : (c : After-shape-shape) (p : List ℕ) → IsInBlock c.mask-mask.result.now (length c.region-region.result.now) c.args.bits c.args.block p →
+    level c.mask-mask.result.now p ≡ c.shape-shape.result.hi_level
 level_is c p inside =
     let block = subst (λ (n : ℕ). IsInBlock c.mask-mask.result.now n c.args.bits c.args.block p) (sym c.axes.ensures.count) inside in
     let range = c.shape-shape.ensures.levels p block in
@@ -73,7 +76,8 @@ part_of c common = record {
   size = 1;
 }
 
-setting : (c : After-shape-shape) (common : List (ℕ × ℕ)) → common ≡ common_bounds c.region-region.result.now c.shape-shape.result.region → HasExactly common (λ p. LiesIn c.region-region.result.now p × LiesIn c.shape-shape.result.region p) →
+setting : (c : After-shape-shape) (common : List (ℕ × ℕ)) → common ≡ common_bounds c.region-region.result.now c.shape-shape.result.region →
+    HasExactly common (λ p. LiesIn c.region-region.result.now p × LiesIn c.shape-shape.result.region p) →
     IsSetting (part_of c common) c.shape-shape.result.region c.shape-shape.result.grid c.args.block
 setting c common is both = record {
   few = (mask_is c).few;
@@ -101,7 +105,8 @@ move c common asked = record {
 
 -- a point of the block in the region, that is asked for, has the block's level
 none : (c : After-shape-shape) → ((p : List ℕ) → LiesIn c.region-region.result.now p → has_level c.mask-mask.result.now c.args.order.now.lo c.args.order.now.hi p ≡ true →
-    IsInBlock c.mask-mask.result.now (length c.region-region.result.now) c.args.bits c.args.block p → ⊥) → IsScattered c.args.order.now c.args.bits c.args.block c.args.size c.args.samples.now c.args.into.now c.args.into.now
+    IsInBlock c.mask-mask.result.now (length c.region-region.result.now) c.args.bits c.args.block p → ⊥) →
+    IsScattered c.args.order.now c.args.bits c.args.block c.args.size c.args.samples.now c.args.into.now c.args.into.now
 none c apart =
     subst (λ (a : Asked). IsScattered a c.args.bits c.args.block c.args.size c.args.samples.now c.args.into.now c.args.into.now) (order_is c)
     (none-scattered (here c) c.args.bits c.args.block c.args.size c.args.samples.now c.args.into.now (λ p inside asked block.
@@ -129,7 +134,8 @@ move_points-requires-clause-within c =
     let at = (goal.at.move_points-requires-clause-within c).After-shape-shape in
     let part : BlockPart = part_of at c.in-Some.common in
     let asked = sym c.asks.ensures ∙ c.if-not-asks.false in
-    subst (λ (a : Asked). (ks : ℕ → ℕ) → AreNumbers part (length part.region) ks → IsThere a c.args.size c.args.samples.now c.args.into.now (byte_at part (length part.region) ks) (place_at part (length part.region) ks)) (order_is at)
+    subst (λ (a : Asked). (ks : ℕ → ℕ) → AreNumbers part (length part.region) ks →
+    IsThere a c.args.size c.args.samples.now c.args.into.now (byte_at part (length part.region) ks) (place_at part (length part.region) ks)) (order_is at)
     (moves-there c.args.order.now.lo c.args.order.now.hi part c.shape-shape.result.region c.shape-shape.result.grid c.args.block c.args.size c.args.samples.now c.args.into.now
     (setting at c.in-Some.common c.in-Some.ensures.bounds.1 c.in-Some.ensures.points) (move at c.in-Some.common asked))
 
@@ -144,7 +150,9 @@ returns-in-Some c =
     subst (λ (a : Asked). IsScattered a c.args.bits c.args.block c.args.size c.args.samples.now c.args.into.now c.move_points.new.into) (order_is at)
     (all-scattered c.args.order.now.lo c.args.order.now.hi part c.shape-shape.result.region c.shape-shape.result.grid c.args.block c.args.size c.args.samples.now c.args.into.now is moves c.move_points.new.into
     (subst (λ (a : Asked). AreMovedBy a want c.args.size part (length part.region) c.args.into.now c.move_points.new.into) (sym (order_is at))
-    (c.move_points.ensures want (subst (λ (a : Asked). (ks : ℕ → ℕ) → AreNumbers part (length part.region) ks → IsAsked a want c.args.size c.args.samples.now (byte_at part (length part.region) ks) (place_at part (length part.region) ks)) (order_is at)
+    (c.move_points.ensures want
+    (subst (λ (a : Asked). (ks : ℕ → ℕ) → AreNumbers part (length part.region) ks →
+    IsAsked a want c.args.size c.args.samples.now (byte_at part (length part.region) ks) (place_at part (length part.region) ks)) (order_is at)
     (moves-asked c.args.order.now.lo c.args.order.now.hi part c.shape-shape.result.region c.shape-shape.result.grid c.args.block c.args.size c.args.samples.now c.args.into.now is moves)))))
 
 pub returns-in_default : goal.returns-in_default

@@ -42,7 +42,8 @@ stands c =
     let place : c.rank_of.result ≡ place_of a.region p = c.rank_of.ensures.place ∙ ap (λ (r : List (ℕ × ℕ)). place_of r p) c.region-then-contains.ensures in
     ap (slice_get (asked_points a)) (c.before-then-contains.ensures ∙ ap (asked_before a) place)
     ∙ asked-at a p inside
-    (ap (λ n. nat_le a.lo n && nat_le n a.hi) ((level_iff_zero a.mask p).1 (subst (λ (m : List ℕ). hz_address m p ≡ 0) c.mask.ensures c.point_of_hz-p.ensures.address)) ∙ sym c.asks.ensures ∙ c.if-asks.true)
+    (ap (λ n. nat_le a.lo n && nat_le n a.hi) ((level_iff_zero a.mask p).1 (subst (λ (m : List ℕ). hz_address m p ≡ 0) c.mask.ensures c.point_of_hz-p.ensures.address)) ∙ sym c.asks.ensures
+    ∙ c.if-asks.true)
 
 room : (c : After-before-then-contains) → (c.before-then-contains.result + 1) * length c.args.sample.now ≤ length c.args.into.now
 room c =

@@ -17,7 +17,8 @@ loop-level-init c =
     length-take-le c.args.size c.args.samples.now (omega (arith, c.requires.samples, mul-le-mul_left c.args.size (pow_pos c.args.bits))) in
     record {
       front = omega arith;
-      made = first-front c.args.order.now c.args.size (length (take c.args.size c.args.samples.now)) (take c.args.size c.args.samples.now) c.args.samples.now c.args.into.now c.put_first.new.into one refl c.put_first.ensures;
+      made = first-front c.args.order.now c.args.size (length (take c.args.size c.args.samples.now))
+          (take c.args.size c.args.samples.now) c.args.samples.now c.args.into.now c.put_first.new.into one refl c.put_first.ensures;
     }
 
 pub slice_bounds-scatter_by_lanes-end : goal.slice_bounds-scatter_by_lanes-end

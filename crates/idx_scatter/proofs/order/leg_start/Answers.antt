@@ -4,7 +4,7 @@ use Rattle.idx_geom.specs.Region.{HoldsAll, IsRegion}
 use Rattle.idx_grid.proofs.GridLemmas.{lower_at}
 use Rattle.idx_grid.specs.LevelGrid.{IsGridAt}
 use Rattle.idx_grid.specs.declared.grid.Grid.{Grid}
-use Rattle.idx_lanes.specs.Axis.{start_of}
+use Rattle.idx_lanes.specs.Axis.{first_from}
 use Rattle.idx_lanes.specs.Lanes.{bounds_on}
 use Rattle.idx_lanes.specs.declared.block_part.BlockPart.{BlockPart}
 use Rattle.idx_lanes.proofs.LanesLemmas.{AreFound, AreOn, bounds-part, grid-on, lowest-lt, same_axes-part, start-found}
@@ -14,7 +14,8 @@ use Rattle.idx_scatter.proofs.order.leg_start.Goals.{After-first_from-start}
 grid_axis : (part : BlockPart) (axis : ℕ) → IsRegion part.common → HoldsAll part.region part.common → axis < length part.common → axis < length part.region
 grid_axis part axis valid inside within = omega (arith, within, same_axes-part part valid inside)
 
-on : (part : BlockPart) (axis : ℕ) (grid : Grid) → IsRegion part.common → HoldsAll part.region part.common → axis < length part.common → IsGridAt part.mask (length part.region) (suc (part.bits + part.k)) grid → AreOn part.mask (part.bits + part.k) axis grid
+on : (part : BlockPart) (axis : ℕ) (grid : Grid) → IsRegion part.common → HoldsAll part.region part.common → axis < length part.common →
+    IsGridAt part.mask (length part.region) (suc (part.bits + part.k)) grid → AreOn part.mask (part.bits + part.k) axis grid
 on part axis grid valid inside within is = grid-on part.mask (part.bits + part.k) (length part.region) axis grid is (grid_axis part axis valid inside within)
 
 pub get-step-requires : goal.get-step-requires
@@ -24,7 +25,8 @@ pub get-requires-2 : goal.get-requires-2
 get-requires-2 c = (on c.args.part.now c.args.axis c.args.grid.now c.requires.valid c.requires.inside c.requires.axis c.requires.grid).firsts
 
 pub get-requires-3 : goal.get-requires-3
-get-requires-3 c = omega (arith, grid_axis c.args.part.now c.args.axis c.requires.valid c.requires.inside c.requires.axis, ap length c.lo-2.ensures, length-map c.args.part.now.region (λ (b : ℕ × ℕ). b.0))
+get-requires-3 c = omega
+    (arith, grid_axis c.args.part.now c.args.axis c.requires.valid c.requires.inside c.requires.axis, ap length c.lo-2.ensures, length-map c.args.part.now.region (λ (b : ℕ × ℕ). b.0))
 
 pub first_from-start-requires-clause-first : goal.first_from-start-requires-clause-first
 first_from-start-requires-clause-first c =
@@ -42,7 +44,7 @@ found c =
       bounds = refl;
       lowest = c.get-2.ensures.value ∙ are.first;
       pace = c.get-step.ensures.value ∙ are.step;
-      start_is = c.first_from-start.ensures.value ∙ ap (λ n. start_of n c.get-2.result c.get-step.result) (low c);
+      start_is = c.first_from-start.ensures.value ∙ ap (λ n. first_from n c.get-2.result c.get-step.result) (low c);
     }
 
 pub overflow_sub-result : goal.overflow_sub-result
@@ -58,7 +60,11 @@ returns-clause-here c =
     let at = (goal.at.returns-clause-here c).After-first_from-start in
     let part = c.args.part.now in
     let inside = grid_axis part c.args.axis c.requires.valid c.requires.inside c.requires.axis in
-    omega (arith, start-found part c.args.axis (bounds_on part c.args.axis) c.get-2.result c.get-step.result c.first_from-start.result (found at), lower_at part.region c.lo-2.result c.args.axis c.get-3.result inside c.lo-2.ensures c.get-3.ensures.value)
+    omega (
+      arith,
+      start-found part c.args.axis (bounds_on part c.args.axis) c.get-2.result c.get-step.result c.first_from-start.result (found at),
+      lower_at part.region c.lo-2.result c.args.axis c.get-3.result inside c.lo-2.ensures c.get-3.ensures.value,
+    )
 
 pub returns-clause-step : goal.returns-clause-step
 returns-clause-step c =

@@ -29,7 +29,16 @@ returns c =
     omega (arith, below, c.div_ceil.ensures, ceil-is (b.1 + 1) s some, ap (λ t. t / s) all) in
     let wide : b.1 - b.0 + 1 ≡ extent b = omega (arith, c.bounds-lo.ensures.ordered) in
     let zeros = trailing-power s c.requires.power.0 c.requires.power.1 c.requires.small in
-    subst (λ (p : ℕ × ℕ). IsSide s p (record { lo = b.0; extent = b.1 - b.0 + 1; stride = s; whole = c.div_ceil.result - c.div_ceil-below.result; shift = count_trailing_zeros 64 s; below = c.div_ceil-below.result })) c.bounds-lo.ensures.value
+    subst (λ (p : ℕ × ℕ).
+    IsSide s p (record {
+      lo = b.0;
+      extent = b.1 - b.0 + 1;
+      stride = s;
+      whole = c.div_ceil.result - c.div_ceil-below.result;
+      shift = count_trailing_zeros 64 s;
+      below =
+          c.div_ceil-below.result;
+    })) c.bounds-lo.ensures.value
     (record {
       lo = refl;
       wide = wide;

@@ -25,7 +25,8 @@ loop-axis-preserved c =
     let within : axis < length c.args.region.now = omega (arith, c.loop-axis-test.true, c.axes-axis-end.ensures.count, c.loop-axis.auto.axis-end) in
     let room : axis < length c.loop-axis.sides = omega (arith, c.loop-axis.invariant.room, within, c.axes.ensures.valid.axes) in
     let value : c.get.result ≡ stride c.args.mask.now c.args.level axis =
-    c.get.ensures.value ∙ strides-at c.args.mask.now c.args.level c.axes.result axis c.grid_up_to-strides.result.step c.grid_up_to-strides.ensures.value.step (omega (arith, within, c.axes.ensures.count)) in
+    c.get.ensures.value ∙ strides-at c.args.mask.now c.args.level c.axes.result axis c.grid_up_to-strides.result.step c.grid_up_to-strides.ensures.value.step
+    (omega (arith, within, c.axes.ensures.count)) in
     record {
       room = length-set c.loop-axis.sides axis c.side_of.result ∙ c.loop-axis.invariant.room;
       each = λ a less. elim (cases_lt a axis) [
@@ -35,7 +36,8 @@ loop-axis-preserved c =
         | inr from ↦
             let last : axis ≡ a = omega (arith, less, from) in
             subst (λ (n : ℕ). IsSide (stride c.args.mask.now c.args.level n) (get_or c.args.region.now n (0, 0)) (get_or (slice_set c.loop-axis.sides axis c.side_of.result) n no_side)) last
-            (subst (λ (s : Side). IsSide (stride c.args.mask.now c.args.level axis) (get_or c.args.region.now axis (0, 0)) s) (sym (get_or-set_same c.loop-axis.sides axis c.side_of.result no_side room))
+            (subst (λ (s : Side). IsSide (stride c.args.mask.now c.args.level axis) (get_or c.args.region.now axis (0, 0)) s)
+            (sym (get_or-set_same c.loop-axis.sides axis c.side_of.result no_side room))
             (subst (λ (n : ℕ). IsSide n (get_or c.args.region.now axis (0, 0)) c.side_of.result) value c.side_of.ensures))
       ];
     }

@@ -14,15 +14,21 @@ overflow_add-place g t c =
     let lanes : List Lane = c.args.lanes.now in
     let size : ℕ = g.S.Sample.bytes c.args.sample in
     let some : 1 ≤ length lanes = omega (arith, c.in-len1-up.len_at_least) in
-    let each = moves-faster (IsRoom size c.args.samples.now c.args.into.now) c.args.legs.now lanes c.args.place c.loop-k.k c.loop-k.part c.args.rows.now some c.loop-k-test.true c.loop-k.invariant.part c.requires.within in
-    omega (arith, begins_there size c.args.samples.now c.args.into.now c.args.legs.now (faster_of lanes) (c.args.place + c.loop-k.part) (tally_at (leg_of c.args.legs.now (faster_of lanes)) c.args.rows.now c.loop-k.k) (omega (arith, c.requires.some)) (All-faster HasCoordinate lanes some c.requires.lanes) each)
+    let each = moves-faster
+    (IsRoom size c.args.samples.now c.args.into.now) c.args.legs.now lanes c.args.place c.loop-k.k c.loop-k.part c.args.rows.now some c.loop-k-test.true c.loop-k.invariant.part c.requires.within in
+    omega (
+      arith,
+      begins_there size c.args.samples.now c.args.into.now c.args.legs.now (faster_of lanes) (c.args.place + c.loop-k.part)
+          (tally_at (leg_of c.args.legs.now (faster_of lanes)) c.args.rows.now c.loop-k.k) (omega (arith, c.requires.some)) (All-faster HasCoordinate lanes some c.requires.lanes) each,
+    )
 
 pub walk-requires : goal.walk-requires
 walk-requires g t c κs within =
     let lanes : List Lane = c.args.lanes.now in
     let size : ℕ = g.S.Sample.bytes c.args.sample in
     let some : 1 ≤ length lanes = omega (arith, c.in-len1-up.len_at_least) in
-    let each = moves-faster (IsRoom size c.args.samples.now c.args.into.now) c.args.legs.now lanes c.args.place c.loop-k.k c.loop-k.part c.args.rows.now some c.loop-k-test.true c.loop-k.invariant.part c.requires.within in
+    let each = moves-faster
+    (IsRoom size c.args.samples.now c.args.into.now) c.args.legs.now lanes c.args.place c.loop-k.k c.loop-k.part c.args.rows.now some c.loop-k-test.true c.loop-k.invariant.part c.requires.within in
     let fits = fits-faster c.args.legs.now lanes c.loop-k.k c.args.rows.now some c.loop-k-test.true c.requires.fits in (
       search rules,
       (
@@ -38,7 +44,8 @@ walk-requires g t c κs within =
                 (
                   subst (λ (t : Tally). AllFit c.args.legs.now (faster_of lanes) t) (sym c.at-tally.ensures) fits.1,
                   subst (λ (t : Tally). EachMove (IsRoom size c.args.samples.now c.loop-k.into) c.args.legs.now (faster_of lanes) (c.args.place + c.loop-k.part) t) (sym c.at-tally.ensures)
-                      (moves-implied (IsRoom size c.args.samples.now c.args.into.now) (IsRoom size c.args.samples.now c.loop-k.into) (λ o t h. record { ordered = h.ordered; room = omega (arith, h.room, c.loop-k.auto.into); read = h.read })
+                      (moves-implied (IsRoom size c.args.samples.now c.args.into.now) (IsRoom size c.args.samples.now c.loop-k.into)
+                      (λ o t h. record { ordered = h.ordered; room = omega (arith, h.room, c.loop-k.auto.into); read = h.read })
                       c.args.legs.now (faster_of lanes) (c.args.place + c.loop-k.part) (tally_at (leg_of c.args.legs.now (faster_of lanes)) c.args.rows.now c.loop-k.k) each),
                 ),
               ),
@@ -69,7 +76,8 @@ loop-k-preserved g t c =
           (subst (λ (t : Tally). AreMoved want size c.args.legs.now (faster_of lanes) (c.args.place + c.loop-k.part) t c.loop-k.into c.walk.new.into) c.at-tally.ensures
           (c.walk.ensures want
           (subst (λ (t : Tally). EachMove (IsWanted want size c.args.samples.now) c.args.legs.now (faster_of lanes) (c.args.place + c.loop-k.part) t) (sym c.at-tally.ensures)
-          (subst (λ (n : ℕ). EachMove (IsWanted want size c.args.samples.now) c.args.legs.now (faster_of lanes) (c.args.place + n) tally) (sym c.loop-k.invariant.part) (right k c.loop-k-test.true))))));
+          (subst (λ (n : ℕ). EachMove (IsWanted want size c.args.samples.now) c.args.legs.now (faster_of lanes) (c.args.place + n) tally) (sym c.loop-k.invariant.part)
+          (right k c.loop-k-test.true))))));
     }
 
 pub returns-in-empty : goal.returns-in-empty
@@ -77,7 +85,8 @@ returns-in-empty g t c = λ want right.
     let lanes : List Lane = c.args.lanes.now in
     let size : ℕ = g.S.Sample.bytes c.args.sample in
     let none : [] ≡ lanes = no_lane-is lanes c.in-empty.len_below in
-    let wanted : IsWanted want size c.args.samples.now c.args.place c.args.rows.now = subst (λ (ls : List Lane). EachMove (IsWanted want size c.args.samples.now) c.args.legs.now ls c.args.place c.args.rows.now) (sym none) right in
+    let wanted : IsWanted want size c.args.samples.now c.args.place c.args.rows.now =
+    subst (λ (ls : List Lane). EachMove (IsWanted want size c.args.samples.now) c.args.legs.now ls c.args.place c.args.rows.now) (sym none) right in
     subst (λ (ls : List Lane). AreMoved want size c.args.legs.now ls c.args.place c.args.rows.now c.args.into.now c.move_sample.new.into) none (c.move_sample.ensures want wanted)
 
 pub returns-in-len1 : goal.returns-in-len1

@@ -48,7 +48,8 @@ near : (g : _) (c : goal.After-place-first g) (j : ℕ) → j < c.args.slower.no
 near g c j below =
     let size : ℕ = g.S.Sample.bytes c.args.sample in
     let to : ℕ = c.place-first.result + j * c.args.across + 0 * c.args.along in
-    let room : (to + 1) * size ≤ length c.args.into.now = subst (λ (o : ℕ). (o + 1) * size ≤ length c.args.into.now) (even g c j below 0 c.requires.counted) (c.requires.within j below 0 c.requires.counted).room in
+    let room : (to + 1) * size ≤ length c.args.into.now =
+    subst (λ (o : ℕ). (o + 1) * size ≤ length c.args.into.now) (even g c j below 0 c.requires.counted) (c.requires.within j below 0 c.requires.counted).room in
     omega (arith, room, one_is to size c.requires.some)
 
 pub overflow_mul-j : goal.overflow_mul-j
@@ -66,7 +67,8 @@ even_row-requires-clause-within g c =
     spots-there size c.args.samples.now c.loop-j.into c.args.legs.now c.args.lane.now (c.args.place + c.loop-j.part) tally (c.place-first.result + j * c.args.across) c.args.along
     (even g (goal.at.even_row-requires-clause-within g c).After-place-first j c.loop-j-test.true)
     (subst (λ (p : ℕ). EachMove (IsRoom size c.args.samples.now c.loop-j.into) c.args.legs.now faster (c.args.place + p) tally) (sym c.loop-j.invariant.part)
-    (moves-implied (IsRoom size c.args.samples.now c.args.into.now) (IsRoom size c.args.samples.now c.loop-j.into) (λ o t h. record { ordered = h.ordered; room = omega (arith, h.room, c.loop-j.auto.into); read = h.read })
+    (moves-implied (IsRoom size c.args.samples.now c.args.into.now) (IsRoom size c.args.samples.now c.loop-j.into)
+    (λ o t h. record { ordered = h.ordered; room = omega (arith, h.room, c.loop-j.auto.into); read = h.read })
     c.args.legs.now faster (c.args.place + part_after c.args.slower.now.bits c.args.slower.now.first j) tally (c.requires.within j c.loop-j-test.true)))
 
 pub loop-j-preserved : goal.loop-j-preserved
@@ -92,4 +94,5 @@ loop-j-preserved g c =
 
 pub returns : goal.returns
 returns g c = λ want right.
-    so_far-all want (g.S.Sample.bytes c.args.sample) c.args.legs.now c.args.slower.now (c.args.lane.now ∷ []) c.args.place c.args.rows.now c.loop-j.j c.args.into.now c.loop-j.into (omega (arith, c.loop-j-test.false)) (c.loop-j.invariant.made want right)
+    so_far-all want (g.S.Sample.bytes c.args.sample) c.args.legs.now c.args.slower.now (c.args.lane.now ∷ []) c.args.place c.args.rows.now c.loop-j.j c.args.into.now c.loop-j.into
+    (omega (arith, c.loop-j-test.false)) (c.loop-j.invariant.made want right)

@@ -41,7 +41,8 @@ loop-k-preserved g c =
     let to : ℕ = c.args.first + k * c.args.more in
     let next : suc k ≡ k + 1 = omega arith in
     let fits = c.requires.within k c.loop-k-test.true in
-    let from_is : (c.args.place + c.loop-k.part) * c.bytes-size.result ≡ (c.args.place + part_after lane.bits lane.first k) * size = λ i. (c.args.place + c.loop-k.invariant.part i) * c.bytes-size.ensures i in
+    let from_is : (c.args.place + c.loop-k.part) * c.bytes-size.result ≡ (c.args.place + part_after lane.bits lane.first k) * size =
+    λ i. (c.args.place + c.loop-k.invariant.part i) * c.bytes-size.ensures i in
     let to_is : to * c.bytes-size.result ≡ to * size = ap (λ n. to * n) c.bytes-size.ensures in
     record {
       part = c.next_part-part.ensures ∙ ap (next_part lane.bits) c.loop-k.invariant.part ∙ ap (part_after lane.bits lane.first) next;

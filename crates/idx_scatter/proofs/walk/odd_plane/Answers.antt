@@ -35,7 +35,8 @@ row-requires-clause-within g c =
     let tally : Tally = tally_at (leg_of c.args.legs.now faster) c.args.rows.now c.loop-k.k in
     subst (λ (t : Tally). EachMove (IsRoom size c.args.samples.now c.loop-k.into) c.args.legs.now faster (c.args.place + c.loop-k.part) t) (sym c.at-tally.ensures)
     (subst (λ (p : ℕ). EachMove (IsRoom size c.args.samples.now c.loop-k.into) c.args.legs.now faster (c.args.place + p) tally) (sym c.loop-k.invariant.part)
-    (moves-implied (IsRoom size c.args.samples.now c.args.into.now) (IsRoom size c.args.samples.now c.loop-k.into) (λ o t h. record { ordered = h.ordered; room = omega (arith, h.room, c.loop-k.auto.into); read = h.read })
+    (moves-implied (IsRoom size c.args.samples.now c.args.into.now) (IsRoom size c.args.samples.now c.loop-k.into)
+    (λ o t h. record { ordered = h.ordered; room = omega (arith, h.room, c.loop-k.auto.into); read = h.read })
     c.args.legs.now faster (c.args.place + part_after c.args.slower.now.bits c.args.slower.now.first c.loop-k.k) tally (c.requires.within c.loop-k.k c.loop-k-test.true)))
 
 pub loop-k-preserved : goal.loop-k-preserved
@@ -59,4 +60,5 @@ loop-k-preserved g c =
 
 pub returns : goal.returns
 returns g c = λ want right.
-    so_far-all want (g.S.Sample.bytes c.args.sample) c.args.legs.now c.args.slower.now (c.args.lane.now ∷ []) c.args.place c.args.rows.now c.loop-k.k c.args.into.now c.loop-k.into (omega (arith, c.loop-k-test.false)) (c.loop-k.invariant.made want right)
+    so_far-all want (g.S.Sample.bytes c.args.sample) c.args.legs.now c.args.slower.now (c.args.lane.now ∷ []) c.args.place c.args.rows.now c.loop-k.k c.args.into.now c.loop-k.into
+    (omega (arith, c.loop-k-test.false)) (c.loop-k.invariant.made want right)

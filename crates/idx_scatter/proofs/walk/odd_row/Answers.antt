@@ -14,7 +14,8 @@ overflow_add-place g c =
 pub returns : goal.returns
 returns g c = λ want right.
     let lane = c.args.lane.now in
-    so_far-all want (g.S.Sample.bytes c.args.sample) c.args.legs.now lane [] c.args.place c.args.rows.now c.loop-k.k c.args.into.now c.loop-k.into (omega (arith, c.loop-k-test.false)) (c.loop-k.invariant.made want right)
+    so_far-all want (g.S.Sample.bytes c.args.sample) c.args.legs.now lane [] c.args.place c.args.rows.now c.loop-k.k c.args.into.now c.loop-k.into (omega (arith, c.loop-k-test.false))
+    (c.loop-k.invariant.made want right)
 
 pub loop-k-preserved : goal.loop-k-preserved
 loop-k-preserved g c =

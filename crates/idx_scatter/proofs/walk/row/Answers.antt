@@ -30,4 +30,5 @@ pub returns-in-Some : goal.returns-in-Some
 returns-in-Some g c = λ want right.
     let evenly = even g (goal.at.returns-in-Some g c).After-place-first in
     apart-moved want (g.S.Sample.bytes c.args.sample) c.args.legs.now c.args.lane.now c.args.place c.args.rows.now c.place-first.result c.in-Some.more c.args.into.now c.even_row.new.into evenly
-    (c.even_row.ensures want (spots-wanted want (g.S.Sample.bytes c.args.sample) c.args.samples.now c.args.legs.now c.args.lane.now c.args.place c.args.rows.now c.place-first.result c.in-Some.more evenly right))
+    (c.even_row.ensures want
+    (spots-wanted want (g.S.Sample.bytes c.args.sample) c.args.samples.now c.args.legs.now c.args.lane.now c.args.place c.args.rows.now c.place-first.result c.in-Some.more evenly right))

@@ -27,5 +27,6 @@ loop-axis-preserved c = record {
   coarse =
       ap (λ n. c.loop-axis.coarse * n * coarse_points (drop (c.loop-axis.axis-index + 1) c.args.axes.now)) c.coarse_count-coarse.ensures.count
       ∙ product-next c.loop-axis.coarse _ _ _ _ c.loop-axis.invariant.coarse (coarse_points-drop c.args.axes.now c.loop-axis.axis-index none c.loop-axis-test.true);
-  fewer = mul-le c.loop-axis.coarse c.coarse_count-coarse.result c.loop-axis.all (get_or c.args.axes.now c.loop-axis.axis-index none).count c.loop-axis.invariant.fewer c.coarse_count-coarse.ensures.some;
+  fewer = mul-le c.loop-axis.coarse c.coarse_count-coarse.result c.loop-axis.all
+      (get_or c.args.axes.now c.loop-axis.axis-index none).count c.loop-axis.invariant.fewer c.coarse_count-coarse.ensures.some;
 }

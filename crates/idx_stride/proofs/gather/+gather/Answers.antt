@@ -38,10 +38,12 @@ gather-next-requires g t c κs within =
     let axes : List Axis = c.args.axes.now in
     let whole : others_of axes ++ last_of axes ∷ [] ≡ axes = whole_of axes (omega (arith, c.in-len1-up.len_at_least)) in
     let size : ℕ = g.S.Sample.bytes c.args.sample in
-    let here : gathered size c.args.window.now (c.args.base + c.loop-k.k * (last_of axes).step) c.stays_coarse-coarse_here.result (others_of axes) ≡ layer size c.args.window.now c.args.base c.args.coarse (others_of axes) (last_of axes) c.loop-k.k =
+    let here : gathered size c.args.window.now (c.args.base + c.loop-k.k * (last_of axes).step) c.stays_coarse-coarse_here.result
+    (others_of axes) ≡ layer size c.args.window.now c.args.base c.args.coarse (others_of axes) (last_of axes) c.loop-k.k =
     ap (λ b. gathered size c.args.window.now (c.args.base + c.loop-k.k * (last_of axes).step) b (others_of axes)) c.stays_coarse-coarse_here.ensures in
     let fits : c.loop-k.next + length (layer size c.args.window.now c.args.base c.args.coarse (others_of axes) (last_of axes) c.loop-k.k) ≤ length c.args.out.now =
-    layer_fits axes (others_of axes) (last_of axes) whole size c.args.window.now c.args.base c.args.coarse c.loop-k.k c.args.at c.loop-k.next (length c.args.out.now) c.loop-k-test.true c.loop-k.invariant.next_place c.requires.write in (
+    layer_fits axes (others_of axes) (last_of axes) whole size c.args.window.now c.args.base c.args.coarse c.loop-k.k c.args.at c.loop-k.next
+    (length c.args.out.now) c.loop-k-test.true c.loop-k.invariant.next_place c.requires.write in (
       search rules,
       (
         within,
@@ -78,7 +80,8 @@ loop-k-preserved g t c =
     let here : gathered size c.args.window.now (c.args.base + k * (last_of axes).step) c.stays_coarse-coarse_here.result (others_of axes) ≡ F k =
     ap (λ b. gathered size c.args.window.now (c.args.base + k * (last_of axes).step) b (others_of axes)) c.stays_coarse-coarse_here.ensures in
     let fits : c.loop-k.next + length (F k) ≤ length c.args.out.now =
-    layer_fits axes (others_of axes) (last_of axes) whole size c.args.window.now c.args.base c.args.coarse k c.args.at c.loop-k.next (length c.args.out.now) c.loop-k-test.true c.loop-k.invariant.next_place c.requires.write in
+    layer_fits axes (others_of axes) (last_of axes) whole size c.args.window.now c.args.base c.args.coarse k c.args.at c.loop-k.next
+    (length c.args.out.now) c.loop-k-test.true c.loop-k.invariant.next_place c.requires.write in
     let written_here : WritesAt c.loop-k.next c.if-some_fine.next (F k) c.loop-k.out c.if-some_fine.out =
     elim c.if-some_fine.branch [
       | then-some_fine w ↦

@@ -11,7 +11,9 @@ use Rattle.idx_stride.proofs.WrittenLemmas.{WritesAt-nil, WritesAt-more, WritesA
 use Rattle.idx_stride.proofs.row.between_coarse.Goals as goal
 
 -- a run, and the samples before it, are part of the whole
-run_fits : (size : ℕ) (window : List ℕ) (base : ℕ) (axis : Axis) (k left n next : ℕ) → (axis.phase + k + left) % axis.ratio ≡ 0 → left < axis.ratio → k < axis.count → n ≡ min left (axis.count - k) → next ≡ min (k + n + 1) axis.count → base + (axis.count - 1) * axis.step + size ≤ length window → length (flat_map (piece size window base true axis) (range_with_len 0 k)) + n * size ≤ length (gathered size window base true (axis ∷ []))
+run_fits : (size : ℕ) (window : List ℕ) (base : ℕ) (axis : Axis) (k left n next : ℕ) → (axis.phase + k + left) % axis.ratio ≡ 0 → left < axis.ratio → k < axis.count →
+    n ≡ min left (axis.count - k) → next ≡ min (k + n + 1) axis.count → base + (axis.count - 1) * axis.step + size ≤ length window →
+    length (flat_map (piece size window base true axis) (range_with_len 0 k)) + n * size ≤ length (gathered size window base true (axis ∷ []))
 run_fits size window base axis k left n next at less inside run then read =
     let F : ℕ → List ℕ = piece size window base true axis in
     let more : flat_map F (range_with_len 0 next) ≡ flat_map F (range_with_len 0 k) ++ samples_at size window (progression (base + k * axis.step) axis.step n) =
@@ -29,7 +31,8 @@ run_fits size window base axis k left n next at less inside run then read =
 
 pub run-next-requires-clause-read : goal.run-next-requires-clause-read
 run-next-requires-clause-read g c =
-    run-read c.args.base (g.S.Sample.bytes c.args.sample) c.args.axis.now.step c.args.axis.now.count c.loop-coordinate.coordinate c.min-count.result (length c.args.window.now) c.requires.read (omega arith)
+    run-read c.args.base (g.S.Sample.bytes c.args.sample) c.args.axis.now.step c.args.axis.now.count c.loop-coordinate.coordinate c.min-count.result
+    (length c.args.window.now) c.requires.read (omega arith)
 
 pub run-next-requires-clause-write : goal.run-next-requires-clause-write
 run-next-requires-clause-write g c =
@@ -47,7 +50,8 @@ pub loop-coordinate-init : goal.loop-coordinate-init
 loop-coordinate-init g c = record {
   within = omega arith;
   writes = WritesAt-nil c.args.at c.args.out.now;
-  coarse = λ h. ap (λ n. n % c.args.axis.now.ratio) (let same : c.args.axis.now.phase + 0 + c.before_coarse-fine.result ≡ c.args.axis.now.phase + c.before_coarse-fine.result = omega arith in same) ∙ c.before_coarse-fine.ensures.coarse;
+  coarse = λ h. ap (λ n. n % c.args.axis.now.ratio) (let same : c.args.axis.now.phase + 0 + c.before_coarse-fine.result ≡ c.args.axis.now.phase + c.before_coarse-fine.result = omega arith in
+      same) ∙ c.before_coarse-fine.ensures.coarse;
   few = c.before_coarse-fine.ensures.least;
 }
 
@@ -73,7 +77,8 @@ loop-coordinate-preserved g c =
       within = omega arith;
       writes =
           WritesAt-same c.args.at c.run-next.result (flat_map F (range_with_len 0 k) ++ run) (flat_map F (range_with_len 0 next)) c.args.out.now c.run-next.new.out (sym more)
-          (WritesAt-more c.args.at c.loop-coordinate.next c.run-next.result (flat_map F (range_with_len 0 k)) run c.args.out.now c.loop-coordinate.out c.run-next.new.out c.loop-coordinate.invariant.writes c.run-next.ensures
+          (WritesAt-more c.args.at c.loop-coordinate.next c.run-next.result
+          (flat_map F (range_with_len 0 k)) run c.args.out.now c.loop-coordinate.out c.run-next.new.out c.loop-coordinate.invariant.writes c.run-next.ensures
           (omega (arith, c.run-next.ensures.next_place, c.loop-coordinate.invariant.writes.next_place, long, fits, c.requires.write)));
       coarse = λ h.
           let all : n ≡ left = omega arith in

@@ -13,14 +13,16 @@ odd phase before ratio two less even =
     let halves : (phase + before) % 2 ≡ 0 = ap (λ r. (phase + before) % r) (sym two) ∙ even in
     omega arith
 
-same : (size : ℕ) (window : List ℕ) (base : ℕ) (axis : Axis) (before : ℕ) → axis.ratio ≡ 2 → 1 < axis.count → before < axis.ratio → (axis.phase + before) % axis.ratio ≡ 0 → gathered size window base true (axis ∷ []) ≡ samples_at size window (progression (base + (1 - before) * axis.step) (2 * axis.step) ((axis.count - (1 - before) + 1) / 2))
+same : (size : ℕ) (window : List ℕ) (base : ℕ) (axis : Axis) (before : ℕ) → axis.ratio ≡ 2 → 1 < axis.count → before < axis.ratio → (axis.phase + before) % axis.ratio ≡ 0 →
+    gathered size window base true (axis ∷ []) ≡ samples_at size window (progression (base + (1 - before) * axis.step) (2 * axis.step) ((axis.count - (1 - before) + 1) / 2))
 same size window base axis before two wide less even =
     gathered-every_other size window base axis (1 - before) ((axis.count - (1 - before) + 1) / 2) two (omega arith) (omega arith)
     (odd axis.phase before axis.ratio two less even) refl
 
 pub run-requires-clause-read : goal.run-requires-clause-read
 run-requires-clause-read g c =
-    every_other-read c.args.base (g.S.Sample.bytes c.args.sample) c.args.axis.now.step c.args.axis.now.count (1 - c.before_coarse.result) ((c.args.axis.now.count - (1 - c.before_coarse.result) + 1) / 2) (length c.args.window.now) refl (omega arith) c.requires.wide c.requires.read
+    every_other-read c.args.base (g.S.Sample.bytes c.args.sample) c.args.axis.now.step c.args.axis.now.count (1 - c.before_coarse.result)
+    ((c.args.axis.now.count - (1 - c.before_coarse.result) + 1) / 2) (length c.args.window.now) refl (omega arith) c.requires.wide c.requires.read
 
 pub run-requires-clause-write : goal.run-requires-clause-write
 run-requires-clause-write g c =
@@ -31,7 +33,12 @@ run-requires-clause-write g c =
     let long : length (samples_at size c.args.window.now (progression (c.args.base + first * axis.step) (2 * axis.step) n)) ≡ n * size =
     length-samples_at-read size c.args.window.now (c.args.base + first * axis.step) (2 * axis.step) n
     (every_other-read c.args.base size axis.step axis.count first n (length c.args.window.now) refl (omega arith) c.requires.wide c.requires.read) in
-    omega (arith, long, c.requires.write, ap length (same size c.args.window.now c.args.base axis c.before_coarse.result c.requires.ratio c.requires.wide c.before_coarse.ensures.least c.before_coarse.ensures.coarse))
+    omega (
+      arith,
+      long,
+      c.requires.write,
+      ap length (same size c.args.window.now c.args.base axis c.before_coarse.result c.requires.ratio c.requires.wide c.before_coarse.ensures.least c.before_coarse.ensures.coarse),
+    )
 
 pub returns : goal.returns
 returns g c =

@@ -21,4 +21,5 @@ returns-then-not-coarse g c =
     let axis : Axis = c.args.axis.now in
     let fine : gathered size c.args.window.now c.args.base c.args.coarse (axis ∷ []) ≡ samples_at size c.args.window.now (progression c.args.base axis.step axis.count) =
     ap (λ b. gathered size c.args.window.now c.args.base b (axis ∷ [])) c.if-not-coarse.true ∙ gathered-fine_row size c.args.window.now c.args.base axis in
-    WritesAt-same c.args.at c.run.result (samples_at size c.args.window.now (progression c.args.base axis.step axis.count)) (gathered size c.args.window.now c.args.base c.args.coarse (axis ∷ [])) c.args.out.now c.run.new.out (sym fine) c.run.ensures
+    WritesAt-same c.args.at c.run.result (samples_at size c.args.window.now (progression c.args.base axis.step axis.count))
+    (gathered size c.args.window.now c.args.base c.args.coarse (axis ∷ [])) c.args.out.now c.run.new.out (sym fine) c.run.ensures

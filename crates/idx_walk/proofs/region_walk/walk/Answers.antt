@@ -38,13 +38,15 @@ at_axis c =
 fine : (c : After-get) → c.get-stride.result ≡ stride c.args.mask.now c.args.hi c.loop-axis.axis
 fine c =
     c.get-stride.ensures.value
-    ∙ strides-at c.args.mask.now c.args.hi c.axes.result c.loop-axis.axis c.grid_up_to-fine.result.step c.grid_up_to-fine.ensures.value.step (omega (arith, inside (goal.at.nonzero_div-get c).In-loop-axis))
+    ∙ strides-at c.args.mask.now c.args.hi c.axes.result c.loop-axis.axis c.grid_up_to-fine.result.step c.grid_up_to-fine.ensures.value.step
+    (omega (arith, inside (goal.at.nonzero_div-get c).In-loop-axis))
 
 ratio : (c : After-get) → c.get.result / c.get-stride.result ≡ ratio_of c.args.mask.now c.args.lo c.args.hi c.loop-axis.axis
 ratio c =
     let coarse : c.get.result ≡ stride c.args.mask.now c.saturating_sub.result c.loop-axis.axis =
     c.get.ensures.value
-    ∙ strides-at c.args.mask.now c.saturating_sub.result c.axes-2.result c.loop-axis.axis c.grid_up_to-coarse.result.step c.grid_up_to-coarse.ensures.value.step (omega (arith, inside (goal.at.nonzero_div-get c).In-loop-axis)) in
+    ∙ strides-at c.args.mask.now c.saturating_sub.result c.axes-2.result c.loop-axis.axis c.grid_up_to-coarse.result.step c.grid_up_to-coarse.ensures.value.step
+    (omega (arith, inside (goal.at.nonzero_div-get c).In-loop-axis)) in
     let level : c.saturating_sub.result ≡ c.args.lo - 1 = omega (arith, c.saturating_sub.ensures) in
     (λ i. coarse i / fine c i) ∙ ap (λ h. stride c.args.mask.now h c.loop-axis.axis / stride c.args.mask.now c.args.hi c.loop-axis.axis) level
 
@@ -68,15 +70,21 @@ axis_of-requires-clause-some c = omega (arith, fine (goal.at.axis_of-requires-cl
 pub axis_of-requires-clause-few : goal.axis_of-requires-clause-few
 axis_of-requires-clause-few c =
     let at = at_axis (goal.at.axis_of-requires-clause-few c).After-get in
-    let few = weight-le (stride c.args.mask.now c.args.hi) (ratio_of c.args.mask.now c.args.lo c.args.hi) c.args.size c.args.extent.now c.args.region.now c.loop-axis.axis c.loop-axis.base c.loop-axis.weight c.loop-axis.axes c.bounds-from.result c.bounds.result c.axes.ensures.valid c.requires.few_bytes at c.loop-axis.invariant in
+    let few = weight-le (stride c.args.mask.now c.args.hi)
+    (ratio_of c.args.mask.now c.args.lo c.args.hi) c.args.size c.args.extent.now c.args.region.now c.loop-axis.axis c.loop-axis.base c.loop-axis.weight c.loop-axis.axes c.bounds-from.result c.bounds.result c.axes.ensures.valid c.requires.few_bytes at c.loop-axis.invariant in
     let within : c.bounds.result.1 - c.bounds.result.0 ≤ c.bounds-from.result.1 - c.bounds-from.result.0 + 1 = omega (arith, at.low, at.high, at.ordered) in
     omega (arith, few, mul-le-mul_right c.loop-axis.weight within, mul_comm c.loop-axis.weight (c.bounds-from.result.1 - c.bounds-from.result.0 + 1))
 
 -- the axis that is found
-next : (c : After-get) (a : Axis) → (1 ≤ count_of c.get-stride.result c.bounds.result) × (a ≡ axis_at c.loop-axis.weight c.get-stride.result (c.get.result / c.get-stride.result) c.bounds.result) → IsNext (stride c.args.mask.now c.args.hi) (ratio_of c.args.mask.now c.args.lo c.args.hi) c.args.size c.args.extent.now c.args.region.now c.loop-axis.axis c.loop-axis.base c.loop-axis.weight c.loop-axis.axes c.bounds-from.result c.get-stride.result a
+next : (c : After-get) (a : Axis) →
+    (1 ≤ count_of c.get-stride.result c.bounds.result) × (a ≡ axis_at c.loop-axis.weight c.get-stride.result (c.get.result / c.get-stride.result) c.bounds.result) →
+    IsNext (stride c.args.mask.now c.args.hi)
+    (ratio_of c.args.mask.now c.args.lo c.args.hi) c.args.size c.args.extent.now c.args.region.now c.loop-axis.axis c.loop-axis.base c.loop-axis.weight c.loop-axis.axes c.bounds-from.result c.get-stride.result a
 next c a found =
-    IsNext-found (stride c.args.mask.now c.args.hi) (ratio_of c.args.mask.now c.args.lo c.args.hi) (stride_pos c.args.mask.now c.args.hi) c.args.size c.args.extent.now c.args.region.now c.loop-axis.axis c.loop-axis.base c.loop-axis.weight c.loop-axis.axes c.bounds-from.result c.bounds.result
-    c.get-stride.result (c.get.result / c.get-stride.result) a c.axes.ensures.valid c.requires.few_bytes (at_axis c) c.axes-axis-end.ensures.valid.axes.1 (fine c) (ratio c) found.0 found.1 c.loop-axis.invariant
+    IsNext-found (stride c.args.mask.now c.args.hi) (ratio_of c.args.mask.now c.args.lo c.args.hi)
+    (stride_pos c.args.mask.now c.args.hi) c.args.size c.args.extent.now c.args.region.now c.loop-axis.axis c.loop-axis.base c.loop-axis.weight c.loop-axis.axes c.bounds-from.result c.bounds.result
+    c.get-stride.result (c.get.result / c.get-stride.result) a c.axes.ensures.valid c.requires.few_bytes (at_axis c) c.axes-axis-end.ensures.valid.axes.1 (fine c)
+    (ratio c) found.0 found.1 c.loop-axis.invariant
 
 pub overflow_sub-base : goal.overflow_sub-base
 overflow_sub-base c = (next (goal.at.overflow_sub-base c).After-get c.in_ok-found.found (c.in_ok-found.ensures)).low
@@ -108,7 +116,8 @@ none c missing =
     let asked = question (goal.at.nonzero_div-get c).In-loop-axis in
     let no_multiple : count_of (stride c.args.mask.now c.args.hi c.loop-axis.axis) c.bounds.result ≡ 0 = ap (λ s. count_of s c.bounds.result) (sym (fine c)) ∙ omega (arith, missing) in
     points_up_to-lattice c.args.mask.now c.args.extent.now c.args.region.now c.args.lo c.args.hi asked
-    ∙ lattice-none_at (stride c.args.mask.now c.args.hi) (ratio_of c.args.mask.now c.args.lo c.args.hi) c.args.size c.args.extent.now c.args.region.now c.loop-axis.axis c.loop-axis.base c.loop-axis.weight c.loop-axis.axes c.bounds-from.result c.bounds.result (at_axis c) no_multiple c.loop-axis.invariant
+    ∙ lattice-none_at (stride c.args.mask.now c.args.hi)
+    (ratio_of c.args.mask.now c.args.lo c.args.hi) c.args.size c.args.extent.now c.args.region.now c.loop-axis.axis c.loop-axis.base c.loop-axis.weight c.loop-axis.axes c.bounds-from.result c.bounds.result (at_axis c) no_multiple c.loop-axis.invariant
 
 pub returns-in_err-found-clause-none : goal.returns-in_err-found-clause-none
 returns-in_err-found-clause-none c =

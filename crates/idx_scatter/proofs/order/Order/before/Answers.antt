@@ -15,10 +15,12 @@ coarse : (c : After-axes-axes) → AreSides (stride c.self.inside.mask (c.self.i
 coarse c = subst (λ (n : ℕ). AreSides (stride c.self.inside.mask (c.self.inside.lo - 1)) 0 c.self.inside.region (take n c.self.inside.coarse)) (sym c.axes-axes.ensures.count) c.self.invariant.3
 
 pub before-fine-requires : goal.before-fine-requires
-before-fine-requires c = all-sane (stride c.self.inside.mask c.self.inside.hi) 0 c.self.inside.region (take c.axes-axes.result c.self.inside.fine) (fine (goal.at.before-fine-requires c).After-axes-axes)
+before-fine-requires c =
+    all-sane (stride c.self.inside.mask c.self.inside.hi) 0 c.self.inside.region (take c.axes-axes.result c.self.inside.fine) (fine (goal.at.before-fine-requires c).After-axes-axes)
 
 pub before-requires : goal.before-requires
-before-requires c = all-sane (stride c.self.inside.mask (c.self.inside.lo - 1)) 0 c.self.inside.region (take c.axes-axes.result c.self.inside.coarse) (coarse (goal.at.before-requires c).After-axes-axes)
+before-requires c = all-sane (stride c.self.inside.mask (c.self.inside.lo - 1)) 0 c.self.inside.region (take c.axes-axes.result c.self.inside.coarse)
+    (coarse (goal.at.before-requires c).After-axes-axes)
 
 -- the place is one of the region
 inside_place : (c : After-axes-axes) → c.args.place < length (points c.self.inside.region)

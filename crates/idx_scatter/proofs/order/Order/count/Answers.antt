@@ -15,10 +15,12 @@ coarse : (c : After-count-last) → AreSides (stride c.self.inside.mask (c.self.
 coarse c = subst (λ (n : ℕ). AreSides (stride c.self.inside.mask (c.self.inside.lo - 1)) 0 c.self.inside.region (take n c.self.inside.coarse)) (sym c.axes-axes.ensures.count) c.self.invariant.3
 
 pub up_to-fine-requires-clause-sane : goal.up_to-fine-requires-clause-sane
-up_to-fine-requires-clause-sane c = all-sane (stride c.self.inside.mask c.self.inside.hi) 0 c.self.inside.region (take c.axes-axes.result c.self.inside.fine) (fine (goal.at.up_to-fine-requires-clause-sane c).After-count-last)
+up_to-fine-requires-clause-sane c =
+    all-sane (stride c.self.inside.mask c.self.inside.hi) 0 c.self.inside.region (take c.axes-axes.result c.self.inside.fine) (fine (goal.at.up_to-fine-requires-clause-sane c).After-count-last)
 
 pub up_to-requires-clause-sane : goal.up_to-requires-clause-sane
-up_to-requires-clause-sane c = all-sane (stride c.self.inside.mask (c.self.inside.lo - 1)) 0 c.self.inside.region (take c.axes-axes.result c.self.inside.coarse) (coarse (goal.at.up_to-requires-clause-sane c).After-count-last)
+up_to-requires-clause-sane c =
+    all-sane (stride c.self.inside.mask (c.self.inside.lo - 1)) 0 c.self.inside.region (take c.axes-axes.result c.self.inside.coarse) (coarse (goal.at.up_to-requires-clause-sane c).After-count-last)
 
 abbrev asked_of : After-count-last → Asked
 asked_of c = record { mask = c.self.inside.mask; region = c.self.inside.region; lo = c.self.inside.lo; hi = c.self.inside.hi }

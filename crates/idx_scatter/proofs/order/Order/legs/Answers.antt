@@ -14,7 +14,8 @@ use Rattle.idx_scatter.proofs.SideLemmas.{no_side}
 use Rattle.idx_scatter.proofs.order.Order.legs.Goals as goal
 
 -- the side of an axis among those of all axes
-side-taken : (s : ℕ → ℕ) (region asked : List (ℕ × ℕ)) (sides : List Side) (axis : ℕ) → region ≡ asked → axis < length asked → AreSides s 0 region (take (length region) sides) → IsSide (s axis) (get_or asked axis (0, 0)) (get_or sides axis no_side)
+side-taken : (s : ℕ → ℕ) (region asked : List (ℕ × ℕ)) (sides : List Side) (axis : ℕ) → region ≡ asked → axis < length asked → AreSides s 0 region (take (length region) sides) →
+    IsSide (s axis) (get_or asked axis (0, 0)) (get_or sides axis no_side)
 side-taken s region asked sides axis same within are =
     let there : axis < length region = omega (arith, within, ap length same) in
     let first : 0 + axis ≡ axis = omega arith in

@@ -6,7 +6,12 @@ pub overflow_sub-result : goal.overflow_sub-result
 overflow_sub-result c =
     let side = c.args.self.now in
     let less : side.lo + side.stride - 1 ≤ side.lo + c.args.count + side.stride - 1 = omega arith in
-    omega (arith, shifted side c.args.count c.requires.sane, c.requires.sane.below, div-mono side.stride (side.lo + side.stride - 1) (side.lo + c.args.count + side.stride - 1) c.requires.sane.paced less)
+    omega (
+      arith,
+      shifted side c.args.count c.requires.sane,
+      c.requires.sane.below,
+      div-mono side.stride (side.lo + side.stride - 1) (side.lo + c.args.count + side.stride - 1) c.requires.sane.paced less,
+    )
 
 pub returns-clause-value : goal.returns-clause-value
 returns-clause-value c =

@@ -38,7 +38,9 @@ IsCompact-compacted w h = record {
 }
 
 -- what the body puts together
-together : (w : Walk) (base size : ℕ) (coarse leaves_out : Bool) (axes now again : List Axis) → base ≡ w.base → size ≡ w.size → leaves_out ≡ w.coarse → coarse ≡ (leaves_out && list_all is_wide_or_coarse again) → again ≡ w.axes → now ≡ w.axes → axes ≡ filter is_wide now → (let made : Walk = record { base = base; size = size; coarse = coarse; axes = axes } in made) ≡ compacted w
+together : (w : Walk) (base size : ℕ) (coarse leaves_out : Bool) (axes now again : List Axis) → base ≡ w.base → size ≡ w.size → leaves_out ≡ w.coarse →
+    coarse ≡ (leaves_out && list_all is_wide_or_coarse again) → again ≡ w.axes → now ≡ w.axes → axes ≡ filter is_wide now →
+    (let made : Walk = record { base = base; size = size; coarse = coarse; axes = axes } in made) ≡ compacted w
 together w base size coarse leaves_out axes now again same_base same_size same_coarse both same_again same_now kept =
     let all : coarse ≡ (list_all is_wide_or_coarse w.axes && w.coarse) =
     both ∙ (λ i. same_coarse i && list_all is_wide_or_coarse (same_again i)) ∙ and_comm w.coarse (list_all is_wide_or_coarse w.axes) in

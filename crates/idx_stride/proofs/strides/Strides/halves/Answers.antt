@@ -10,7 +10,8 @@ use Rattle.idx_stride.proofs.PartLemmas.{All-snoc_front, All-snoc_last, grid_poi
 use Rattle.std.proofs.Math.Nat.{mul-le-mul_right}
 use Rattle.idx_stride.proofs.strides.Strides.halves.Goals as goal
 
-IsPart-part : (w v : Walk) (faster : List Axis) (a : Axis) (from count : ℕ) → IsCompact w v → v.axes ≡ faster ++ a ∷ [] → 1 ≤ count → from + count ≤ a.count → count < a.count → IsPart w (walk_part v faster a from count)
+IsPart-part : (w v : Walk) (faster : List Axis) (a : Axis) (from count : ℕ) → IsCompact w v → v.axes ≡ faster ++ a ∷ [] → 1 ≤ count → from + count ≤ a.count → count < a.count →
+    IsPart w (walk_part v faster a from count)
 IsPart-part w v faster a from count h whole some fits fewer = record {
   size = h.size;
   behind = omega (arith, h.base);
@@ -18,7 +19,8 @@ IsPart-part w v faster a from count h whole some fits fewer = record {
   fewer = omega (arith, h.points, grid_points-part v faster a from count whole h.valid.axes fewer);
 }
 
-AreHalves-parts : (w v : Walk) (faster : List Axis) (a : Axis) → IsCompact w v → v.axes ≡ faster ++ a ∷ [] → AreHalves w (walk_part v faster a 0 (a.count / 2)) (walk_part v faster a (a.count / 2) (a.count - a.count / 2))
+AreHalves-parts : (w v : Walk) (faster : List Axis) (a : Axis) → IsCompact w v → v.axes ≡ faster ++ a ∷ [] →
+    AreHalves w (walk_part v faster a 0 (a.count / 2)) (walk_part v faster a (a.count / 2) (a.count - a.count / 2))
 AreHalves-parts w v faster a h whole =
     let wide : All (λ (b : Axis). 1 < b.count) (faster ++ a ∷ []) = subst (λ (axes : List Axis). All (λ (b : Axis). 1 < b.count) axes) whole h.wide in
     let two : 1 < a.count = All-snoc_last (λ (b : Axis). 1 < b.count) faster a wide in
@@ -44,7 +46,8 @@ pub returns-clause-none : goal.returns-clause-none
 returns-clause-none c =
     let axes : List Axis = c.axes.result.now in
     let whole : c.compact-walk.result.axes ≡ take (length axes - 1) axes ++ get_or axes (length axes - 1) none ∷ [] = sym (take-last axes none c.in-len1-up.len_at_least ∙ c.axes.ensures.axes) in
-    let more : 1 < grid_points c.args.self.now.axes = some_points c.args.self.now c.compact-walk.result (take (length axes - 1) axes) (get_or axes (length axes - 1) none) c.compact-walk.ensures whole in
+    let more : 1 < grid_points c.args.self.now.axes =
+    some_points c.args.self.now c.compact-walk.result (take (length axes - 1) axes) (get_or axes (length axes - 1) none) c.compact-walk.ensures whole in
     ((λ e. absurd (true≢false e)), (λ one. absurd (omega arith)))
 
 pub returns-clause-halves : goal.returns-clause-halves
@@ -54,4 +57,6 @@ returns-clause-halves c =
     let parts : AreHalves c.args.self.now (walk_part c.compact-walk.result (take (length axes - 1) axes) (get_or axes (length axes - 1) none) 0 ((get_or axes (length axes - 1) none).count / 2)) _ =
     AreHalves-parts c.args.self.now c.compact-walk.result (take (length axes - 1) axes) (get_or axes (length axes - 1) none) c.compact-walk.ensures whole in
     subst (λ (p : Walk). AreHalves c.args.self.now p c.part-2.result) (sym c.part.ensures)
-    (subst (λ (q : Walk). AreHalves c.args.self.now (walk_part c.compact-walk.result (take (length axes - 1) axes) (get_or axes (length axes - 1) none) 0 ((get_or axes (length axes - 1) none).count / 2)) q) (sym c.part-2.ensures) parts)
+    (subst (λ (q : Walk).
+    AreHalves c.args.self.now (walk_part c.compact-walk.result (take (length axes - 1) axes) (get_or axes (length axes - 1) none) 0 ((get_or axes (length axes - 1) none).count / 2)) q)
+    (sym c.part-2.ensures) parts)
