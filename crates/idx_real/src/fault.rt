@@ -14,7 +14,7 @@ pub enum Reason {
     /// The range that was asked for passes the end of the file.
     #[error("the range that was asked for passes the end of the file")]
     EndsEarly,
-    /// Something stands where a step was to be committed.
+    /// Something stands where a step was to be committed or a header to be put.
     #[error("something stands there already")]
     StandsAlready,
     /// A name has bytes that are no text, so that no path can be made of it.
@@ -23,6 +23,12 @@ pub enum Reason {
     /// A file was to be made outside of the step that was begun.
     #[error("the file is not in the step that was begun")]
     OutsideStep,
+    /// Another run has the lock of the step's staged folder.
+    #[error("another run is writing this step")]
+    AnotherRun,
+    /// A step was to be committed that was not begun, or whose staged folder was taken away.
+    #[error("the staged folder is not the one that was begun")]
+    NotBegun,
     /// A file was to be committed under another path than it was written for.
     #[error("a file was written for another path")]
     OtherPath,

@@ -1,4 +1,4 @@
-ghost use Rattle.std.specs.Prelude.{◌≡◌, ◌↔◌, ◌<◌, ◌+◌, ◌%◌, ◌^◌, None, IsSome, option_map, OnOk, OnErr};
+ghost use Rattle.std.specs.Prelude.{◌≡◌, ◌↔◌, ◌<◌, ◌+◌, ◌%◌, ◌^◌, length, None, IsSome, option_map, OnOk, OnErr};
 ghost use Rattle.idx_outside.specs.Cause.{counted, NeverFalls, Rose};
 ghost use Rattle.idx_real.specs.Faults.{no_faults};
 ghost use Rattle.idx_real.specs.Placed.{WasReadAt, OfItsFile};
@@ -12,8 +12,8 @@ use std::alloc::Global;
 use std::marker::Model;
 use std::rt::Files;
 
-/// A reader of finished files. The file that was read last stays open. A contract sees how many reads there were, modulo
-/// 2^64, and the faults.
+/// A reader of finished files. The file that was read last stays open. A contract sees how many reads there were,
+/// and how many bytes they asked for, both modulo 2^64, and the faults.
 ///
 /// Each is one fault: a path that cannot be opened, what is no regular file, a read that fails, and a range that passes
 /// the file's end.
@@ -24,6 +24,7 @@ pub struct FileReader<R: Files + Drop> {
     last: Option<Opened<R::File>>,
     failed: Option<String>,
     reads: u64,
+    asked: u64,
     log: FaultLog,
 }
 
@@ -39,13 +40,13 @@ impl<R: Files + Drop> Model for FileReader<R> {
 
     ghost Value = { ReaderState };
 
-    ghost view = { λ s. record { reads = s.reads; faults = s.log } };
+    ghost view = { λ s. record { reads = s.reads; asked = s.asked; faults = s.log } };
 }
 
 impl<R: Files + Drop> FileReader<R> {
     /// Opens nothing yet and takes no memory.
     pub fn new(rt: R, alloc: Global) -> FileReader<R>
-        ensures { result ≡ record { reads = 0; faults = no_faults } }
+        ensures { result ≡ record { reads = 0; asked = 0; faults = no_faults } }
     {
         FileReader {
             rt,
@@ -53,6 +54,7 @@ impl<R: Files + Drop> FileReader<R> {
             last: None,
             failed: None,
             reads: 0,
+            asked: 0,
             log: FaultLog::new(),
         }
     }
@@ -82,16 +84,20 @@ impl<R: Files + Drop> Reader<FileLeaf> for FileReader<R> {
 
     ghost reads = { λ s. s.reads };
 
+    ghost asked = { λ s. s.asked };
+
     fn read_at(&mut self, leaf: &FileLeaf, at: u64, into: &mut [u8]) -> Result<(), Outage>
         ensures read { OnOk result (OfItsFile None
             (λ f. WasReadAt R.File.remaining R.File.stream_position R.File.stream_bytes f at into.new)) }
         ensures reads { self.new.reads ≡ (self.old.reads + 1) % 2 ^ 64 }
+        ensures asked { self.new.asked ≡ (self.old.asked + length into.old) % 2 ^ 64 }
         ensures quiet { OnOk result (self.new.faults ≡ self.old.faults) }
         ensures err { OnErr result (self.new.faults.count ≡ counted self.old.faults.count) }
         ensures count { NeverFalls self.old.faults.count self.new.faults.count }
         ensures cause { OnErr result (Rose self.old.faults.count self.new.faults.count) }
     {
         self.reads = self.reads.wrapping_add(1);
+        self.asked = self.asked.wrapping_add(into.len() as u64);
         let found = read_of(&self.rt, self.alloc, &mut self.last, leaf.path(), at, into);
         if found.is_err() {
             self.failed = String::from_str(self.alloc, leaf.path()).ok();

@@ -1,4 +1,4 @@
-ghost use Rattle.std.specs.Prelude.{◌≡◌, ◌↔◌, ◌<◌, length, None, Some, IsSome, string_bytes, option_map, IfSome, IfOk, OnOk, OnErr};
+ghost use Rattle.std.specs.Prelude.{◌≡◌, ◌↔◌, ◌<◌, ◌+◌, ◌%◌, ◌^◌, length, None, Some, IsSome, string_bytes, option_map, IfSome, IfOk, OnOk, OnErr};
 ghost use Rattle.idx_outside.specs.Cause.{counted, NeverFalls, Rose};
 ghost use Rattle.idx_real.specs.Faults.{no_faults};
 ghost use Rattle.idx_real.specs.Placed.{known_bytes, WasReadAt, OfItsFile};
@@ -12,7 +12,7 @@ use std::marker::Model;
 use std::rt::Files;
 
 /// A regular file as a source, of which nothing is known. It is opened at the first call and stays open. A contract sees
-/// the path, the open file and the faults.
+/// the path, the open file, how many bytes were asked for, and the faults.
 ///
 /// Each is one fault: a path that cannot be opened, what is no regular file (a folder, a pipe, a terminal, a device), a
 /// read that fails, and a range that passes the file's end, as in a file that shrank.
@@ -21,6 +21,7 @@ pub struct FileSource<R: Files + Drop> {
     rt: R,
     path: String,
     file: Option<R::File>,
+    asked: u64,
     log: FaultLog,
 }
 
@@ -30,18 +31,19 @@ impl<R: Files + Drop> Model for FileSource<R> {
 
     ghost Value = { FileState R.File };
 
-    ghost view = { λ s. record { path = string_bytes s.path; file = s.file; faults = s.log } };
+    ghost view = { λ s. record { path = string_bytes s.path; file = s.file; asked = s.asked; faults = s.log } };
 }
 
 impl<R: Files + Drop> FileSource<R> {
     /// Opens nothing yet and takes no memory.
     pub fn new(rt: R, path: String) -> FileSource<R>
-        ensures { result ≡ record { path = string_bytes path; file = None; faults = no_faults } }
+        ensures { result ≡ record { path = string_bytes path; file = None; asked = 0; faults = no_faults } }
     {
         FileSource {
             rt,
             path,
             file: None,
+            asked: 0,
             log: FaultLog::new(),
         }
     }
@@ -60,12 +62,15 @@ impl<R: Files + Drop> FileSource<R> {
 impl<R: Files + Drop> Source for FileSource<R> {
     ghost contents = { λ _. None };
 
+    ghost asked = { λ s. s.asked };
+
     ghost faults = { λ s. s.faults.count };
 
     fn len(&mut self) -> Result<u64, Outage>
         ensures length { IfOk result (λ n. OfItsFile self.old.file (λ f.
             IfSome (known_bytes (R.File.stream_position f) (R.File.stream_bytes f)) (λ bytes. n ≡ length bytes))) }
         ensures path { self.new.path ≡ self.old.path }
+        ensures asked { self.new.asked ≡ self.old.asked }
         ensures quiet { OnOk result (self.new.faults ≡ self.old.faults) }
         ensures err { OnErr result (self.new.faults.count ≡ counted self.old.faults.count) }
         ensures count { NeverFalls self.old.faults.count self.new.faults.count }
@@ -79,11 +84,13 @@ impl<R: Files + Drop> Source for FileSource<R> {
         ensures read { OnOk result (OfItsFile self.old.file
             (λ f. WasReadAt R.File.remaining R.File.stream_position R.File.stream_bytes f at into.new)) }
         ensures path { self.new.path ≡ self.old.path }
+        ensures asked { self.new.asked ≡ (self.old.asked + length into.old) % 2 ^ 64 }
         ensures quiet { OnOk result (self.new.faults ≡ self.old.faults) }
         ensures err { OnErr result (self.new.faults.count ≡ counted self.old.faults.count) }
         ensures count { NeverFalls self.old.faults.count self.new.faults.count }
         ensures cause { OnErr result (Rose self.old.faults.count self.new.faults.count) }
     {
+        self.asked = self.asked.wrapping_add(into.len() as u64);
         let found = read_file(&self.rt, self.path.as_str(), &mut self.file, at, into);
         self.log.answer(found)
     }

@@ -1,18 +1,21 @@
-ghost use Rattle.std.specs.Prelude.{◌≡◌, ◌↔◌, ◌<◌, None, Some, Ok, Err, ⊤, IsSome, string_bytes, option_map, IfSome, IfOk, OnOk, OnErr, IsErrOf, length};
+ghost use Rattle.std.specs.Prelude.{◌≡◌, ◌↔◌, ◌<◌, ◌+◌, ◌%◌, ◌^◌, None, Some, Ok, Err, ⊤, IsSome, string_bytes, option_map, IfSome, IfOk, OnOk, OnErr, IsErrOf, IsTrue, is_ok, length};
 ghost use Rattle.std.specs.Option.{unwrap_or};
+ghost use Rattle.idx_outside.specs.Calls.{counts_none, last_failed};
 ghost use Rattle.idx_outside.specs.Cause.{counted, NeverFalls, Rose, OnlyWhereRose};
 ghost use Rattle.idx_real.specs.Faults.{no_faults};
-ghost use Rattle.idx_real.specs.FolderState.{failed_at, InStep};
+ghost use Rattle.idx_real.specs.FolderState.{failed_at, InStep, are_of_their_paths};
 ghost use Rattle.idx_real.specs.Front.{AppendsFront};
 
 use crate::fault_log::FaultLog;
+use crate::header_file::put_new;
+use crate::lock::stands_at;
 use crate::regular_file::{front, open_if_there};
 use crate::step_folder::{
-    PART, are_of_their_paths, beside, create_file, folder_above, folder_of, is_folder,
-    length_if_there, make_anew, make_folders, rename_new, replace,
+    PART, are_of_their_paths, beside, create_file, empty, folder_above, folder_of, hold_empty,
+    is_folder, length_if_there, make_folders, rename_new,
 };
-use crate::{Fault, FileDraft, FileLeaf, Reason};
-use idx_outside::{Bay, BayFault, Bytes, NoMemory, Outage};
+use crate::{Fault, FileDraft, FileLeaf, Lockable, Reason};
+use idx_outside::{Bay, BayCall, BayFault, Bytes, NoMemory, Outage};
 use std::alloc::Global;
 use std::fs;
 use std::io::{self, ErrorKind};
@@ -26,17 +29,21 @@ pub const HEADER_READ: u64 = 65_537;
 /// The folder of a header file as a bay, of which nothing is known. A contract sees the header file's path, the folder
 /// last begun and the faults.
 ///
-/// A step of folder F is staged in `F.part` beside it, which is renamed at `commit`. After a refusal it may be left; it
-/// is never read, and the next `begin_step` of F drops it. A header is staged likewise.
+/// A step of folder F is staged in `F.part` beside it, which is renamed at `commit`. From `begin_step` to `commit` it is
+/// locked, so that no other run writes the same step. After a refusal it may be left; it is never read, and the next
+/// `begin_step` of F drops what is in it. A header is written under a name of its own, and put where none stands.
 ///
 /// Each call of the system that fails is one fault, but for what is not there where a call asks whether it is. So are
-/// what is no regular file where a file is read, a folder that stands already where a step is committed, a file outside
-/// of the step that was begun, a name that is no text, and want of memory in a call that cannot answer it.
+/// what is no regular file where a file is read, what stands already where a step is committed or a header is put, a
+/// step that another run is writing, one that is committed and was not begun, a file outside of the step that was begun, a name that is no text, and want of memory in a call that cannot answer it.
 #[derive(Drop)]
 pub struct FolderBay<R: Files + Drop> {
     rt: R,
     path: String,
     begun: Option<String>,
+    held: Option<R::File>,
+    changes: u64,
+    call: Option<BayCall>,
     failed: Option<String>,
     log: FaultLog,
 }
@@ -57,6 +64,8 @@ impl<R: Files + Drop> Model for FolderBay<R> {
     ghost view = { λ s. record {
       path = string_bytes s.path;
       begun = option_map string_bytes s.begun;
+      changes = s.changes;
+      call = s.call;
       failed = option_map string_bytes s.failed;
       faults = s.log;
     } };
@@ -65,12 +74,15 @@ impl<R: Files + Drop> Model for FolderBay<R> {
 impl<R: Files + Drop> FolderBay<R> {
     /// `path` is the header file's. Opens nothing yet and takes no memory.
     pub fn new(rt: R, path: String) -> FolderBay<R>
-        ensures { result ≡ record { path = string_bytes path; begun = None; failed = None; faults = no_faults } }
+        ensures { result ≡ record { path = string_bytes path; begun = None; changes = 0; call = None; failed = None; faults = no_faults } }
     {
         FolderBay {
             rt,
             path,
             begun: None,
+            held: None,
+            changes: 0,
+            call: None,
             failed: None,
             log: FaultLog::new(),
         }
@@ -93,25 +105,33 @@ impl<R: Files + Drop> FolderBay<R> {
         *self.path.allocator()
     }
 
-    /// Counts a fault at a path; at the header file's where there is none.
-    fn fault(&mut self, place: Option<String>, reason: Reason) -> Outage
-        ensures state { self.new ≡ failed_at (option_map string_bytes place) reason self.old }
+    /// Counts a call that changes the bay.
+    fn change(&mut self)
+        ensures { self.new ≡ record self.old { changes = (self.old.changes + 1) % 2 ^ 64 } }
+    {
+        self.changes = self.changes.wrapping_add(1);
+    }
+
+    /// Counts a fault of a call at a path; at the header file's where there is none.
+    fn fault(&mut self, call: BayCall, place: Option<String>, reason: Reason) -> Outage
+        ensures state { self.new ≡ failed_at call (option_map string_bytes place) reason self.old }
         ensures cause { Rose self.old.faults.count self.new.faults.count }
     {
+        self.call = Some(call);
         self.failed = place;
         self.log.fault(reason)
     }
 
     /// The name as text. What is no text is a fault.
-    fn text<'t>(&mut self, name: &'t [u8]) -> Result<&'t str, Outage>
+    fn text<'t>(&mut self, call: BayCall, name: &'t [u8]) -> Result<&'t str, Outage>
         ensures text { IfOk result (λ text. text.now ≡ name.now) }
         ensures ok { OnOk result (self.new ≡ self.old) }
-        ensures err { OnErr result (self.new ≡ failed_at None Reason.NotText self.old) }
+        ensures err { OnErr result (self.new ≡ failed_at call None Reason.NotText self.old) }
         ensures cause { OnErr result (Rose self.old.faults.count self.new.faults.count) }
     {
         match str::from_utf8(name) {
             Ok(text) => Ok(text),
-            Err(_) => Err(self.fault(None, Reason::NotText)),
+            Err(_) => Err(self.fault(call, None, Reason::NotText)),
         }
     }
 
@@ -154,10 +174,12 @@ impl<R: Files + Drop> FolderBay<R> {
     }
 
     /// The same, for a call that cannot answer want of memory.
-    fn place_or_fault(&mut self, name: &str, end: &str) -> Result<String, Outage>
+    fn place_or_fault(&mut self, call: BayCall, name: &str, end: &str) -> Result<String, Outage>
         ensures ok { OnOk result (self.new ≡ self.old) }
         ensures path { self.new.path ≡ self.old.path }
         ensures begun { self.new.begun ≡ self.old.begun }
+        ensures changes { self.new.changes ≡ self.old.changes }
+        ensures call { OnErr result (self.new.call ≡ Some call) }
         ensures err { OnErr result (self.new.faults.count ≡ counted self.old.faults.count) }
         ensures cause { OnErr result (Rose self.old.faults.count self.new.faults.count) }
     {
@@ -165,7 +187,7 @@ impl<R: Files + Drop> FolderBay<R> {
             Ok(place) => Ok(place),
             Err(_) => {
                 let reason = Reason::System(io::Error::from(ErrorKind::OutOfMemory));
-                Err(self.fault(None, reason))
+                Err(self.fault(call, None, reason))
             }
         }
     }
@@ -173,10 +195,12 @@ impl<R: Files + Drop> FolderBay<R> {
 
 impl<R: Files + Drop> FolderBay<R> {
     /// Makes the folders above a path.
-    fn make_above(&mut self, path: &str) -> Result<(), Outage>
+    fn make_above(&mut self, call: BayCall, path: &str) -> Result<(), Outage>
         ensures ok { OnOk result (self.new ≡ self.old) }
         ensures path { self.new.path ≡ self.old.path }
         ensures begun { self.new.begun ≡ self.old.begun }
+        ensures changes { self.new.changes ≡ self.old.changes }
+        ensures call { OnErr result (self.new.call ≡ Some call) }
         ensures err { OnErr result (self.new.faults.count ≡ counted self.old.faults.count) }
         ensures cause { OnErr result (Rose self.old.faults.count self.new.faults.count) }
     {
@@ -185,13 +209,79 @@ impl<R: Files + Drop> FolderBay<R> {
             Ok(()) => Ok(()),
             Err(reason) => {
                 let place = String::from_str(self.alloc(), folder).ok();
-                Err(self.fault(place, reason))
+                Err(self.fault(call, place, reason))
             }
         }
     }
 }
 
-impl<R: Files + Drop> Bay for FolderBay<R> {
+impl<R: Files + Drop> FolderBay<R> {
+    /// Whether the step that was begun is this one, and its staged folder still stands at this place.
+    fn holds(&self, folder: &str, place: &str) -> Result<bool, Reason>
+        ensures { IfOk result (λ holds. IsTrue holds → self.now.begun ≡ Some folder.now) }
+    {
+        match &self.begun {
+            Some(begun) if begun.as_str() == folder => self.stands_held(place),
+            _ => Ok(false),
+        }
+    }
+
+    /// Whether the staged folder that is locked stands at this place.
+    fn stands_held(&self, place: &str) -> Result<bool, Reason> {
+        match &self.held {
+            Some(held) => stands_at(&self.rt, held, place),
+            None => Ok(false),
+        }
+    }
+
+    /// Keeps a folder locked, and lets the last one go.
+    fn keep(&mut self, held: Option<R::File>)
+        ensures { self.new ≡ self.old }
+    {
+        if held.is_some() {
+            self.held = held;
+        }
+    }
+
+    /// Gives the staged folder of the step that was begun its own name.
+    fn rename_step(
+        &self,
+        folder: &str,
+        staged: &str,
+        place: &str,
+        leaves: &Vec<(Bytes, FileLeaf)>,
+    ) -> Result<(), Reason>
+        ensures begun { OnOk result (self.now.begun ≡ Some folder.now) }
+        ensures paths { OnOk result (IsTrue (are_of_their_paths leaves.now.items)) }
+    {
+        if !are_of_their_paths(leaves) {
+            return Err(Reason::OtherPath);
+        }
+        if !self.holds(folder, staged)? {
+            return Err(Reason::NotBegun);
+        }
+        rename_new(&self.rt, staged, place)
+    }
+}
+
+impl<R: Files + Drop> FolderBay<R>
+where
+    R::File: Lockable,
+{
+    /// Locks the staged folder of a step and drops what is in it; `None` where this bay has locked it already.
+    fn hold_step(&self, folder: &str, place: &str) -> Result<Option<R::File>, Reason> {
+        if self.holds(folder, place)? {
+            empty(&self.rt, self.alloc(), place)?;
+            return Ok(None);
+        }
+        Ok(Some(hold_empty(&self.rt, self.alloc(), place)?))
+    }
+}
+
+impl<R: Files + Drop> Bay for FolderBay<R>
+where
+    R::File: Lockable,
+{
     type Leaf = FileLeaf;
 
     type Draft = FileDraft<R::File>;
@@ -201,6 +291,12 @@ impl<R: Files + Drop> Bay for FolderBay<R> {
     ghost files = { λ _. None };
 
     ghost admits = { λ _ _. ⊤ };
+
+    ghost begun = { λ _. None };
+
+    ghost changes = { λ s. s.changes };
+
+    ghost failed = { λ s. s.call };
 
     ghost faults = { λ s. s.faults.count };
 
@@ -214,37 +310,46 @@ impl<R: Files + Drop> Bay for FolderBay<R> {
         ensures quiet { OnOk result (self.new.faults ≡ self.old.faults) }
         ensures no_memory { IsErrOf result BayFault.NoMemory → self.new.faults ≡ self.old.faults }
         ensures outage { IsErrOf result BayFault.Outage → self.new.faults.count ≡ counted self.old.faults.count }
+        ensures changes { self.new.changes ≡ self.old.changes }
+        ensures call { self.new.call ≡ last_failed BayCall.Header (counts_none result) self.old.call }
         ensures count { NeverFalls self.old.faults.count self.new.faults.count }
         ensures cause { OnlyWhereRose result BayFault.Outage self.old.faults.count self.new.faults.count }
     {
         let file = match open_if_there(&self.rt, self.path.as_str()) {
             Ok(Some(file)) => file,
             Ok(None) => return Ok(()),
-            Err(reason) => return Err(self.fault(None, reason).into()),
+            Err(reason) => return Err(self.fault(BayCall::Header, None, reason).into()),
         };
         match front(self.alloc(), file, HEADER_READ)? {
             Ok(text) => Ok(into.append(text.as_slice())?),
-            Err(reason) => Err(self.fault(None, reason).into()),
+            Err(reason) => Err(self.fault(BayCall::Header, None, reason).into()),
         }
     }
 
-    /// Makes the folders above the header file, writes beside it and renames over it.
+    /// Makes the folders above the header file, writes beside it and links it to its name, where no header stands. An
+    /// empty file is none.
     fn set_header(&mut self, text: &[u8]) -> Result<(), Outage>
         ensures path { self.new.path ≡ self.old.path }
         ensures begun { self.new.begun ≡ self.old.begun }
         ensures quiet { OnOk result (self.new.faults ≡ self.old.faults) }
         ensures err { OnErr result (self.new.faults.count ≡ counted self.old.faults.count) }
+        ensures changes { self.new.changes ≡ (self.old.changes + 1) % 2 ^ 64 }
+        ensures call { self.new.call ≡ last_failed BayCall.SetHeader (is_ok result) self.old.call }
         ensures count { NeverFalls self.old.faults.count self.new.faults.count }
         ensures cause { OnErr result (Rose self.old.faults.count self.new.faults.count) }
     {
-        let Ok(staged) = format!(in self.alloc(); "{}{PART}", self.path) else {
-            let reason = Reason::System(io::Error::from(ErrorKind::OutOfMemory));
-            return Err(self.fault(None, reason));
+        self.change();
+        let path = match String::from_str(self.alloc(), self.path.as_str()) {
+            Ok(path) => path,
+            Err(_) => {
+                let reason = Reason::System(io::Error::from(ErrorKind::OutOfMemory));
+                return Err(self.fault(BayCall::SetHeader, None, reason));
+            }
         };
-        self.make_above(staged.as_str())?;
-        match replace(&self.rt, staged.as_str(), self.path.as_str(), text) {
+        self.make_above(BayCall::SetHeader, path.as_str())?;
+        match put_new(&self.rt, self.alloc(), path.as_str(), text) {
             Ok(()) => Ok(()),
-            Err(reason) => Err(self.fault(None, reason)),
+            Err(reason) => Err(self.fault(BayCall::SetHeader, None, reason)),
         }
     }
 
@@ -254,40 +359,47 @@ impl<R: Files + Drop> Bay for FolderBay<R> {
         ensures begun { self.new.begun ≡ self.old.begun }
         ensures quiet { OnOk result (self.new.faults ≡ self.old.faults) }
         ensures err { OnErr result (self.new.faults.count ≡ counted self.old.faults.count) }
+        ensures changes { self.new.changes ≡ self.old.changes }
+        ensures call { self.new.call ≡ last_failed BayCall.HasStep (is_ok result) self.old.call }
         ensures count { NeverFalls self.old.faults.count self.new.faults.count }
         ensures cause { OnErr result (Rose self.old.faults.count self.new.faults.count) }
     {
-        let folder = self.text(folder)?;
-        let place = self.place_or_fault(folder, "")?;
+        let folder = self.text(BayCall::HasStep, folder)?;
+        let place = self.place_or_fault(BayCall::HasStep, folder, "")?;
         match is_folder(&self.rt, place.as_str()) {
             Ok(stands) => Ok(stands),
-            Err(reason) => Err(self.fault(Some(place), reason)),
+            Err(reason) => Err(self.fault(BayCall::HasStep, Some(place), reason)),
         }
     }
 
-    /// Makes an empty folder for the step's files, and the folders above it.
+    /// Makes a folder for the step's files and those above it, locks it, and drops what was in it. Where another run has
+    /// it, that is a fault.
     fn begin_step(&mut self, folder: &[u8]) -> Result<(), Outage>
         ensures path { self.new.path ≡ self.old.path }
         ensures begun { OnOk result (self.new.begun ≡ Some folder.now) }
         ensures refused { OnErr result (self.new.begun ≡ self.old.begun) }
         ensures quiet { OnOk result (self.new.faults ≡ self.old.faults) }
         ensures err { OnErr result (self.new.faults.count ≡ counted self.old.faults.count) }
+        ensures changes { self.new.changes ≡ (self.old.changes + 1) % 2 ^ 64 }
+        ensures call { self.new.call ≡ last_failed BayCall.BeginStep (is_ok result) self.old.call }
         ensures count { NeverFalls self.old.faults.count self.new.faults.count }
         ensures cause { OnErr result (Rose self.old.faults.count self.new.faults.count) }
     {
-        let folder = self.text(folder)?;
-        let place = self.place_or_fault(folder, PART)?;
+        self.change();
+        let folder = self.text(BayCall::BeginStep, folder)?;
+        let place = self.place_or_fault(BayCall::BeginStep, folder, PART)?;
         let Ok(begun) = String::from_str(self.alloc(), folder) else {
             let reason = Reason::System(io::Error::from(ErrorKind::OutOfMemory));
-            return Err(self.fault(Some(place), reason));
+            return Err(self.fault(BayCall::BeginStep, Some(place), reason));
         };
-        self.make_above(place.as_str())?;
-        match make_anew(&self.rt, self.alloc(), place.as_str()) {
-            Ok(()) => {
+        self.make_above(BayCall::BeginStep, place.as_str())?;
+        match self.hold_step(folder, place.as_str()) {
+            Ok(held) => {
+                self.keep(held);
                 self.begun = Some(begun);
                 Ok(())
             }
-            Err(reason) => Err(self.fault(Some(place), reason)),
+            Err(reason) => Err(self.fault(BayCall::BeginStep, Some(place), reason)),
         }
     }
 
@@ -299,20 +411,26 @@ impl<R: Files + Drop> Bay for FolderBay<R> {
         ensures quiet { OnOk result (self.new.faults ≡ self.old.faults) }
         ensures no_memory { IsErrOf result BayFault.NoMemory → self.new.faults ≡ self.old.faults }
         ensures outage { IsErrOf result BayFault.Outage → self.new.faults.count ≡ counted self.old.faults.count }
+        ensures changes { self.new.changes ≡ (self.old.changes + 1) % 2 ^ 64 }
+        ensures call { self.new.call ≡ last_failed BayCall.Create (counts_none result) self.old.call }
         ensures count { NeverFalls self.old.faults.count self.new.faults.count }
         ensures cause { OnlyWhereRose result BayFault.Outage self.old.faults.count self.new.faults.count }
     {
+        self.change();
         let places = match self.places(path)? {
             Ok(places) => places,
             Err(reason) => {
                 let place = self.place_if_text(path);
-                return Err(self.fault(place, reason).into());
+                return Err(self.fault(BayCall::Create, place, reason).into());
             }
         };
-        self.make_above(places.staged.as_str())?;
+        self.make_above(BayCall::Create, places.staged.as_str())?;
         match create_file(&self.rt, places.staged.as_str()) {
             Ok(file) => Ok(FileDraft::new(file, places.staged, places.path)),
-            Err(reason) => Err(self.fault(Some(places.staged), reason).into()),
+            Err(reason) => Err(
+                self.fault(BayCall::Create, Some(places.staged), reason)
+                    .into(),
+            ),
         }
     }
 
@@ -322,53 +440,64 @@ impl<R: Files + Drop> Bay for FolderBay<R> {
         ensures quiet { OnOk result (self.new.faults ≡ self.old.faults) }
         ensures no_memory { IsErrOf result BayFault.NoMemory → self.new.faults ≡ self.old.faults }
         ensures outage { IsErrOf result BayFault.Outage → self.new.faults.count ≡ counted self.old.faults.count }
+        ensures changes { self.new.changes ≡ self.old.changes }
+        ensures call { self.new.call ≡ last_failed BayCall.Leaf (counts_none result) self.old.call }
         ensures count { NeverFalls self.old.faults.count self.new.faults.count }
         ensures cause { OnlyWhereRose result BayFault.Outage self.old.faults.count self.new.faults.count }
     {
-        let name = self.text(path)?;
+        let name = self.text(BayCall::Leaf, path)?;
         let place = self.place(name, "")?;
         match length_if_there(&self.rt, place.as_str()) {
             Ok(Some(len)) => Ok(Some(FileLeaf::new(place, len))),
             Ok(None) => Ok(None),
-            Err(reason) => Err(self.fault(Some(place), reason).into()),
+            Err(reason) => Err(self.fault(BayCall::Leaf, Some(place), reason).into()),
         }
     }
 
-    /// Gives the step's folder its own name. Where something stands there already, or a file was written for another
-    /// path, that is a fault.
+    /// Gives the step's folder its own name, and lets its lock go. Where something stands there already, a file was
+    /// written for another path, or the staged folder is not the one that was begun, that is a fault.
     fn commit(&mut self, folder: &[u8], leaves: &Vec<(Bytes, FileLeaf)>) -> Result<(), BayFault>
+        ensures begun_step { OnOk result (self.old.begun ≡ Some folder.now) }
+        ensures paths { OnOk result (IsTrue (are_of_their_paths leaves.now.items)) }
         ensures path { self.new.path ≡ self.old.path }
         ensures begun { self.new.begun ≡ self.old.begun }
         ensures quiet { OnOk result (self.new.faults ≡ self.old.faults) }
         ensures no_memory { IsErrOf result BayFault.NoMemory → self.new.faults ≡ self.old.faults }
         ensures outage { IsErrOf result BayFault.Outage → self.new.faults.count ≡ counted self.old.faults.count }
+        ensures changes { self.new.changes ≡ (self.old.changes + 1) % 2 ^ 64 }
+        ensures call { self.new.call ≡ last_failed BayCall.Commit (counts_none result) self.old.call }
         ensures count { NeverFalls self.old.faults.count self.new.faults.count }
         ensures cause { OnlyWhereRose result BayFault.Outage self.old.faults.count self.new.faults.count }
     {
-        let folder = self.text(folder)?;
+        self.change();
+        let folder = self.text(BayCall::Commit, folder)?;
         let staged = self.place(folder, PART)?;
         let place = self.place(folder, "")?;
-        if !are_of_their_paths(leaves) {
-            return Err(self.fault(Some(place), Reason::OtherPath).into());
-        }
-        match rename_new(&self.rt, staged.as_str(), place.as_str()) {
-            Ok(()) => Ok(()),
-            Err(reason) => Err(self.fault(Some(place), reason).into()),
+        match self.rename_step(folder, staged.as_str(), place.as_str(), leaves) {
+            Ok(()) => {
+                self.held = None;
+                Ok(())
+            }
+            Err(reason) => Err(self.fault(BayCall::Commit, Some(place), reason).into()),
         }
     }
 
     /// Removes the staged file. That it cannot be removed is no fault: the next `begin_step` of its folder drops it.
     fn retire(&mut self, draft: FileDraft<R::File>)
         ensures rose { 0 < draft.faults.count → self.new.faults.count ≡ counted self.old.faults.count }
-        ensures same { draft.faults.count ≡ 0 → self.new ≡ self.old }
+        ensures same { draft.faults.count ≡ 0
+            → self.new ≡ record self.old { changes = (self.old.changes + 1) % 2 ^ 64 } }
+        ensures call { 0 < draft.faults.count → self.new.call ≡ Some BayCall.Retire }
         ensures path { self.new.path ≡ self.old.path }
         ensures begun { self.new.begun ≡ self.old.begun }
+        ensures changes { self.new.changes ≡ (self.old.changes + 1) % 2 ^ 64 }
         ensures count { NeverFalls self.old.faults.count self.new.faults.count }
     {
+        self.change();
         let (staged, reason) = draft.end();
         let _removed = fs::remove_file(&self.rt, staged.as_str());
         if let Some(reason) = reason {
-            let _outage = self.fault(Some(staged), reason);
+            let _outage = self.fault(BayCall::Retire, Some(staged), reason);
         }
     }
 

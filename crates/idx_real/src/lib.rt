@@ -9,6 +9,8 @@ mod file_leaf;
 mod file_reader;
 mod file_source;
 mod folder_bay;
+mod header_file;
+mod lock;
 mod placed;
 mod regular_file;
 mod std_sink;
@@ -20,6 +22,7 @@ pub use file_leaf::FileLeaf;
 pub use file_reader::FileReader;
 pub use file_source::FileSource;
 pub use folder_bay::{FolderBay, HEADER_READ};
+pub use lock::Lockable;
 pub use std_sink::StdSink;
 
 #[cfg(test)]

@@ -1,9 +1,10 @@
 //! Folders of steps and their files: where they stand beside a header file, and the calls of std that make them.
-ghost use Rattle.std.specs.Prelude.{◌↔◌, ◌<◌, length, string_bytes, option_map, IsTrue, MatchOption};
+ghost use Rattle.std.specs.Prelude.{◌≡◌, ◌↔◌, ◌<◌, length, string_bytes, option_map, IsTrue, MatchOption};
 ghost use Rattle.idx_outside.specs.Files.{LiesIn};
-ghost use Rattle.idx_real.specs.FolderState.{InStep};
+ghost use Rattle.idx_real.specs.FolderState.{InStep, are_of_their_paths};
 
-use crate::{FileLeaf, Reason};
+use crate::lock::hold;
+use crate::{FileLeaf, Lockable, Reason};
 use idx_outside::{Bytes, NoMemory};
 use std::alloc::Global;
 use std::fs;
@@ -74,14 +75,47 @@ pub(crate) fn length_if_there<R: Files>(rt: &R, path: &str) -> Result<Option<u64
     }
 }
 
-/// Makes an empty folder. What was there is removed with all that is in it.
-pub(crate) fn make_anew<R: Files>(rt: &R, alloc: Global, path: &str) -> Result<(), Reason> {
-    match rt.remove_dir_all(alloc, path) {
-        Ok(()) => {}
-        Err(error) if error.kind() == ErrorKind::NotFound => {}
-        Err(error) => return Err(Reason::from(error)),
+/// Makes a folder where none stands, locks it, and removes all that is in it. No other run gets it while it stays open.
+pub(crate) fn hold_empty<R: Files>(rt: &R, alloc: Global, path: &str) -> Result<R::File, Reason>
+where
+    R::File: Lockable,
+{
+    make_if_missing(rt, path)?;
+    let folder = hold(rt, path)?;
+    empty(rt, alloc, path)?;
+    Ok(folder)
+}
+
+/// Makes a folder; one that stands already may stay.
+fn make_if_missing<R: Files>(rt: &R, path: &str) -> Result<(), Reason> {
+    match fs::create_dir(rt, path) {
+        Ok(()) => Ok(()),
+        Err(error) if error.kind() == ErrorKind::AlreadyExists => stands_as_folder(rt, path),
+        Err(error) => Err(Reason::from(error)),
     }
-    Ok(fs::create_dir(rt, path)?)
+}
+
+/// Fails where what stands there is no folder. One that was taken away is another run's.
+fn stands_as_folder<R: Files>(rt: &R, path: &str) -> Result<(), Reason> {
+    match fs::symlink_metadata(rt, path) {
+        Ok(metadata) if metadata.is_dir() => Ok(()),
+        Ok(_) => Err(Reason::StandsAlready),
+        Err(error) if error.kind() == ErrorKind::NotFound => Err(Reason::AnotherRun),
+        Err(error) => Err(Reason::from(error)),
+    }
+}
+
+/// Removes all that is in a folder.
+pub(crate) fn empty<R: Files>(rt: &R, alloc: Global, path: &str) -> Result<(), Reason> {
+    for entry in fs::read_dir(&(rt, alloc), path)? {
+        let entry = entry?;
+        if entry.file_type()?.is_dir() {
+            rt.remove_dir_all(alloc, entry.path().as_str())?;
+        } else {
+            fs::remove_file(rt, entry.path())?;
+        }
+    }
+    Ok(())
 }
 
 /// Makes an empty file where nothing stands.
@@ -98,19 +132,10 @@ pub(crate) fn rename_new<R: Files>(rt: &R, from: &str, to: &str) -> Result<(), R
     }
 }
 
-/// Writes a text to the first path, and then renames it over the second: the old or the new text stands there.
-pub(crate) fn replace<R: Files>(
-    rt: &R,
-    staged: &str,
-    path: &str,
-    text: &[u8],
-) -> Result<(), Reason> {
-    fs::write(rt, staged, text)?;
-    Ok(fs::rename(rt, staged, path)?)
-}
-
 /// Whether each leaf was written under the path that it is to stand under.
-pub(crate) fn are_of_their_paths(leaves: &Vec<(Bytes, FileLeaf)>) -> bool {
+pub(crate) fn are_of_their_paths(leaves: &Vec<(Bytes, FileLeaf)>) -> bool
+    ensures { result ≡ are_of_their_paths leaves.now.items }
+{
     leaves.iter().all(|(path, leaf)| leaf.path().as_bytes().ends_with(path.as_slice()))
 }
 
