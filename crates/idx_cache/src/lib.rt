@@ -5,8 +5,6 @@ mod cache;
 mod examples;
 mod index;
 mod slots;
-#[cfg(test)]
-mod tests;
 
 pub use cache::Cache;
 pub use examples::worked_cache;

@@ -9,8 +9,6 @@ mod load;
 mod load_fault;
 mod rows;
 mod tables;
-#[cfg(test)]
-mod tests;
 
 pub use edition::Edition;
 pub use examples::worked_blocks;

@@ -5,8 +5,6 @@ mod examples;
 mod laws;
 mod point;
 mod region;
-#[cfg(test)]
-mod tests;
 
 pub use examples::worked_regions;
 pub use laws::{equal_points_are_one, places_are_points, raw_gives_volume};

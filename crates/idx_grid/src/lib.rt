@@ -7,8 +7,6 @@ mod grid;
 mod laws;
 mod level_grid;
 mod prefix;
-#[cfg(test)]
-mod tests;
 
 pub use block_shape::{BlockShape, shape};
 pub use examples::worked_grids;

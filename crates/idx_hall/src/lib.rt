@@ -11,8 +11,6 @@ mod looked;
 mod publish_refusal;
 mod published;
 mod standing;
-#[cfg(test)]
-mod tests;
 
 pub use examples::worked_hall;
 pub use hall::Hall;

@@ -6,8 +6,6 @@ mod guessed;
 mod laws;
 mod mask;
 mod mask_fault;
-#[cfg(test)]
-mod tests;
 
 pub use examples::{
     worked_addresses, worked_answers, worked_guesses, worked_strides, worked_texts,

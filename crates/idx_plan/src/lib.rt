@@ -10,8 +10,6 @@ mod outside;
 mod plan_fault;
 mod planning;
 mod query_plan;
-#[cfg(test)]
-mod tests;
 
 pub use ask::Ask;
 pub use examples::{worked_blocks, worked_faults};

@@ -8,8 +8,6 @@ mod query_fault;
 mod report;
 mod rounds;
 mod taking;
-#[cfg(test)]
-mod tests;
 
 pub use answering::answer;
 pub use query_fault::QueryFault;

@@ -8,8 +8,6 @@ mod order;
 mod scatter;
 mod side;
 mod tally;
-#[cfg(test)]
-mod tests;
 mod walk;
 
 pub use order::Order;

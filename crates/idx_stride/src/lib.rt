@@ -8,8 +8,6 @@ mod gather;
 mod row;
 mod run;
 mod strides;
-#[cfg(test)]
-mod tests;
 
 pub use axis::{Axis, NO_AXIS};
 pub use examples::{worked_offsets, worked_samples};

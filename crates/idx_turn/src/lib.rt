@@ -6,8 +6,6 @@ mod held;
 mod laws;
 mod solo;
 mod steps;
-#[cfg(test)]
-mod tests;
 mod turn;
 
 pub use examples::{alone, count, one_and_other, publish, take_and_give};

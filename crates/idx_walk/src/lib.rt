@@ -6,8 +6,6 @@ mod axis_of;
 mod by_points;
 mod examples;
 mod region_walk;
-#[cfg(test)]
-mod tests;
 
 pub use by_points::answer_by_points;
 pub use examples::{worked_multiples, worked_places};

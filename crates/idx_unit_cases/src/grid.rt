@@ -1,7 +1,7 @@
 ghost use Rattle.std.specs.Prelude.{◌≡◌, ◌≤◌, ◌<◌, ◌∷◌, [], length};
 
-use crate::{Grid, count_in, grid_at, grid_up_to, prefix_box, shape};
 use idx_geom::{Point, Region};
+use idx_grid::{Grid, count_in, grid_at, grid_up_to, prefix_box, shape};
 use idx_hz::Mask;
 use std::process::Abort;
 use std::test::Fail;

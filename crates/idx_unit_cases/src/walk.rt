@@ -1,11 +1,11 @@
 ghost use Rattle.std.specs.Prelude.{◌≡◌, ◌≤◌, IfOk, length};
 ghost use Rattle.idx_stride.specs.Strides.{end_of};
 
-use crate::{answer_by_points, walk};
 use idx_geom::{Point, Region};
 use idx_hz::Mask;
 use idx_outside::{Bytes, NoMemory};
 use idx_stride::{Axis, Strides};
+use idx_walk::{answer_by_points, walk};
 use std::alloc::Global;
 use std::process::Abort;
 use std::test::Fail;

@@ -2,7 +2,7 @@ ghost use Rattle.std.specs.Prelude.{◌≡◌};
 ghost use Rattle.idx_layout.specs.Shape.{shape_of};
 ghost use Rattle.idx_edition.specs.Tables.{shape_in};
 
-use crate::{Edition, LoadFault};
+use idx_edition::{Edition, LoadFault};
 use idx_header::Header;
 use idx_memory::{MemBay, MemLeaf, MemReader};
 use idx_outside::{Blocks, Bytes, Fetched, MemFile, NoMemory, Reader};

@@ -1,7 +1,7 @@
 ghost use Rattle.std.specs.Prelude.{◌≡◌};
 ghost use Rattle.std.specs.List.{zip};
 
-use crate::{Point, Region};
+use idx_geom::{Point, Region};
 use std::process::Abort;
 
 fn point(rt: &impl Abort, at: &[u64]) -> Point

@@ -1,7 +1,7 @@
 ghost use Rattle.std.specs.Prelude.{◌≡◌, ◌*◌, ◌≤◌, [], ◌∷◌, true, IfOk, length, vec_len};
 ghost use Rattle.idx_stride.specs.Strides.{end_of};
 
-use crate::{Axis, Strides};
+use idx_stride::{Axis, Strides};
 use std::alloc::{AllocError, Global};
 use std::process::Abort;
 use std::test::Fail;

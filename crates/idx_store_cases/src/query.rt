@@ -1,13 +1,13 @@
 //! Answers out of a hall of steps in memory.
 ghost use Rattle.std.specs.Prelude.{◌≡◌, ◌≤◌, ◌*◌, ◌==◌, ◌∷◌, [], IfOk, OnOk, Some, drop, if◌then◌else◌, length, not, replicate, take};
 
-use crate::{QueryFault, Report, answer};
 use idx_geom::{Point, Region};
 use idx_hall::Hall;
 use idx_header::Header;
 use idx_memory::{MemLeaf, MemReader};
 use idx_outside::{Blocks, Bytes, Fetched, Outage, Reader};
 use idx_plan::Ask;
+use idx_query::{QueryFault, Report, answer};
 use idx_turn::Solo;
 use std::alloc::Global;
 use std::process::Abort;
@@ -122,7 +122,7 @@ struct Outcome {
 }
 
 /// Asks a question of a hall, where this read fails.
-#[tactic(auto, using(crate::proofs::ShapeLemmas::shape_one))]
+#[tactic(auto, using(idx_query::proofs::ShapeLemmas::shape_one))]
 fn ask_hall(
     alloc: Global,
     rt: &impl Abort,

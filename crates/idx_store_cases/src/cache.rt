@@ -1,4 +1,4 @@
-use crate::Cache;
+use idx_cache::Cache;
 use std::sync::Arc;
 use std::test::*;
 

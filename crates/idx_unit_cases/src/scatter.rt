@@ -1,9 +1,9 @@
 ghost use Rattle.std.specs.Prelude.{◌*◌, ◌<◌};
 ghost use Rattle.idx_geom.specs.Region.{points};
 
-use crate::{Order, scatter_block};
 use idx_geom::{Point, Region};
 use idx_hz::Mask;
+use idx_scatter::{Order, scatter_block};
 use std::alloc::{AllocError, Global};
 use std::process::Abort;
 use std::test::Fail;

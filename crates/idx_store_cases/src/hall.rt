@@ -3,7 +3,7 @@ ghost use Rattle.std.specs.Prelude.{◌≡◌, ◌≤◌, ◌<◌, ◌∷◌, []
 ghost use Rattle.std.specs.Arc.{arc_value};
 ghost use Rattle.idx_hall.specs.Examples.{key_at, six_blocks, HasOneStep};
 
-use crate::{Hall, Key, Looked, PublishRefusal};
+use idx_hall::{Hall, Key, Looked, PublishRefusal};
 use idx_memory::MemLeaf;
 use idx_outside::{Blocks, Bytes, Fetched, Outage, Reader};
 use std::alloc::Global;
@@ -164,7 +164,10 @@ fn a_full_cache_keeps_the_last_blocks(rt: HostRuntime) -> Result<(), Fail> {
     let mut hall = hall_with_room(rt.alloc(), &rt, 1)?;
     fill(rt.alloc(), &mut hall, 0)?;
     fill(rt.alloc(), &mut hall, 1)?;
-    assert_eq!(rt; (hall.capacity(), hall.cache_len(), hall.board_len()), (1, 1, 1));
+    assert_eq!(rt;
+        (hall.capacity(), hall.cache_len(), hall.board_len()),
+        (1, 1, 1)
+    );
     assert_eq!(rt;
         look(rt.alloc(), &rt, &mut hall, [0, 1, 2])?,
         (Some(2), [None, Some(1), None])

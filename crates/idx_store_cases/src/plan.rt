@@ -1,6 +1,6 @@
-use super::*;
 use idx_geom::{Point, Region};
 use idx_header::Header;
+use idx_plan::*;
 use std::alloc::Global;
 use std::process::Abort;
 

@@ -1,7 +1,7 @@
 ghost use Rattle.std.specs.Prelude.{◌≡◌, ◌<◌, ◌∷◌, []};
 
-use crate::{Mask, MaskFault, guess};
 use idx_geom::{Point, Region};
+use idx_hz::{Mask, MaskFault, guess};
 use std::test::Fail;
 
 fn fault_of(text: &[u8]) -> Option<MaskFault> {

@@ -1,4 +1,4 @@
-use crate::{Solo, Step, Steps, alone, count, one_and_other, publish, take_and_give};
+use idx_turn::{Solo, Step, Steps, alone, count, one_and_other, publish, take_and_give};
 use std::test::*;
 
 #[test]
