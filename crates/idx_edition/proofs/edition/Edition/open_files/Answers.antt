@@ -121,3 +121,7 @@ returns-clause-holds g c =
     subst (λ (t : TablesValue). IfSome (g.B.Bay.files c.args.bay.now) (λ files. HoldsStored h c.args.time files (shape_in t) (has_in_tables t) (stored_in t (shown contents c.loop-file.leaves.items)) (shown contents c.loop-file.leaves.items))) (sym c.of_files.ensures.tables)
     (holds_stored h c.args.time c.of_files.ensures.valid (g.B.Bay.files c.args.bay.now) c.loop-file.file-iterator c.loop-file.numbers.items c.loop-file.tables.items (shown contents c.loop-file.leaves.items)
     c.in-None.ensures.steps.0 c.loop-file.invariant.holds)
+
+pub returns-in_err-push-3-clause-admits : goal.returns-in_err-push-3-clause-admits
+returns-in_err-push-3-clause-admits g c = λ path admitted.
+    c.in_ok-found.ensures.admits path (c.loop-file.invariant.admits path admitted)
