@@ -8,7 +8,7 @@ use Rattle.idx_names.specs.Template.{IsTemplate}
 use Rattle.idx_names.proofs.ApartLemmas.{files_differ, steps_differ}
 use Rattle.std.specs.Prelude.{IfSome}
 use Rattle.idx_header.specs.declared.steps.Steps.{Steps}
-use Rattle.idx_header.specs.Header.{AreSteps, HasStep, HasStepAmong, HeaderValue, IsHeader}
+use Rattle.idx_header.specs.Header.{AreSteps, HasTime, HasTimeAmong, HeaderValue, IsHeader}
 use Rattle.idx_header.specs.Names.{file_name, name_with}
 use Rattle.idx_layout.specs.Layout.{file_numbers}
 use Rattle.idx_layout.specs.Files.{file_bytes}
@@ -36,14 +36,14 @@ own_file path bytes folder (n ∷ numbers) differ i k at = by_test (own_file pat
     by_test more false e (suc i) at = more i k at
 
 -- different files of a step have different paths
-apart : (h : HeaderValue) (o : Option Steps) (s f g : ℕ) → IsTemplate h.template → IfSome o AreSteps → HasStepAmong o s → name_with h o s f ≡ name_with h o s g → f ≡ g
+apart : (h : HeaderValue) (o : Option Steps) (s f g : ℕ) → IsTemplate h.template → IfSome o AreSteps → HasTimeAmong o s → name_with h o s f ≡ name_with h o s g → f ≡ g
 apart h None s f g t is here e = files_differ h.template f g t e
 apart h (Some steps) s f g t is here e = (steps_differ h.template steps.template s s f g t is.template e).1
 
-paths_differ : (h : HeaderValue) (s f g : ℕ) → IsHeader h → HasStep h s → file_name h s f ≡ file_name h s g → f ≡ g
+paths_differ : (h : HeaderValue) (s f g : ℕ) → IsHeader h → HasTime h s → file_name h s f ≡ file_name h s g → f ≡ g
 unfolding file_name
 paths_differ h s f g is here e = apart h h.steps s f g is.template is.steps here e
 
-pub own_files : (h : HeaderValue) (step : ℕ) (volume : List (List (List ℕ))) (folder : List ℕ) → IsHeader h → HasStep h step → HasFiles h step volume (files_of folder (step_files h volume step))
+pub own_files : (h : HeaderValue) (step : ℕ) (volume : List (List (List ℕ))) (folder : List ℕ) → IsHeader h → HasTime h step → HasFiles h step volume (files_of folder (step_files h volume step))
 own_files h step volume folder is here = λ i file at.
     own_file (file_name h step) (file_bytes (layout_of h) volume) folder (file_numbers (layout_of h)) (λ a b e. paths_differ h step a b is here e) i file at

@@ -7,7 +7,7 @@ use Rattle.idx_outside.specs.declared.mem_file.MemFile.{MemFile}
 use Rattle.idx_table.specs.Table.{first_fault, row_at}
 use Rattle.idx_table.specs.declared.row.Row.{Row}
 use Rattle.idx_table.specs.declared.table_fault.TableFault.{TableFault}
-use Rattle.idx_header.specs.Header.{HeaderValue, HasStep}
+use Rattle.idx_header.specs.Header.{HeaderValue, HasTime}
 use Rattle.idx_header.specs.Names.{file_name, step_folder}
 use Rattle.idx_layout.specs.Layout.{Layout, block_bytes, file_numbers, file_of}
 use Rattle.idx_layout.specs.Files.{file_bytes, row_count}
@@ -18,7 +18,7 @@ use Rattle.idx_edition.specs.declared.load_fault.LoadFault.TheVariants.{BadTable
 
 -- The step stands: the header has it, and where the header has a time, some committed file is of its folder.
 abbrev pub Stands : HeaderValue → ℕ → List MemFile → Type 0
-Stands h step files = HasStep h step × IfSome (step_folder h step) (λ folder. HasCommitted folder files)
+Stands h step files = HasTime h step × IfSome (step_folder h step) (λ folder. HasCommitted folder files)
 
 -- the fault of a row, as the fault of a file of this number
 abbrev pub bad_table : ℕ → TableFault → LoadFault

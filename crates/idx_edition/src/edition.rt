@@ -5,7 +5,7 @@ ghost use Rattle.idx_geom.specs.Region.{points};
 ghost use Rattle.idx_geom.specs.Volume.{IsVolume};
 ghost use Rattle.idx_outside.specs.Files.{StillAdmits, known_files, shown};
 ghost use Rattle.idx_outside.specs.declared.mem_file.MemFile.{MemFile};
-ghost use Rattle.idx_header.specs.Header.{HasStep, IsHeader};
+ghost use Rattle.idx_header.specs.Header.{HasTime, IsHeader};
 ghost use Rattle.idx_header.specs.Names.{step_folder};
 ghost use Rattle.idx_table.specs.Table.{table_bytes};
 ghost use Rattle.idx_layout.specs.Layout.{is_present};
@@ -46,7 +46,7 @@ impl<L: Leaf> Edition<L> {
         time: u64,
         leaves: Vec<(Bytes, L)>,
     ) -> Result<Edition<L>, NoMemory>
-        requires time { HasStep header.now time }
+        requires time { HasTime header.now time }
         requires written { (volume : _) × AreWritten header.now time volume (shown L.contents leaves.items) }
         ensures time { IfOk result (λ edition. edition.time ≡ time) }
         ensures shape { IfOk result (λ edition. shape_in edition.tables ≡ shape_of header.now) }
@@ -96,10 +96,10 @@ impl<L: Leaf> Edition<L> {
             (λ files. (loaded ≡ None) ↔ (¬ Stands header.now time files))) }
         ensures stands { IfOk result (λ loaded.
             loaded ≢ None → IfSome (B.files bay.old) (Stands header.now time)) }
-        ensures lacks { ¬ HasStep header.now time →
+        ensures lacks { ¬ HasTime header.now time →
             (result ≡ Ok None) × (bay.new ≡ bay.old) × (reader.new ≡ reader.old) }
         ensures untimed { IfOk result (λ loaded.
-            HasStep header.now time → step_folder header.now time ≡ None → loaded ≢ None) }
+            HasTime header.now time → step_folder header.now time ≡ None → loaded ≢ None) }
         ensures cause { IfErr result (IsLoadCause header.now time (B.files bay.old)
             (B.faults bay.old) (B.faults bay.new) (R.faults reader.old) (R.faults reader.new)) }
         ensures reads { IfOk result (λ loaded. IfSome loaded (λ edition.

@@ -4,7 +4,7 @@ ghost use Rattle.idx_geom.specs.Region.{points};
 ghost use Rattle.idx_geom.specs.Volume.{IsVolume};
 ghost use Rattle.idx_outside.specs.Files.{files_of};
 ghost use Rattle.idx_outside.specs.declared.mem_file.MemFile.{MemFile};
-ghost use Rattle.idx_header.specs.Header.{HasStep, HeaderValue, IsHeader};
+ghost use Rattle.idx_header.specs.Header.{HasTime, HeaderValue, IsHeader};
 ghost use Rattle.idx_layout.specs.Content.{volume_in};
 ghost use Rattle.idx_layout.specs.OfHeader.{layout_of};
 ghost use Rattle.idx_layout.specs.Step.{step_files};
@@ -20,5 +20,5 @@ pub fn written_steps_read_back()
         IsVolume (layout_of h).sizes (length (points h.box)) volume → HasFiles h step volume files →
         volume_in (layout_of h) (stored_block h step files) ≡ volume }
     ensures own { (h : HeaderValue) (step : ℕ) (volume : List (List (List ℕ))) (folder : List ℕ) → IsHeader h →
-        HasStep h step → HasFiles h step volume (files_of folder (step_files h volume step)) }
+        HasTime h step → HasFiles h step volume (files_of folder (step_files h volume step)) }
 {}

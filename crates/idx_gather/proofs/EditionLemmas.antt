@@ -10,7 +10,7 @@ use Rattle.idx_fields.specs.Field.{sample_bytes}
 use Rattle.idx_outside.specs.Files.{added, file_at, files_of, known_files}
 use Rattle.idx_outside.specs.Shape.{Shape}
 use Rattle.idx_outside.specs.declared.mem_file.MemFile.{MemFile}
-use Rattle.idx_header.specs.Header.{HasStep, HeaderValue, IsHeader, volume_bytes}
+use Rattle.idx_header.specs.Header.{HasTime, HeaderValue, IsHeader, volume_bytes}
 use Rattle.idx_header.specs.Names.{file_name}
 use Rattle.idx_layout.specs.OfHeader.{layout_of}
 use Rattle.idx_layout.specs.Step.{step_files, volume_of_raw}
@@ -41,7 +41,7 @@ pub record HoldsAny (h : HeaderValue) (step : ℕ) (volume : List (List (List �
     (stored : Option (ℕ → ℕ → List ℕ)) (leaves : List (List ℕ × Option (List ℕ))) : Type 0 where
   pub any : (files : List MemFile) → HasFiles h step volume files → leaves ≡ known_files (Some files) (step_files h volume step) → HoldsStored h step files shape has stored leaves
 
-module _ (h : HeaderValue) (step : ℕ) (is : IsHeader h) (here : HasStep h step) (volume : List (List (List ℕ))) (folder : List ℕ) (shape : Shape) (has : ℕ → ℕ → Bool) (stored : Option (ℕ → ℕ → List ℕ)) (leaves : List (List ℕ × Option (List ℕ))) (holds : HoldsAny h step volume shape has stored leaves) where
+module _ (h : HeaderValue) (step : ℕ) (is : IsHeader h) (here : HasTime h step) (volume : List (List (List ℕ))) (folder : List ℕ) (shape : Shape) (has : ℕ → ℕ → Bool) (stored : Option (ℕ → ℕ → List ℕ)) (leaves : List (List ℕ × Option (List ℕ))) (holds : HoldsAny h step volume shape has stored leaves) where
   more : List MemFile
   more = files_of folder (step_files h volume step)
 

@@ -6,7 +6,7 @@ use Rattle.idx_outside.specs.Cause.{Rose}
 use Rattle.idx_outside.specs.Files.{added, file_at, files_of}
 use Rattle.idx_outside.specs.Shape.{Shape}
 use Rattle.idx_outside.specs.declared.mem_file.MemFile.{MemFile}
-use Rattle.idx_header.specs.Header.{HeaderValue, HasStep, volume_bytes}
+use Rattle.idx_header.specs.Header.{HeaderValue, HasTime, volume_bytes}
 use Rattle.idx_header.specs.Names.{file_name, step_folder}
 use Rattle.idx_layout.specs.Layout.{is_present}
 use Rattle.idx_layout.specs.OfHeader.{layout_of}
@@ -19,7 +19,7 @@ use Rattle.idx_gather.specs.declared.gather_fault.GatherFault.TheVariants.{RawWr
 -- the header has a time, and this step
 pub record HasFolder (h : HeaderValue) (step : ℕ) : Type 0 where
   pub timed : IsSome h.steps
-  pub has : HasStep h step
+  pub has : HasTime h step
 
 -- a raw volume whose bytes are known has as many as the samples of the box take
 abbrev pub HasVolume : HeaderValue → Option (List ℕ) → Type 0

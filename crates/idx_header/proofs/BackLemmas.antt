@@ -9,6 +9,7 @@ use Rattle.idx_geom.specs.Region.{IsRegion, upper_ends}
 use Rattle.idx_hz.specs.Mask.{HasAddress, IsMask, NamesAxes, bit_count}
 use Rattle.idx_hz.specs.MaskText.{mask_of, mask_text}
 use Rattle.idx_hz.proofs.MaskTextLemmas.{mask_of_iff}
+use Rattle.idx_table.specs.Table.{table_bytes}
 use Rattle.idx_text.specs.BoxText.{both_ends}
 use Rattle.idx_text.specs.Numbers.{runs}
 use Rattle.idx_text.proofs.NumberLemmas.{reads_back}
@@ -130,7 +131,7 @@ pub blocks-right : (h : HeaderValue) → IsHeader h → are_no_blocks_per_file h
 blocks-right h is =
     let a : (h.blocks_per_file == 0) ≡ false = grind (arith, nat_tests, is.blocks_some) in
     let b : nat_lt 65536 h.blocks_per_file ≡ false = grind (arith, nat_tests, is.blocks_few) in
-    let c : nat_lt (2 ^ 24) (40 + 40 * length h.fields * h.blocks_per_file) ≡ false = grind (arith, nat_tests, is.small_table) in
+    let c : nat_lt (2 ^ 24) (table_bytes (length h.fields * h.blocks_per_file)) ≡ false = grind (arith, nat_tests, is.small_table) in
     rw (a, b, c) refl
 
 -- ---- the steps

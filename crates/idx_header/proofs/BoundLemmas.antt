@@ -5,6 +5,7 @@ use Rattle.std.proofs.lemmas.Bool.Decides.{nat_tests}
 use Rattle.std.proofs.lemmas.List.Elements.{All-cons, All-nil}
 use Rattle.std.proofs.Math.Nat.{pow-le-pow_right}
 use Rattle.idx_fields.specs.Field.{Field, sample_bytes}
+use Rattle.idx_table.specs.Table.{table_bytes}
 use Rattle.idx_header.specs.Faults.{are_no_block_bits, are_no_blocks_per_file}
 
 -- there are at most 2^24 blocks
@@ -47,7 +48,7 @@ block_bits bits mask fields h =
 pub record AreBlocksPerFile (blocks : ℕ) (fields : List Field) : Type 0 where
   pub some : 1 ≤ blocks
   pub few : blocks ≤ 65536
-  pub small : 40 + 40 * length fields * blocks ≤ 2 ^ 24
+  pub small : table_bytes (length fields * blocks) ≤ 2 ^ 24
 
 pub blocks_per_file : (blocks : ℕ) (fields : List Field) → are_no_blocks_per_file blocks fields ≡ false → AreBlocksPerFile blocks fields
 blocks_per_file blocks fields h =

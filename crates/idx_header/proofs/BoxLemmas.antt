@@ -16,7 +16,7 @@ use Rattle.idx_hz.specs.Mask.{IsMask, NamesAxes, HasAddress, bit_count}
 use Rattle.idx_hz.proofs.MaskLemmas.{bit_count-le}
 use Rattle.idx_hz.specs.MaskText.{mask_of}
 use Rattle.idx_text.specs.Numbers.{numbers_of}
-use Rattle.idx_lines.specs.declared.section.Section.{Section}
+use Rattle.idx_text.specs.declared.section.Section.{Section}
 use Rattle.idx_header.specs.declared.header_fault.HeaderFault.{HeaderFault}
 use Rattle.idx_header.specs.declared.header_kind.HeaderKind.{HeaderKind}
 use Rattle.idx_header.specs.declared.header_kind.HeaderKind.TheVariants as kinds

@@ -10,11 +10,11 @@ use Rattle.idx_hz.specs.MaskText.{mask_text}
 use Rattle.idx_text.specs.BoxText.{both_ends}
 use Rattle.idx_text.specs.Numbers.{has_bytes}
 use Rattle.idx_text.specs.Trim.{trimmed}
-use Rattle.idx_lines.specs.Lines.{is_text, is_text_line}
-use Rattle.idx_lines.specs.Sections.{is_key_line}
-use Rattle.idx_lines.specs.Entries.{Entry, IsValueLine}
-use Rattle.idx_lines.proofs.EntryLemmas.{AreEntries}
-use Rattle.idx_lines.proofs.TextLemmas.{IsPart, IsValue, some-join, trimmed-stays}
+use Rattle.idx_text.specs.Lines.{is_text, is_text_line}
+use Rattle.idx_text.specs.Sections.{is_key_line}
+use Rattle.idx_text.specs.Entries.{Entry, IsValueLine}
+use Rattle.idx_text.proofs.EntryLemmas.{AreEntries}
+use Rattle.idx_text.proofs.TextLemmas.{IsPart, IsValue, some-join, trimmed-stays}
 use Rattle.idx_fields.specs.Field.{Field, IsField, field_text}
 use Rattle.idx_fields.specs.Fields.{AreFields, fields_lines, further_lines}
 use Rattle.idx_fields.proofs.LineLemmas.{text_passes, text_some, text_trimmed, further_trimmed}

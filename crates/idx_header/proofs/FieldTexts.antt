@@ -4,14 +4,14 @@ use Rattle.std.specs.List.{slice_split, onto_first}
 use Rattle.std.proofs.lemmas.Option.{same_Some}
 use Rattle.std.proofs.lemmas.List.Elements.{All-cons, All-nil, All-head, All-tail}
 use Rattle.idx_text.specs.Numbers.{has_bytes, is_blank, runs}
-use Rattle.idx_lines.specs.Lines.{is_text, is_text_line}
+use Rattle.idx_text.specs.Lines.{is_text, is_text_line}
 use Rattle.idx_fields.specs.declared.base.Base.{Base}
 use Rattle.idx_fields.specs.declared.fields_fault.FieldsFault.{FieldsFault}
 use Rattle.idx_fields.specs.Field.{Field, field_of, field_of_words, is_plus}
 use Rattle.idx_fields.specs.FieldType.{type_of}
 use Rattle.idx_fields.specs.Fields.{all_fields, are_distinct, are_within_limits, names_of, listed_fields, within_limits, fields_of}
-use Rattle.idx_lines.specs.declared.section.Section.{Section}
-use Rattle.idx_lines.specs.Sections.{IsTextSection}
+use Rattle.idx_text.specs.declared.section.Section.{Section}
+use Rattle.idx_text.specs.Sections.{IsTextSection}
 use Rattle.idx_header.specs.declared.key.Key.{Key}
 use Rattle.idx_header.specs.Header.{IsTextField}
 use Rattle.idx_header.specs.Keys.{has_key, key_text, or_empty, section_of, section_at}

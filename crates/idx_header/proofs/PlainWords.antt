@@ -9,8 +9,8 @@ use Rattle.idx_text.specs.Number.{is_digit, number_of}
 use Rattle.idx_text.specs.Numbers.{all_of, is_blank, runs, numbers_of}
 use Rattle.idx_text.specs.Trim.{before_rest, to_last_word}
 use Rattle.idx_text.proofs.NumberLemmas.{reads_back, spelled}
-use Rattle.idx_lines.specs.Lines.{is_text, is_text_line}
-use Rattle.idx_lines.proofs.TextLemmas.{AreParts, Begins, IsPart, IsValue, joined}
+use Rattle.idx_text.specs.Lines.{is_text, is_text_line}
+use Rattle.idx_text.proofs.TextLemmas.{AreParts, NoBlankFirst, IsPart, IsValue, joined}
 use Rattle.idx_fields.proofs.RunsLemmas.{runs-last, runs-word}
 use Rattle.idx_names.specs.Pieces.{IsWordByte}
 
@@ -25,7 +25,7 @@ word-ends [] h = refl
 word-ends (x ∷ []) h = let here : is_blank x ≡ false = All-head (λ b. is_blank b ≡ false) x [] h in rw here refl
 word-ends (x ∷ y ∷ ys) h = ap (before_rest x) (word-ends (y ∷ ys) (All-tail (λ b. is_blank b ≡ false) x (y ∷ ys) h))
 
-word-begins : (w : List ℕ) → All (λ b. is_blank b ≡ false) w → Begins w
+word-begins : (w : List ℕ) → All (λ b. is_blank b ≡ false) w → NoBlankFirst w
 word-begins [] h = tt
 word-begins (x ∷ xs) h = All-head (λ b. is_blank b ≡ false) x xs h
 

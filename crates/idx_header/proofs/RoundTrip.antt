@@ -8,11 +8,11 @@ use Rattle.std.proofs.lemmas.List.Elements.{All-head, All-tail}
 use Rattle.idx_text.specs.Number.{number_of}
 use Rattle.idx_text.specs.Numbers.{has_bytes}
 use Rattle.idx_text.proofs.NumberLemmas.{reads_back}
-use Rattle.idx_lines.specs.declared.section.Section.{Section}
-use Rattle.idx_lines.specs.Entries.{Entry, entries_text, numbered}
-use Rattle.idx_lines.specs.Lines.{lines, wrong_line}
-use Rattle.idx_lines.specs.Sections.{sections}
-use Rattle.idx_lines.proofs.EntryLemmas.{AreEntries, written-sections, written-text}
+use Rattle.idx_text.specs.declared.section.Section.{Section}
+use Rattle.idx_text.specs.Entries.{Entry, entries_text, numbered}
+use Rattle.idx_text.specs.Lines.{lines, wrong_line}
+use Rattle.idx_text.specs.Sections.{sections}
+use Rattle.idx_text.proofs.EntryLemmas.{AreEntries, written-sections, written-text}
 use Rattle.idx_hz.specs.MaskText.{mask_of, mask_text}
 use Rattle.idx_fields.specs.Fields.{are_within_limits, fields_lines, listed_fields}
 use Rattle.idx_names.specs.Template.{room, template_of}

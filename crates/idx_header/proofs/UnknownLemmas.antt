@@ -2,8 +2,8 @@
 use Rattle.std.proofs.Common.{◌≡◌, ℕ, ◌+◌, ◌<◌, Bool, true, false, not, cond, List, [], ◌∷◌, ◌++◌, length, map, filter, take, get_or, All, refl, sym, ap, ◌∙◌}
 use Rattle.std.proofs.lemmas.List.{take_more}
 use Rattle.std.proofs.lemmas.List.Elements.{All-cons, All-nil, All-head, All-tail}
-use Rattle.idx_lines.specs.declared.section.Section.{Section}
-use Rattle.idx_lines.specs.Sections.{IsTextSection}
+use Rattle.idx_text.specs.declared.section.Section.{Section}
+use Rattle.idx_text.specs.Sections.{IsTextSection}
 use Rattle.idx_header.specs.declared.unknown.Unknown.{Unknown}
 use Rattle.idx_header.specs.Header.{IsUnknown}
 use Rattle.idx_header.specs.HeaderOf.{unknown_in}

@@ -8,7 +8,7 @@ use Rattle.idx_fields.specs.Field.{Field, field_at, field_text}
 use Rattle.idx_fields.specs.Fields.{fields_lines}
 use Rattle.idx_text.specs.BoxText.{both_ends}
 use Rattle.idx_hz.specs.MaskText.{mask_text}
-use Rattle.idx_lines.specs.Entries.{entries_text, entry_text, lines_text}
+use Rattle.idx_text.specs.Entries.{entries_text, entry_text, lines_text}
 use Rattle.idx_header.specs.declared.key.Key.TheVariants as keys
 use Rattle.idx_header.specs.Header.{HeaderValue}
 use Rattle.idx_header.specs.Written.{box_text, entries_of, entry, numbers_text, steps_entries, template_line, text_of, unknown_entry}

@@ -1,9 +1,10 @@
 -- Why a header is refused: each fault, where it applies, and its line. The first that applies is the answer.
 use Rattle.std.specs.Prelude.{ℕ, Bool, true, false, ◌+◌, ◌-◌, ◌*◌, ◌/◌, ◌^◌, ◌==◌, ◌||◌, not, nat_le, nat_lt, List, [], ◌∷◌, length, Option, Some, None, if◌then◌else◌}
 use Rattle.std.specs.List.{list_any}
+use Rattle.idx_table.specs.Table.{table_bytes}
 use Rattle.idx_text.specs.Number.{number_of}
-use Rattle.idx_lines.specs.Lines.{lines, wrong_line}
-use Rattle.idx_lines.specs.declared.section.Section.{Section}
+use Rattle.idx_text.specs.Lines.{lines, wrong_line}
+use Rattle.idx_text.specs.declared.section.Section.{Section}
 use Rattle.idx_hz.specs.MaskText.{mask_of}
 use Rattle.idx_fields.specs.Field.{Field, sample_bytes}
 use Rattle.idx_fields.specs.Fields.{listed_fields, are_within_limits}
@@ -116,7 +117,7 @@ block_bits_over_limit block_bits bits fields =
 -- so many blocks a file are 0 or more than 65,536, or the table has more than 2^24 bytes
 abbrev pub are_no_blocks_per_file : ℕ → List Field → Bool
 are_no_blocks_per_file blocks fields =
-    (blocks == 0) || nat_lt 65536 blocks || nat_lt (2 ^ 24) (40 + 40 * length fields * blocks)
+    (blocks == 0) || nat_lt 65536 blocks || nat_lt (2 ^ 24) (table_bytes (length fields * blocks))
 
 abbrev pub blocks_per_file_over_limit : Section → Section → Option HeaderFault
 blocks_per_file_over_limit per_file fields =

@@ -1,8 +1,9 @@
 -- A header by its values, and the numbers that follow from them (OpenVisus IDX).
 use Rattle.std.specs.Prelude.{◌≡◌, ℕ, true, false, ◌+◌, ◌-◌, ◌*◌, ◌/◌, ◌^◌, ◌≤◌, List, length, map, sum, All, Option, Some, None, IfSome}
 use Rattle.idx_geom.specs.Region.{IsRegion, points, upper_ends}
+use Rattle.idx_table.specs.Table.{table_bytes}
 use Rattle.idx_text.specs.Trim.{trimmed}
-use Rattle.idx_lines.specs.Lines.{is_text_line}
+use Rattle.idx_text.specs.Lines.{is_text_line}
 use Rattle.idx_hz.specs.Mask.{IsMask, HasAddress}
 use Rattle.idx_fields.specs.Field.{Field, field_at, sample_bytes}
 use Rattle.idx_fields.specs.Fields.{AreFields}
@@ -25,9 +26,17 @@ pub record HeaderValue : Type 0 where
   pub steps : Option Steps
   pub unknown : List Unknown
 
+-- how many blocks of 2^bits addresses there are under a mask of so many digits
+abbrev pub blocks_under : ℕ → ℕ → ℕ
+blocks_under digits bits = 2 ^ (digits - bits)
+
+-- how many bytes 2^bits samples of so many bytes have
+abbrev pub samples_bytes : ℕ → ℕ → ℕ
+samples_bytes size bits = size * 2 ^ bits
+
 -- how many blocks there are
 abbrev pub block_count : HeaderValue → ℕ
-block_count h = 2 ^ (length h.mask - h.block_bits)
+block_count h = blocks_under (length h.mask) h.block_bits
 
 -- the number of the file in which a block stands: that of its first block
 abbrev pub file_of : HeaderValue → ℕ → ℕ
@@ -43,11 +52,7 @@ sample_bytes_of h field = sample_bytes (field_at h.fields field)
 
 -- how many bytes a block of this field has
 abbrev pub block_bytes : HeaderValue → ℕ → ℕ
-block_bytes h field = sample_bytes_of h field * 2 ^ h.block_bits
-
--- how many bytes the table of a file has
-abbrev pub table_bytes : HeaderValue → ℕ
-table_bytes h = 40 + 40 * length h.fields * h.blocks_per_file
+block_bytes h field = samples_bytes (sample_bytes_of h field) h.block_bits
 
 -- how many bytes the samples of the box have, those of all fields together
 abbrev pub volume_bytes : HeaderValue → ℕ
@@ -87,19 +92,19 @@ pub record IsHeader (h : HeaderValue) : Type 0 where
   pub small_blocks : All (λ f. sample_bytes f * 2 ^ h.block_bits ≤ 2 ^ 24) h.fields
   pub blocks_some : 1 ≤ h.blocks_per_file
   pub blocks_few : h.blocks_per_file ≤ 65536
-  pub small_table : table_bytes h ≤ 2 ^ 24
+  pub small_table : table_bytes (length h.fields * h.blocks_per_file) ≤ 2 ^ 24
   pub template : IsTemplate h.template
   pub fits : Fits h.template (last_file h)
   pub steps : IfSome h.steps AreSteps
   pub unknown : All IsUnknown h.unknown
 
 -- the header has this step; without a time the only step is 0
-abbrev pub HasStepAmong : Option Steps → ℕ → Type 0
-HasStepAmong None step = step ≡ 0
-HasStepAmong (Some steps) step = (steps.first ≤ step) × (step ≤ steps.last)
+abbrev pub HasTimeAmong : Option Steps → ℕ → Type 0
+HasTimeAmong None step = step ≡ 0
+HasTimeAmong (Some steps) step = (steps.first ≤ step) × (step ≤ steps.last)
 
-abbrev pub HasStep : HeaderValue → ℕ → Type 0
-HasStep h step = HasStepAmong h.steps step
+abbrev pub HasTime : HeaderValue → ℕ → Type 0
+HasTime h step = HasTimeAmong h.steps step
 
 -- the first and the last step, if the header has a time
 abbrev pub ends_of : Option Steps → Option (ℕ × ℕ)

@@ -1,8 +1,8 @@
 -- The header of a text: the first fault that applies, else its values (OpenVisus IDX, version 6).
 use Rattle.std.specs.Prelude.{ℕ, List, [], ◌∷◌, ◌++◌, length, map, Option, Some, None, option_and_then, Result, Ok, Err}
-use Rattle.idx_lines.specs.Lines.{lines}
-use Rattle.idx_lines.specs.Sections.{sections}
-use Rattle.idx_lines.specs.declared.section.Section.{Section}
+use Rattle.idx_text.specs.Lines.{lines}
+use Rattle.idx_text.specs.Sections.{sections}
+use Rattle.idx_text.specs.declared.section.Section.{Section}
 use Rattle.idx_fields.specs.Field.{Field}
 use Rattle.idx_names.specs.Template.{TemplateValue, template_of}
 use Rattle.idx_header.specs.declared.header_fault.HeaderFault.{HeaderFault}

@@ -2,7 +2,7 @@
 use Rattle.std.specs.Prelude.{ℕ, Bool, true, false, ◌&&◌, List, [], ◌∷◌, ◌++◌, filter, find, not, Option, Some, None, cond, codes}
 use Rattle.std.specs.List.{list_any}
 use Rattle.std.specs.Str.{bytes_eq}
-use Rattle.idx_lines.specs.declared.section.Section.{Section}
+use Rattle.idx_text.specs.declared.section.Section.{Section}
 use Rattle.idx_header.specs.declared.key.Key.{Key}
 use Rattle.idx_header.specs.declared.key.Key.TheVariants as keys
 

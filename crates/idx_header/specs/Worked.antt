@@ -2,7 +2,7 @@
 use Rattle.std.specs.Prelude.{ℕ, ◌+◌, List, [], ◌∷◌, ◌++◌, take, drop, map, Some, codes}
 use Rattle.idx_fields.specs.declared.base.Base.TheVariants as bases
 use Rattle.idx_names.specs.declared.piece.Piece.TheVariants.{Byte, Mark}
-use Rattle.idx_lines.specs.Entries.{lines_text}
+use Rattle.idx_text.specs.Entries.{lines_text}
 use Rattle.idx_header.specs.Header.{HeaderValue}
 
 -- the lines of a small header

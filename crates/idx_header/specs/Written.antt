@@ -5,8 +5,8 @@ use Rattle.std.specs.Fmt.{decimal}
 use Rattle.std.specs.List.{join_with_byte}
 use Rattle.idx_text.specs.BoxText.{both_ends}
 use Rattle.idx_text.specs.Numbers.{has_bytes}
-use Rattle.idx_lines.specs.Sections.{is_key_line}
-use Rattle.idx_lines.specs.Entries.{Entry, entries_text}
+use Rattle.idx_text.specs.Sections.{is_key_line}
+use Rattle.idx_text.specs.Entries.{Entry, entries_text}
 use Rattle.idx_hz.specs.MaskText.{mask_text}
 use Rattle.idx_fields.specs.Fields.{fields_lines}
 use Rattle.idx_names.specs.Template.{TemplateValue, template_text}

@@ -11,8 +11,8 @@ use crate::keys::standing;
 use crate::{HeaderFault, HeaderKind};
 use idx_fields::Fields;
 use idx_hz::Mask;
-use idx_lines::Section;
-use idx_text::read_number;
+use idx_table::table_bytes;
+use idx_text::{Section, read_number};
 
 const MAX_BLOCK_BITS: u64 = 20;
 
@@ -98,7 +98,7 @@ fn are_no_blocks_per_file(blocks: u64, fields: &Fields) -> bool
 {
     blocks == 0
         || blocks > MAX_BLOCKS_PER_FILE
-        || 40 + 40 * u64::from(fields.len()) * blocks > MAX_BYTES
+        || table_bytes(u64::from(fields.len()) * blocks) > MAX_BYTES
 }
 
 /// How many bytes a block has, by the bytes of a sample.

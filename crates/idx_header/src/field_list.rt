@@ -1,5 +1,5 @@
 ghost use Rattle.std.specs.Prelude.{◌≡◌, ◌≢◌, IfErr, IfOk, Some, None, All, false};
-ghost use Rattle.idx_lines.specs.Sections.{IsTextSection};
+ghost use Rattle.idx_text.specs.Sections.{IsTextSection};
 ghost use Rattle.idx_fields.specs.Fields.{AreFields};
 ghost use Rattle.idx_header.specs.Header.{IsTextField};
 ghost use Rattle.idx_header.specs.Faults.{first_of};
@@ -10,7 +10,7 @@ use crate::key::Key;
 use crate::keys::standing;
 use crate::{HeaderFault, HeaderKind};
 use idx_fields::{Fields, FieldsFault};
-use idx_lines::Section;
+use idx_text::Section;
 use std::alloc::Global;
 
 /// The fields of their key.

@@ -3,7 +3,7 @@ ghost use Rattle.idx_fields.specs.Field.{field_at, sample_bytes};
 ghost use Rattle.idx_fields.specs.FieldType.{canonical_type};
 ghost use Rattle.idx_geom.specs.Region.{points, upper_ends};
 ghost use Rattle.idx_hz.specs.Mask.{HasAddress};
-ghost use Rattle.idx_header.specs.Header.{IsHeader, Agree, HasStep, ends_of, block_count, block_bytes, file_of, sample_bytes_of, table_bytes, volume_bytes};
+ghost use Rattle.idx_header.specs.Header.{IsHeader, Agree, HasTime, ends_of, block_count, block_bytes, file_of, sample_bytes_of, volume_bytes};
 ghost use Rattle.idx_header.specs.HeaderOf.{header_of};
 ghost use Rattle.idx_header.specs.Names.{file_name, step_folder};
 ghost use Rattle.idx_header.specs.OfBay.{Gives, GivesStanding, IsFaultOf, IsFaultOfSome, IsRefusal, OnlyAsks};
@@ -241,7 +241,7 @@ impl Header {
 
     /// Whether the header has a step; without a time the only step is 0.
     pub fn has_time(&self, step: u64) -> bool
-        ensures { IsTrue result ↔ HasStep self.now step }
+        ensures { IsTrue result ↔ HasTime self.now step }
     {
         match &self.steps {
             Some(steps) => steps.first <= step && step <= steps.last,

@@ -1,13 +1,13 @@
 ghost use Rattle.std.specs.Prelude.{◌≡◌, ◌≢◌, ◌<◌, ◌^◌, MatchOption, IfErr, OnOk, Some, None, List, take, length};
 ghost use Rattle.std.specs.List.{list_any};
-ghost use Rattle.idx_lines.specs.declared.section.Section.{Section};
+ghost use Rattle.idx_text.specs.declared.section.Section.{Section};
 ghost use Rattle.idx_header.specs.Faults.{first_of};
 ghost use Rattle.idx_header.specs.HeaderOf.{key_faults};
 ghost use Rattle.idx_header.specs.Keys.{has_key, is_known, is_known_key, is_missing, lacks_key, repeated, section_at, section_of};
 
 use crate::key::Key;
 use crate::{HeaderFault, HeaderKind};
-use idx_lines::{Document, Section};
+use idx_text::{Document, Section};
 
 /// The known keys that no header lacks.
 const NEEDED: [Key; 7] = [

@@ -1,6 +1,6 @@
 //! Laws of the definitions, each the contract of a function that does nothing.
 ghost use Rattle.std.specs.Prelude.{◌≡◌, ℕ, Ok};
-ghost use Rattle.idx_header.specs.Header.{HasStep, HeaderValue, IsHeader};
+ghost use Rattle.idx_header.specs.Header.{HasTime, HeaderValue, IsHeader};
 ghost use Rattle.idx_header.specs.HeaderOf.{header_of};
 ghost use Rattle.idx_header.specs.Names.{file_name};
 ghost use Rattle.idx_header.specs.Written.{IsWritable, text_of};
@@ -12,6 +12,6 @@ pub fn texts_read_back()
 
 /// Different pairs of a step and a file have different names.
 pub fn names_differ()
-    ensures { (h : HeaderValue) (s u f g : ℕ) → IsHeader h → HasStep h s → HasStep h u →
+    ensures { (h : HeaderValue) (s u f g : ℕ) → IsHeader h → HasTime h s → HasTime h u →
         file_name h s f ≡ file_name h u g → (s ≡ u) × (f ≡ g) }
 {}

@@ -1,6 +1,6 @@
 ghost use Rattle.std.specs.Prelude.{◌≡◌, ◌≢◌, ◌<◌, ◌≤◌, ◌^◌, IfErr, IfOk, Some, None, Ok, Err, All, List, length, false};
-ghost use Rattle.idx_lines.specs.Lines.{lines};
-ghost use Rattle.idx_lines.specs.Sections.{sections, IsTextSection};
+ghost use Rattle.idx_text.specs.Lines.{lines};
+ghost use Rattle.idx_text.specs.Sections.{sections, IsTextSection};
 ghost use Rattle.idx_header.specs.Faults.{first_of};
 ghost use Rattle.idx_header.specs.Header.{IsHeader};
 ghost use Rattle.idx_header.specs.HeaderOf.{header_in, header_of, text_faults, value_faults};
@@ -15,7 +15,7 @@ use crate::time::read_time;
 use crate::unknowns::read_unknowns;
 use crate::version::check_version;
 use crate::{Header, HeaderFault, HeaderKind};
-use idx_lines::{Document, Section, TextFault};
+use idx_text::{Document, Section, TextFault};
 use std::alloc::Global;
 
 /// A header has at most so many bytes.

@@ -15,8 +15,7 @@ use crate::{HeaderFault, HeaderKind};
 use arrayvec::ArrayVec;
 use idx_geom::{MAX_AXES, Point, Region};
 use idx_hz::Mask;
-use idx_lines::Section;
-use idx_text::read_numbers;
+use idx_text::{Section, read_numbers};
 
 /// A box has at least so many axes.
 const MIN_AXES: usize = 2;

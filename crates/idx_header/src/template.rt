@@ -7,8 +7,8 @@ ghost use Rattle.idx_header.specs.Keys.{lacks_key, section_at};
 use crate::key::Key;
 use crate::keys::standing;
 use crate::{HeaderFault, HeaderKind};
-use idx_lines::Section;
 use idx_names::Template;
+use idx_text::Section;
 use std::alloc::Global;
 
 /// The template of its key, which has room for the number of the last file.

@@ -11,10 +11,9 @@ use crate::key::Key;
 use crate::keys::section_of;
 use crate::{HeaderFault, HeaderKind, Steps};
 use arrayvec::ArrayVec;
-use idx_lines::Section;
 use idx_names::TimeTemplate;
 use idx_outside::NoMemory;
-use idx_text::{is_blank, read_number};
+use idx_text::{Section, is_blank, read_number};
 use std::alloc::Global;
 
 const MAX_STEP: u64 = (1 << 31) - 1;

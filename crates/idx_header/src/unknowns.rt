@@ -1,12 +1,12 @@
 ghost use Rattle.std.specs.Prelude.{◌≡◌, ◌∷◌, ◌++◌, [], IfOk, OnOk, All};
-ghost use Rattle.idx_lines.specs.Sections.{IsTextSection};
+ghost use Rattle.idx_text.specs.Sections.{IsTextSection};
 ghost use Rattle.idx_header.specs.Header.{IsUnknown};
 ghost use Rattle.idx_header.specs.HeaderOf.{unknown_in};
 
 use crate::Unknown;
 use crate::keys::is_known;
-use idx_lines::Section;
 use idx_outside::{Bytes, NoMemory};
+use idx_text::Section;
 use std::alloc::Global;
 
 /// The keys that have no effect, with their values, in their order.

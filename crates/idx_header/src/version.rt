@@ -6,8 +6,7 @@ ghost use Rattle.idx_header.specs.HeaderOf.{version_faults};
 use crate::key::Key;
 use crate::keys::standing;
 use crate::{HeaderFault, HeaderKind};
-use idx_lines::Section;
-use idx_text::read_number;
+use idx_text::{Section, read_number};
 
 const VERSION: u64 = 6;
 

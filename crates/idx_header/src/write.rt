@@ -4,7 +4,7 @@ ghost use Rattle.std.specs.List.{slice_index_or};
 ghost use Rattle.std.specs.Fmt.{decimal};
 ghost use Rattle.idx_hz.specs.MaskText.{mask_text};
 ghost use Rattle.idx_fields.specs.Fields.{fields_lines};
-ghost use Rattle.idx_lines.specs.Entries.{entry_text, entries_text, key_line, lines_text};
+ghost use Rattle.idx_text.specs.Entries.{entry_text, entries_text, lines_text};
 ghost use Rattle.idx_header.specs.Written.{box_text, entry, steps_entries, steps_text, template_line, text_of, unknown_entry};
 
 use crate::key::Key;
@@ -14,7 +14,7 @@ use idx_geom::Region;
 use idx_hz::Mask;
 use idx_names::Template;
 use idx_outside::{Bytes, NoMemory};
-use idx_text::write_number;
+use idx_text::{write_key, write_line, write_number};
 use std::alloc::Global;
 
 /// The canonical text.
@@ -42,29 +42,11 @@ pub(crate) fn header_text(alloc: Global, header: &Header) -> Result<Bytes, NoMem
     Ok(text)
 }
 
-/// Appends the line of a key.
-fn write_key(key: &[u8], out: &mut Bytes) -> Result<(), NoMemory>
-    ensures { OnOk result (out.new ≡ out.old ++ lines_text (key_line key.now ∷ [])) }
-{
-    out.push(b'(')?;
-    out.append(key)?;
-    out.append(b")\n")
-}
-
-/// Appends a line.
-fn write_line(line: &[u8], out: &mut Bytes) -> Result<(), NoMemory>
-    ensures { OnOk result (out.new ≡ out.old ++ lines_text (line.now ∷ [])) }
-{
-    out.append(line)?;
-    out.push(b'\n')
-}
-
 /// Appends a known key whose value stands on one line.
 fn write_entry(key: Key, line: &[u8], out: &mut Bytes) -> Result<(), NoMemory>
     ensures { OnOk result (out.new ≡ out.old ++ entry_text (entry key (line.now ∷ []))) }
 {
-    write_key(key.text(), out)?;
-    write_line(line, out)
+    idx_text::write_entry(key.text(), line, out)
 }
 
 /// Appends a known key whose value is a number.

@@ -34,7 +34,9 @@ found {X = X} test (y ∷ ys) x e = by_test (λ rest. found test ys x rest) (tes
     by_test more false is =
         let next = more (sym (ap (λ b. cond b (Some y) (find test ys)) is) ∙ e) in (suc next.0, next.1)
 
-length-stored_sample : (l : Layout) (size : ℕ) (samples : List (List ℕ)) (address : ℕ) → length samples ≡ length (points l.region) → All (λ sample. length sample ≡ size) samples → length (stored_sample l size samples address) ≡ size
+length-stored_sample : (l : Layout) (size : ℕ) (samples : List (List ℕ)) (address : ℕ) →
+    length samples ≡ length (points l.region) → All (λ sample. length sample ≡ size) samples →
+    length (stored_sample l size samples address) ≡ size
 length-stored_sample l size samples address count sizes = by_point _ refl
   where
     by_point : (o : Option (List ℕ)) → find (λ p. hz_address l.mask p == address) (points l.region) ≡ o → length (option_map_or (sample_at l.region samples) o (replicate size 0)) ≡ size
@@ -54,7 +56,9 @@ length-flat_map_same f size (x ∷ xs) h =
     one_more : (s n : ℕ) → s + s * n ≡ s * suc n
     one_more s n = grind arith
 
-pub length-block_of_samples : (l : Layout) (size : ℕ) (samples : List (List ℕ)) (block : ℕ) → length samples ≡ length (points l.region) → All (λ sample. length sample ≡ size) samples → length (block_of_samples l size samples block) ≡ size * 2 ^ l.bits
+pub length-block_of_samples : (l : Layout) (size : ℕ) (samples : List (List ℕ)) (block : ℕ) →
+    length samples ≡ length (points l.region) → All (λ sample. length sample ≡ size) samples →
+    length (block_of_samples l size samples block) ≡ size * 2 ^ l.bits
 length-block_of_samples l size samples block count sizes =
     length-flat_map_same (stored_sample l size samples) size (range_with_len (block * 2 ^ l.bits) (2 ^ l.bits)) (λ address. length-stored_sample l size samples address count sizes)
     ∙ ap (λ n. size * n) (length-range_with_len (block * 2 ^ l.bits) (2 ^ l.bits))
@@ -65,7 +69,9 @@ length-block_of_samples l size samples block count sizes =
 abbrev pub blocks_of : Layout → List ℕ → List (ℕ × List (List ℕ)) → List ℕ
 blocks_of l blocks fields = flat_map (λ field. flat_map (block_of_samples l field.0 field.1) blocks) fields
 
-length-blocks_of : (l : Layout) (blocks sizes : List ℕ) (volume : List (List (List ℕ))) → IsVolume sizes (length (points l.region)) volume → length (blocks_of l blocks (zip sizes volume)) ≡ sum_by (λ size. size * 2 ^ l.bits) sizes * length blocks
+length-blocks_of : (l : Layout) (blocks sizes : List ℕ) (volume : List (List (List ℕ))) →
+    IsVolume sizes (length (points l.region)) volume →
+    length (blocks_of l blocks (zip sizes volume)) ≡ sum_by (λ size. size * 2 ^ l.bits) sizes * length blocks
 length-blocks_of l blocks [] [] h = omega arith
 length-blocks_of l blocks [] (samples ∷ volume) h = absurd h
 length-blocks_of l blocks (size ∷ sizes) [] h = absurd h
@@ -104,7 +110,8 @@ record IsSplitAt (sizes : List ℕ) (volume : List (List (List ℕ))) (n field :
   right : All (λ sample. length sample ≡ slice_index sizes field) samples
   within : field < length sizes
 
-split_at : (sizes : List ℕ) (volume : List (List (List ℕ))) (n field : ℕ) (samples : List (List ℕ)) → IsVolume sizes n volume → slice_get volume field ≡ Some samples → IsSplitAt sizes volume n field samples
+split_at : (sizes : List ℕ) (volume : List (List (List ℕ))) (n field : ℕ) (samples : List (List ℕ)) →
+    IsVolume sizes n volume → slice_get volume field ≡ Some samples → IsSplitAt sizes volume n field samples
 split_at [] [] n field samples h e = let wrong : None ≡ Some samples = e in absurd (cc)
 split_at [] (v ∷ volume) n field samples h e = absurd h
 split_at (size ∷ sizes) [] n field samples h e = absurd h
@@ -130,7 +137,9 @@ split_at (size ∷ sizes) (v ∷ volume) n (suc field) samples h e =
 -- ---- a block in its file
 
 -- a present block, those of its file before it, and those behind it
-pub present_split : (l : Layout) (file block : ℕ) → file ≤ block → block < file + l.per_file → is_present l block ≡ true → (behind : List ℕ) × (present_blocks l file ≡ filter (is_present l) (range_with_len file (block - file)) ++ (block ∷ behind))
+pub present_split : (l : Layout) (file block : ℕ) → file ≤ block → block < file + l.per_file →
+    is_present l block ≡ true → (behind : List ℕ) × (present_blocks l file ≡ filter (is_present l)
+    (range_with_len file (block - file)) ++ (block ∷ behind))
 present_split l file block from to present =
     let m : ℕ = block - file in
     let n : ℕ = l.per_file - m - 1 in
@@ -157,7 +166,9 @@ regroup t a b x c d = simp append_assoc
 
 pub length-rows_of_file : (l : Layout) (file : ℕ) → length (rows_of_file l file) ≡ row_count l
 length-rows_of_file l file =
-    length-flat_map_same (λ field. map (row_of_block l file field) (range_with_len file l.per_file)) l.per_file (range_with_len 0 (length l.sizes)) (λ field. length-map-range_with_len (row_of_block l file field) file l.per_file)
+    length-flat_map_same (λ field. map (row_of_block l file field) (range_with_len file l.per_file)) l.per_file
+    (range_with_len 0 (length l.sizes)) (λ field. length-map-range_with_len (row_of_block l file field) file
+    l.per_file)
     ∙ ap (λ n. l.per_file * n) (length-range_with_len 0 (length l.sizes)) ∙ mul_comm l.per_file (length l.sizes)
 
 -- the head of a file and its rows
@@ -176,11 +187,14 @@ length-file_bytes l volume file h =
     ∙ ap (λ n. n + length (blocks_of_file l volume file)) (length-head_of l file)
     ∙ ap (λ n. table_bytes (row_count l) + n)
     (length-blocks_of l (present_blocks l file) l.sizes volume h
-    ∙ ap (λ n. n * length (present_blocks l file)) (ap (sum_by (λ size. size * 2 ^ l.bits)) (sym (take-length l.sizes)) ∙ sym (sum_by-sizes (λ size. size * 2 ^ l.bits) l.sizes (length l.sizes) (omega arith))))
+    ∙ ap (λ n. n * length (present_blocks l file)) (ap (sum_by (λ size. size * 2 ^ l.bits))
+    (sym (take-length l.sizes)) ∙ sym (sum_by-sizes (λ size. size * 2 ^ l.bits) l.sizes (length l.sizes)
+    (omega arith))))
     ∙ sym (length_of_file-sums l file)
 
 -- how far from its file's beginning a block begins
-length_before : (l : Layout) (volume : List (List (List ℕ))) (file field block : ℕ) (samples : List (List ℕ)) → IsSplitAt l.sizes volume (length (points l.region)) field samples → file ≤ block → block ≤ file + l.per_file →
+length_before : (l : Layout) (volume : List (List (List ℕ))) (file field block : ℕ) (samples : List (List ℕ)) →
+    IsSplitAt l.sizes volume (length (points l.region)) field samples → file ≤ block → block ≤ file + l.per_file →
     length (head_of l file ++ (blocks_of l (present_blocks l file) (zip (take field l.sizes) (take field volume))
     ++ flat_map (block_of_samples l (slice_index l.sizes field) samples) (filter (is_present l) (range_with_len file (block - file))))) ≡ offset_of l file field block
 length_before l volume file field block samples h from to =
@@ -202,7 +216,9 @@ length_before l volume file field block samples h from to =
     ∙ sym (offset_of-sums l file field block h.within)
 
 -- the parts of a file about a block
-parts_of_file : (l : Layout) (volume : List (List (List ℕ))) (file field block : ℕ) (samples : List (List ℕ)) → (s : IsSplitAt l.sizes volume (length (points l.region)) field samples) → (behind : List ℕ) → present_blocks l file ≡ filter (is_present l) (range_with_len file (block - file)) ++ (block ∷ behind) →
+parts_of_file : (l : Layout) (volume : List (List (List ℕ))) (file field block : ℕ) (samples : List (List ℕ)) →
+    (s : IsSplitAt l.sizes volume (length (points l.region)) field samples) → (behind : List ℕ) →
+    present_blocks l file ≡ filter (is_present l) (range_with_len file (block - file)) ++ (block ∷ behind) →
     file_bytes l volume file ≡ (head_of l file ++ (blocks_of l (present_blocks l file) (zip (take field l.sizes) (take field volume))
     ++ flat_map (block_of_samples l (slice_index l.sizes field) samples) (filter (is_present l) (range_with_len file (block - file)))))
     ++ (block_of_samples l (slice_index l.sizes field) samples block
@@ -224,7 +240,9 @@ parts_of_file l volume file field block samples s behind cut =
     ∙ regroup (head_of l file) before (flat_map of_block earlier) (of_block block) (flat_map of_block behind) after
 
 -- a present block stands at its offset
-pub block_at_offset : (l : Layout) (volume : List (List (List ℕ))) (file field block : ℕ) (samples : List (List ℕ)) → IsVolume l.sizes (length (points l.region)) volume → slice_get volume field ≡ Some samples → file ≤ block → block < file + l.per_file → is_present l block ≡ true →
+pub block_at_offset : (l : Layout) (volume : List (List (List ℕ))) (file field block : ℕ) (samples : List (List ℕ)) →
+    IsVolume l.sizes (length (points l.region)) volume → slice_get volume field ≡ Some samples → file ≤ block →
+    block < file + l.per_file → is_present l block ≡ true →
     take (block_bytes l field) (drop (offset_of l file field block) (file_bytes l volume file)) ≡ block_of_samples l (slice_index l.sizes field) samples block
 block_at_offset l volume file field block samples h is from to present =
     let s = split_at l.sizes volume (length (points l.region)) field samples h is in

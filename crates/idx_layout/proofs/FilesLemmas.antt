@@ -114,7 +114,9 @@ module _ (l : Layout) where
       wrong e = cc
 
   -- the next file is that of the next present block
-  pub files_step : (next block : ℕ) → AreFiles l next → find (is_present l) (range_with_len next (block_count l - next)) ≡ Some block → files_from l next ≡ file_of l block ∷ files_from l (file_of l block + l.per_file)
+  pub files_step : (next block : ℕ) → AreFiles l next →
+      find (is_present l) (range_with_len next (block_count l - next)) ≡ Some block →
+      files_from l next ≡ file_of l block ∷ files_from l (file_of l block + l.per_file)
   files_step next block is some =
       let first = found (is_present l) next (block_count l - next) block some in
       let p : ℕ = l.per_file in

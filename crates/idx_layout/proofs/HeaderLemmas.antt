@@ -5,7 +5,7 @@ use Rattle.std.specs.List.{list_any, range_with_len}
 use Rattle.std.proofs.lemmas.List.{length-map, get_or-map}
 use Rattle.std.proofs.lemmas.List.Elements.{All-get_or, filter-append}
 use Rattle.std.proofs.lemmas.List.Sums.{sum_by-append, sum_by-cons}
-use Rattle.std.proofs.Math.Nat.{mul-le-mul, mul_assoc}
+use Rattle.std.proofs.Math.Nat.{mul-le-mul}
 use Rattle.idx_fields.specs.Field.{sample_bytes, field_at}
 use Rattle.idx_header.specs.Header.{HeaderValue, IsHeader}
 use Rattle.idx_header.specs.Header.{block_bytes as header_block_bytes}
@@ -70,8 +70,8 @@ fits_rows h file is =
       bytes = omega (arith, length_of_file-sums (layout_of h) file, product, table);
     }
   where
-    same_table : (h : HeaderValue) → table_bytes (row_count (layout_of h)) ≡ 40 + 40 * length h.fields * h.blocks_per_file
-    same_table h = ap (λ n. 40 + 40 * (n * h.blocks_per_file)) (length-map h.fields sample_bytes) ∙ ap (λ n. 40 + n) (sym (mul_assoc 40 (length h.fields) h.blocks_per_file))
+    same_table : (h : HeaderValue) → table_bytes (row_count (layout_of h)) ≡ table_bytes (length h.fields * h.blocks_per_file)
+    same_table h = ap (λ n. table_bytes (n * h.blocks_per_file)) (length-map h.fields sample_bytes)
 
     small_table : (h : HeaderValue) → IsHeader h → table_bytes (row_count (layout_of h)) ≤ 2 ^ 24
     small_table h is = subst (λ n. n ≤ 2 ^ 24) (sym (same_table h)) is.small_table
@@ -83,7 +83,9 @@ absent_past_end h block is past =
     absent-past h.mask h.box h.block_bits block is.bits_within (omega (arith, few, past))
 
 -- the present blocks of a file, where its end is past the greatest number that there is
-pub present_to : (h : HeaderValue) (file end : ℕ) → IsHeader h → end ≡ min (file + h.blocks_per_file) (2 ^ 64 - 1) → length (filter (is_present (layout_of h)) (range_with_len file (end - file))) ≡ length (present_blocks (layout_of h) file)
+pub present_to : (h : HeaderValue) (file end : ℕ) → IsHeader h → end ≡ min (file + h.blocks_per_file) (2 ^ 64 - 1) →
+    length (filter (is_present (layout_of h)) (range_with_len file (end - file))) ≡ length
+    (present_blocks (layout_of h) file)
 present_to h file end is limit =
     count-end (is_present (layout_of h)) file (end - file) h.blocks_per_file (omega arith)
     (λ k from to. absent_past_end h k is (omega arith))
@@ -149,7 +151,8 @@ placed h field block earlier later at is =
     three a b c d e f x y z = cc
 
 -- the present blocks of a file, by a mask, a box and numbers that are a header's
-pub blocks_of_same : (h : HeaderValue) (mask : List ℕ) (region : List (ℕ × ℕ)) (bits file end : ℕ) → IsHeader h → mask ≡ h.mask → region ≡ h.box → bits ≡ h.block_bits → end ≡ min (file + h.blocks_per_file) (2 ^ 64 - 1) →
+pub blocks_of_same : (h : HeaderValue) (mask : List ℕ) (region : List (ℕ × ℕ)) (bits file end : ℕ) → IsHeader h →
+    mask ≡ h.mask → region ≡ h.box → bits ≡ h.block_bits → end ≡ min (file + h.blocks_per_file) (2 ^ 64 - 1) →
     filter (has_point_in mask region bits) (range_with_len file (end - file)) ≡ present_blocks (layout_of h) file
 blocks_of_same h mask region bits file end is a b c limit =
     ap (λ (x : List ℕ). filter (has_point_in x region bits) (range_with_len file (end - file))) a
@@ -161,7 +164,13 @@ blocks_of_same h mask region bits file end is a b c limit =
 pub few_files : (h : HeaderValue) → IsHeader h → length (file_numbers (layout_of h)) ≤ 2 ^ 24
 few_files h is =
     let blocks : 2 ^ (length h.mask - h.block_bits) ≤ 2 ^ 24 = few_blocks (length h.mask) h.block_bits is.bits_most in
-    omega (arith, blocks, count-le (λ file. list_any (λ block. is_present (layout_of h) block && (file_of (layout_of h) block == file)) (range_with_len 0 (block_count (layout_of h)))) 0 (block_count (layout_of h)))
+    omega (
+      arith,
+      blocks,
+      count-le (λ file. list_any
+          (λ block. is_present (layout_of h) block && (file_of (layout_of h) block == file))
+          (range_with_len 0 (block_count (layout_of h)))) 0 (block_count (layout_of h)),
+    )
 
 pub few_in_file : (h : HeaderValue) (file : ℕ) → IsHeader h → length (present_blocks (layout_of h) file) ≤ 65536
 few_in_file h file is = omega (arith, few_present (layout_of h) file, is.blocks_few)

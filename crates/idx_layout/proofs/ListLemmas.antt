@@ -30,7 +30,8 @@ passing test [] e = absurd (wrong e)
     wrong e = cc
 passing {X = X} test (y ∷ ys) e = by_test (λ rest. passing test ys rest) (test y) refl
   where
-    by_test : (list_any test ys ≡ true → (k : ℕ) × (x : X) × (slice_get ys k ≡ Some x) × (test x ≡ true)) → (b : Bool) → test y ≡ b → (k : ℕ) × (x : X) × (slice_get (y ∷ ys) k ≡ Some x) × (test x ≡ true)
+    by_test : (list_any test ys ≡ true → (k : ℕ) × (x : X) × (slice_get ys k ≡ Some x) × (test x ≡ true)) →
+        (b : Bool) → test y ≡ b → (k : ℕ) × (x : X) × (slice_get (y ∷ ys) k ≡ Some x) × (test x ≡ true)
     by_test more true is = (0, y, refl, is)
     by_test more false is =
         let next = more (sym (ap (λ b. b || list_any test ys) is) ∙ e) in (suc next.0, next.1, next.2, next.3)
@@ -96,7 +97,9 @@ pub count-end : (test : ℕ → Bool) (a m n : ℕ) → m ≤ n → ((k : ℕ) �
 count-end test a m n less none = ap length (filter-end test a m n less none)
 
 -- one number more of a range from a to b
-pub count_step : (test : ℕ → Bool) (a b count bit : ℕ) (found : Bool) → a ≤ b → count ≡ length (filter test (range_with_len a (b - a))) → bit ≡ bool_byte found → found ≡ test b → count + bit ≡ length (filter test (range_with_len a (b + 1 - a)))
+pub count_step : (test : ℕ → Bool) (a b count bit : ℕ) (found : Bool) → a ≤ b →
+    count ≡ length (filter test (range_with_len a (b - a))) → bit ≡ bool_byte found → found ≡ test b →
+    count + bit ≡ length (filter test (range_with_len a (b + 1 - a)))
 count_step test a b count bit found from is byte same =
     let here : a + (b - a) ≡ b = omega arith in
     let next : b - a + 1 ≡ b + 1 - a = omega arith in

@@ -43,7 +43,9 @@ bytes_of-fields size blocks a (suc n) =
 field_before : (field block : ℕ) (blocks : List ℕ) (other : ℕ) → other < field → filter (λ s. stands_before s (field, block)) (of_field blocks other) ≡ of_field blocks other
 field_before field block [] other h = refl
 field_before field block (b ∷ bs) other h =
-    ap (λ t. cond (t || ((other == field) && nat_lt b block)) ((other, b) ∷ filter (λ s. stands_before s (field, block)) (of_field bs other)) (filter (λ s. stands_before s (field, block)) (of_field bs other))) (lt-ltb other field h)
+    ap (λ t. cond (t || ((other == field) && nat_lt b block))
+    ((other, b) ∷ filter (λ s. stands_before s (field, block)) (of_field bs other))
+    (filter (λ s. stands_before s (field, block)) (of_field bs other))) (lt-ltb other field h)
     ∙ ap (λ rest. (other, b) ∷ rest) (field_before field block bs other h)
 
 stands-same : (field block b : ℕ) → stands_before (field, b) (field, block) ≡ nat_lt b block
@@ -62,7 +64,9 @@ field_same field block (b ∷ bs) =
     ∙ ap (λ rest. cond (nat_lt b block) ((field, b) ∷ rest) rest) (field_same field block bs)
     ∙ out (nat_lt b block)
   where
-    out : (t : Bool) → cond t ((field, b) ∷ of_field (filter (λ b. nat_lt b block) bs) field) (of_field (filter (λ b. nat_lt b block) bs) field) ≡ of_field (cond t (b ∷ filter (λ b. nat_lt b block) bs) (filter (λ b. nat_lt b block) bs)) field
+    out : (t : Bool) → cond t ((field, b) ∷ of_field (filter (λ b. nat_lt b block) bs) field)
+        (of_field (filter (λ b. nat_lt b block) bs) field) ≡ of_field
+        (cond t (b ∷ filter (λ b. nat_lt b block) bs) (filter (λ b. nat_lt b block) bs)) field
     out true = refl
     out false = refl
 
@@ -70,10 +74,13 @@ field_same field block (b ∷ bs) =
 field_behind : (field block : ℕ) (blocks : List ℕ) (other : ℕ) → field < other → filter (λ s. stands_before s (field, block)) (of_field blocks other) ≡ []
 field_behind field block [] other h = refl
 field_behind field block (b ∷ bs) other h =
-    ap (λ t. cond t ((other, b) ∷ filter (λ s. stands_before s (field, block)) (of_field bs other)) (filter (λ s. stands_before s (field, block)) (of_field bs other))) (stands-behind field block other b h)
+    ap (λ t. cond t ((other, b) ∷ filter (λ s. stands_before s (field, block)) (of_field bs other))
+    (filter (λ s. stands_before s (field, block)) (of_field bs other))) (stands-behind field block other b h)
     ∙ field_behind field block bs other h
 
-fields_before : (field block : ℕ) (blocks : List ℕ) (a n : ℕ) → a + n ≤ field → filter (λ s. stands_before s (field, block)) (flat_map (of_field blocks) (range_with_len a n)) ≡ flat_map (of_field blocks) (range_with_len a n)
+fields_before : (field block : ℕ) (blocks : List ℕ) (a n : ℕ) → a + n ≤ field →
+    filter (λ s. stands_before s (field, block)) (flat_map (of_field blocks) (range_with_len a n)) ≡ flat_map
+    (of_field blocks) (range_with_len a n)
 fields_before field block blocks a zero h = refl
 fields_before field block blocks a (suc n) h =
     filter-append (λ s. stands_before s (field, block)) (of_field blocks a) (flat_map (of_field blocks) (range_with_len (a + 1) n))
@@ -88,7 +95,9 @@ fields_behind field block blocks a (suc n) h =
     ∙ fields_behind field block blocks (a + 1) n (omega arith)
 
 -- the blocks of all fields that stand before one
-stored_before : (field block : ℕ) (blocks : List ℕ) (n : ℕ) → field < n → filter (λ s. stands_before s (field, block)) (flat_map (of_field blocks) (range_with_len 0 n)) ≡ flat_map (of_field blocks) (range_with_len 0 field) ++ of_field (filter (λ b. nat_lt b block) blocks) field
+stored_before : (field block : ℕ) (blocks : List ℕ) (n : ℕ) → field < n →
+    filter (λ s. stands_before s (field, block)) (flat_map (of_field blocks) (range_with_len 0 n)) ≡ flat_map
+    (of_field blocks) (range_with_len 0 field) ++ of_field (filter (λ b. nat_lt b block) blocks) field
 stored_before field block blocks n h =
     let p : ℕ × ℕ → Bool = λ s. stands_before s (field, block) in
     let front : List (ℕ × ℕ) = flat_map (of_field blocks) (range_with_len 0 field) in
@@ -106,7 +115,10 @@ stored_before field block blocks n h =
     ∙ append-nil (of_field (filter (λ b. nat_lt b block) blocks) field))
 
 -- where a block begins
-pub offset_of-sums : (l : Layout) (file field block : ℕ) → field < length l.sizes → offset_of l file field block ≡ table_bytes (row_count l) + (sum_by (block_bytes l) (range_with_len 0 field) * length (present_blocks l file) + block_bytes l field * length (filter (λ b. nat_lt b block) (present_blocks l file)))
+pub offset_of-sums : (l : Layout) (file field block : ℕ) → field < length l.sizes →
+    offset_of l file field block ≡ table_bytes (row_count l)
+    + (sum_by (block_bytes l) (range_with_len 0 field) * length (present_blocks l file) + block_bytes l field * length
+    (filter (λ b. nat_lt b block) (present_blocks l file)))
 offset_of-sums l file field block h =
     let blocks : List ℕ = present_blocks l file in
     let own : List ℕ = filter (λ b. nat_lt b block) blocks in
@@ -147,7 +159,8 @@ number_behind p a (suc n) block h = by_test (p a) (number_behind p (a + 1) n blo
     by_test false e = e
 
 -- the present blocks of a file whose numbers are below one of its places
-pub present_before : (l : Layout) (file block : ℕ) → file ≤ block → block ≤ file + l.per_file → filter (λ b. nat_lt b block) (present_blocks l file) ≡ filter (is_present l) (range_with_len file (block - file))
+pub present_before : (l : Layout) (file block : ℕ) → file ≤ block → block ≤ file + l.per_file →
+    filter (λ b. nat_lt b block) (present_blocks l file) ≡ filter (is_present l) (range_with_len file (block - file))
 present_before l file block from to =
     let m : ℕ = block - file in
     let n : ℕ = l.per_file - m in
@@ -189,7 +202,9 @@ place_among p a (suc n) i b e = by_test (place_among p (a + 1) n) (p a) refl i e
     less : ℕ → Bool
     less other = nat_lt other b
 
-    by_test : ((i b : ℕ) → slice_get rest i ≡ Some b → length (filter (λ other. nat_lt other b) rest) ≡ i) → (t : Bool) → p a ≡ t → (i : ℕ) → slice_get (cond (p a) (a ∷ rest) rest) i ≡ Some b → length (filter (λ other. nat_lt other b) (cond (p a) (a ∷ rest) rest)) ≡ i
+    by_test : ((i b : ℕ) → slice_get rest i ≡ Some b → length (filter (λ other. nat_lt other b) rest) ≡ i) →
+        (t : Bool) → p a ≡ t → (i : ℕ) → slice_get (cond (p a) (a ∷ rest) rest) i ≡ Some b →
+        length (filter (λ other. nat_lt other b) (cond (p a) (a ∷ rest) rest)) ≡ i
     by_test more true is zero e =
         let first : ◌≡◌ {A = Option ℕ} (Some a) (Some b) = sym (ap (λ (t : Bool). slice_get (cond t (a ∷ rest) rest) 0) is) ∙ e in
         let same : a ≡ b = cc in
@@ -210,4 +225,5 @@ pub offset_of-place : (l : Layout) (file field i block : ℕ) → field < length
     offset_of l file field block ≡ table_bytes (row_count l) + (sum_by (block_bytes l) (range_with_len 0 field) * length (present_blocks l file) + block_bytes l field * i)
 offset_of-place l file field i block h e =
     offset_of-sums l file field block h
-    ∙ ap (λ n. table_bytes (row_count l) + (sum_by (block_bytes l) (range_with_len 0 field) * length (present_blocks l file) + block_bytes l field * n)) (place_among (is_present l) file l.per_file i block e)
+    ∙ ap (λ n. table_bytes (row_count l) + (sum_by (block_bytes l) (range_with_len 0 field) * length
+    (present_blocks l file) + block_bytes l field * n)) (place_among (is_present l) file l.per_file i block e)

@@ -36,11 +36,14 @@ pub record AreMet (mask : List ℕ) (region box common : List (ℕ × ℕ)) (gri
   pub block : (p : List ℕ) → IsInBlock mask (length region) bits number p ↔ (LiesIn box p × LiesOn grid p)
   pub both : (p : List ℕ) → LiesIn common p ↔ (LiesIn region p × LiesIn box p)
 
-in_block : (mask p : List ℕ) (region : List (ℕ × ℕ)) (bits block : ℕ) → LiesIn region p → HasAddress mask p → (eqb (hz_address mask p / 2 ^ bits) block) ≡ true → IsInBlock mask (length region) bits block p
+in_block : (mask p : List ℕ) (region : List (ℕ × ℕ)) (bits block : ℕ) → LiesIn region p → HasAddress mask p →
+    (eqb (hz_address mask p / 2 ^ bits) block) ≡ true → IsInBlock mask (length region) bits block p
 in_block mask p region bits block inside has e =
     record { size = length_from_LiesIn region p inside; has = has; address = eqb-true (hz_address mask p / 2 ^ bits) block e }
 
-pub present-common : (mask : List ℕ) (region box common : List (ℕ × ℕ)) (grid : Grid) (bits block : ℕ) → AreMet mask region box common grid bits block → list_any (lies_on grid) (points common) ≡ has_point_in mask region bits block
+pub present-common : (mask : List ℕ) (region box common : List (ℕ × ℕ)) (grid : Grid) (bits block : ℕ) →
+    AreMet mask region box common grid bits block →
+    list_any (lies_on grid) (points common) ≡ has_point_in mask region bits block
 present-common mask region box common grid bits block h =
     same_tests (list_any (lies_on grid) (points common)) (has_point_in mask region bits block)
     (λ e.
@@ -55,7 +58,8 @@ present-common mask region box common grid bits block h =
     any_point common (lies_on grid) at.0 ((h.both at.0).1 (at.1, both.0)) ((is_on_axes_iff grid.first grid.step at.0).1 both.1))
 
 -- the grid of a block has the block's axes
-pub grid_axes : (mask : List ℕ) (grid : Grid) (axes bits h block : ℕ) → (block ≡ 0 → IsGridUpTo mask axes bits grid) → (1 ≤ block → IsGridAt mask axes h grid) → (length grid.first ≡ axes) × (length grid.step ≡ axes)
+pub grid_axes : (mask : List ℕ) (grid : Grid) (axes bits h block : ℕ) → (block ≡ 0 → IsGridUpTo mask axes bits grid) →
+    (1 ≤ block → IsGridAt mask axes h grid) → (length grid.first ≡ axes) × (length grid.step ≡ axes)
 grid_axes mask grid axes bits h zero coarse fine =
     let is = coarse refl in
     (ap length is.first ∙ length-replicate axes 0, ap length is.step ∙ length-strides mask bits axes)
@@ -64,7 +68,10 @@ grid_axes mask grid axes bits h (suc block) coarse fine =
     (ap length is.first ∙ length-first_of mask h axes, ap length is.step ∙ length-strides mask (h - 1) axes)
 
 -- where the box and the block's box have no point in common, the block has none of the box
-pub absent-apart : (mask : List ℕ) (region box : List (ℕ × ℕ)) (grid : Grid) (bits block : ℕ) → ((p : List ℕ) → LiesIn region p → HasAddress mask p) → ((p : List ℕ) → IsInBlock mask (length region) bits block p ↔ (LiesIn box p × LiesOn grid p)) → ((p : List ℕ) × (LiesIn region p × LiesIn box p) → ⊥) → has_point_in mask region bits block ≡ false
+pub absent-apart : (mask : List ℕ) (region box : List (ℕ × ℕ)) (grid : Grid) (bits block : ℕ) →
+    ((p : List ℕ) → LiesIn region p → HasAddress mask p) →
+    ((p : List ℕ) → IsInBlock mask (length region) bits block p ↔ (LiesIn box p × LiesOn grid p)) →
+    ((p : List ℕ) × (LiesIn region p × LiesIn box p) → ⊥) → has_point_in mask region bits block ≡ false
 absent-apart mask region box grid bits block has is apart = none (has_point_in mask region bits block) refl
   where
     none : (b : Bool) → has_point_in mask region bits block ≡ b → has_point_in mask region bits block ≡ false

@@ -52,7 +52,9 @@ product_within s g r n before behind all count sum =
     omega (arith, whole, some)
 
 -- a block ends within its file
-pub ends_within : (l : Layout) (file field block : ℕ) → field < length l.sizes → file ≤ block → block < file + l.per_file → is_present l block ≡ true → offset_of l file field block + block_bytes l field ≤ length_of_file l file
+pub ends_within : (l : Layout) (file field block : ℕ) → field < length l.sizes → file ≤ block →
+    block < file + l.per_file → is_present l block ≡ true →
+    offset_of l file field block + block_bytes l field ≤ length_of_file l file
 ends_within l file field block within from to present =
     let blocks : List ℕ = present_blocks l file in
     let earlier : List ℕ = filter (is_present l) (range_with_len file (block - file)) in
@@ -60,7 +62,9 @@ ends_within l file field block within from to present =
     let count : length blocks ≡ length earlier + suc (length cut.0) = ap length cut.1 ∙ length-append earlier (block ∷ cut.0) in
     let before : length (filter (λ b. nat_lt b block) blocks) ≡ length earlier = ap length (present_before l file block from (omega arith)) in
     let sums = sums_within (block_bytes l) field (length l.sizes) within in
-    let fits = product_within (sum_by (block_bytes l) (range_with_len 0 field)) (block_bytes l field) sums.0 (length blocks) (length earlier) (length cut.0) (sum_by (block_bytes l) (range_with_len 0 (length l.sizes))) count sums.1 in
+    let fits = product_within (sum_by (block_bytes l) (range_with_len 0 field)) (block_bytes l field) sums.0
+    (length blocks) (length earlier) (length cut.0) (sum_by (block_bytes l) (range_with_len 0 (length l.sizes)))
+    count sums.1 in
     let offset = offset_of-sums l file field block within ∙ ap (λ k. table_bytes (row_count l) + (sum_by (block_bytes l) (range_with_len 0 field) * length blocks + block_bytes l field * k)) before in
     omega (arith, fits, offset, length_of_file-sums l file)
 
@@ -93,7 +97,9 @@ right_block l file field block fits within from to = by_test (is_present l block
     row : Bool → Row
     row b = cond b (record { offset = offset_of l file field block; size = block_bytes l field; flags = 0 }) (record { offset = 0; size = 0; flags = 0 })
 
-    by_test : (b : Bool) → is_present l block ≡ b → (fault_in (row_count l) (block_bytes l field) (length_of_file l file) (row_of_block l file field block) ≡ None) × IsRow (row_of_block l file field block)
+    by_test : (b : Bool) → is_present l block ≡ b →
+        (fault_in (row_count l) (block_bytes l field) (length_of_file l file) (row_of_block l file field block) ≡
+        None) × IsRow (row_of_block l file field block)
     by_test true is =
         let ends = ends_within l file field block within from to is in
         let begins = offset_of-sums l file field block within in
@@ -109,7 +115,9 @@ right_block l file field block fits within from to = by_test (is_present l block
         )
 
 right_place : (l : Layout) (file i : ℕ) → FitsRows l file → i < row_count l →
-    (fault_in (row_count l) (block_bytes l (i / l.per_file)) (length_of_file l file) (row_of_block l file (i / l.per_file) (file + i % l.per_file)) ≡ None) × IsRow (row_of_block l file (i / l.per_file) (file + i % l.per_file))
+    (fault_in (row_count l) (block_bytes l (i / l.per_file)) (length_of_file l file)
+    (row_of_block l file (i / l.per_file) (file + i % l.per_file)) ≡ None) × IsRow
+    (row_of_block l file (i / l.per_file) (file + i % l.per_file))
 right_place l file i fits h =
     let place = mod-lt i fits.places in
     right_block l file (i / l.per_file) (file + i % l.per_file) fits
@@ -123,7 +131,9 @@ rows_fit l file fits =
     subst IsRow (sym (row_at_place l file i none fits.places within)) (right_place l file i fits within).1)
 
 -- no row is faulty
-pub no_fault : (l : Layout) (volume : List (List (List ℕ))) (file : ℕ) → FitsRows l file → first_fault (file_bytes l volume file) (row_count l) (map (block_bytes l) (range_with_len 0 (length l.sizes))) (length_of_file l file) ≡ None
+pub no_fault : (l : Layout) (volume : List (List (List ℕ))) (file : ℕ) → FitsRows l file →
+    first_fault (file_bytes l volume file) (row_count l) (map (block_bytes l) (range_with_len 0 (length l.sizes)))
+    (length_of_file l file) ≡ None
 no_fault l volume file fits =
     let front : List ℕ = file_bytes l volume file in
     let rows : ℕ = row_count l in

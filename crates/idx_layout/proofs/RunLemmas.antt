@@ -46,7 +46,8 @@ run_absent mask region bits k c absent block low high = by_test (has_point_in ma
         absurd (wrong (sym (wider mask region bits k block e) ∙ same ∙ absent))
 
 -- of a run with a point one of its halves has one
-pub other_half : (mask : List ℕ) (region : List (ℕ × ℕ)) (bits c : ℕ) → has_point_in mask region (bits + 1) c ≡ true → has_point_in mask region bits (c * 2) ≡ false → has_point_in mask region bits (c * 2 + 1) ≡ true
+pub other_half : (mask : List ℕ) (region : List (ℕ × ℕ)) (bits c : ℕ) → has_point_in mask region (bits + 1) c ≡ true →
+    has_point_in mask region bits (c * 2) ≡ false → has_point_in mask region bits (c * 2 + 1) ≡ true
 other_half mask region bits c e absent =
     let at = point_found region _ e in
     let q : ℕ = hz_address mask at.0 / 2 ^ bits in
@@ -80,13 +81,16 @@ doubled number height = moved number (2 ^ height) ∙ ap (λ n. number * n) (sym
     moved n x = grind arith
 
 -- the halves of a run are there
-pub halves_exist : (mask : List ℕ) (bits height number : ℕ) → bits + (height + 1) ≤ length mask → number < 2 ^ (length mask - (bits + (height + 1))) → number * 2 + 1 < 2 ^ (length mask - (bits + height))
+pub halves_exist : (mask : List ℕ) (bits height number : ℕ) → bits + (height + 1) ≤ length mask →
+    number < 2 ^ (length mask - (bits + (height + 1))) → number * 2 + 1 < 2 ^ (length mask - (bits + height))
 halves_exist mask bits height number within exists =
     let more : length mask - (bits + height) ≡ length mask - (bits + (height + 1)) + 1 = omega arith in
     let twice : 2 ^ (length mask - (bits + height)) ≡ 2 ^ (length mask - (bits + (height + 1))) * 2 ^ 1 = ap (λ n. 2 ^ n) more ∙ pow-add 2 (length mask - (bits + (height + 1))) 1 in
     omega (arith, twice, exists)
 
-pub first_half : (mask : List ℕ) (region : List (ℕ × ℕ)) (bits first height number : ℕ) → Descends mask region bits first (height + 1) number → has_point_in mask region (bits + height) (number * 2) ≡ true → Descends mask region bits first height (number * 2)
+pub first_half : (mask : List ℕ) (region : List (ℕ × ℕ)) (bits first height number : ℕ) →
+    Descends mask region bits first (height + 1) number →
+    has_point_in mask region (bits + height) (number * 2) ≡ true → Descends mask region bits first height (number * 2)
 first_half mask region bits first height number is has = record {
   within = omega (arith, is.within);
   exists = omega (arith, halves_exist mask bits height number is.within is.exists);
@@ -95,7 +99,10 @@ first_half mask region bits first height number is has = record {
   before = λ block low high. is.before block low (omega (arith, high, doubled number height));
 }
 
-pub second_half : (mask : List ℕ) (region : List (ℕ × ℕ)) (bits first height number : ℕ) → Descends mask region bits first (height + 1) number → has_point_in mask region (bits + height) (number * 2) ≡ false → Descends mask region bits first height (number * 2 + 1)
+pub second_half : (mask : List ℕ) (region : List (ℕ × ℕ)) (bits first height number : ℕ) →
+    Descends mask region bits first (height + 1) number →
+    has_point_in mask region (bits + height) (number * 2) ≡ false →
+    Descends mask region bits first height (number * 2 + 1)
 second_half mask region bits first height number is absent =
     let x : ℕ = 2 ^ height in
     let start : (number * 2 + 1) * x ≡ number * 2 * x + x = one_more (number * 2) x in
@@ -116,7 +123,8 @@ second_half mask region bits first height number is absent =
     none block low high (suc d) e = run_absent mask region bits height (number * 2) absent block (omega (arith, e)) high
 
 -- the same with the height that is left
-pub one_lower : (mask : List ℕ) (region : List (ℕ × ℕ)) (bits first height number : ℕ) → 1 ≤ height → Descends mask region bits first height number → Descends mask region bits first (height - 1 + 1) number
+pub one_lower : (mask : List ℕ) (region : List (ℕ × ℕ)) (bits first height number : ℕ) → 1 ≤ height →
+    Descends mask region bits first height number → Descends mask region bits first (height - 1 + 1) number
 one_lower mask region bits first height number some is = subst (λ (h : ℕ). Descends mask region bits first h number) same is
   where
     same : height ≡ height - 1 + 1
@@ -138,7 +146,10 @@ behind_begins number height even =
     one_more n x = grind arith
 
 -- none before a run and none in it are none before the next
-pub none_before_next : (mask : List ℕ) (region : List (ℕ × ℕ)) (bits from height number end : ℕ) → NoneBetween mask region bits from (number * 2 ^ height) → has_point_in mask region (bits + height) number ≡ false → end ≡ number * 2 ^ height + 2 ^ height → NoneBetween mask region bits from end
+pub none_before_next : (mask : List ℕ) (region : List (ℕ × ℕ)) (bits from height number end : ℕ) →
+    NoneBetween mask region bits from (number * 2 ^ height) →
+    has_point_in mask region (bits + height) number ≡ false → end ≡ number * 2 ^ height + 2 ^ height →
+    NoneBetween mask region bits from end
 none_before_next mask region bits from height number end before absent is block low high = by_distance (block + 1 - number * 2 ^ height) refl
   where
     one_more : (n x : ℕ) → (n + 1) * x ≡ n * x + x
@@ -171,7 +182,9 @@ begins_past number height digits within past =
     cut = omega arith
 
 -- none up to a block and none from it on
-pub none_joined : (mask : List ℕ) (region : List (ℕ × ℕ)) (bits from middle end : ℕ) → NoneBetween mask region bits from middle → NoneBetween mask region bits middle end → NoneBetween mask region bits from end
+pub none_joined : (mask : List ℕ) (region : List (ℕ × ℕ)) (bits from middle end : ℕ) →
+    NoneBetween mask region bits from middle → NoneBetween mask region bits middle end →
+    NoneBetween mask region bits from end
 none_joined mask region bits from middle end before behind block low high = by_distance (block + 1 - middle) refl
   where
     by_distance : (d : ℕ) → block + 1 - middle ≡ d → has_point_in mask region bits block ≡ false

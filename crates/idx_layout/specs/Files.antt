@@ -2,7 +2,7 @@
 -- field and within a field block after block (this project's own layout).
 use Rattle.std.specs.Prelude.{◌<◌, ◌≤◌, ◌^◌, ℕ, Bool, ◌+◌, ◌*◌, ◌==◌, ◌&&◌, ◌||◌, nat_lt, if◌then◌else◌, List, ◌++◌, length, map, filter, sum_by, replicate}
 use Rattle.std.specs.List.{flat_map, range_with_len, zip}
-use Rattle.idx_table.specs.Row.{row_bytes}
+use Rattle.idx_table.specs.Row.{absent, raw, row_bytes, row_length}
 use Rattle.idx_table.specs.Table.{table_bytes}
 use Rattle.idx_table.specs.declared.row.Row.{Row}
 use Rattle.idx_layout.specs.Layout.{Layout, block_bytes, is_present, present_blocks, block_of_samples}
@@ -29,8 +29,8 @@ offset_of l file field block =
 -- the row of a block: that of an absent block is all zeros
 abbrev pub row_of_block : Layout → ℕ → ℕ → ℕ → Row
 row_of_block l file field block =
-    if is_present l block then record { offset = offset_of l file field block; size = block_bytes l field; flags = 0 }
-    else record { offset = 0; size = 0; flags = 0 }
+    if is_present l block then record { offset = offset_of l file field block; size = block_bytes l field; flags = raw }
+    else absent
 
 -- the rows of a file: for each field one for each of its block places
 abbrev pub rows_of_file : Layout → ℕ → List Row
@@ -49,7 +49,7 @@ blocks_of_file l volume file =
 -- the bytes of a file of a volume: forty zeros, the rows, and the blocks
 abbrev pub file_bytes : Layout → List (List (List ℕ)) → ℕ → List ℕ
 file_bytes l volume file =
-    replicate 40 0 ++ flat_map row_bytes (rows_of_file l file) ++ blocks_of_file l volume file
+    replicate row_length 0 ++ flat_map row_bytes (rows_of_file l file) ++ blocks_of_file l volume file
 
 -- what can be written as such a file: there are fields and places for blocks, a block's bytes fit a row's word, and the
 -- file's bytes the two words of an offset

@@ -1,11 +1,12 @@
 -- How the samples of a dataset are laid out: in blocks of consecutive hierarchical addresses, and in files of consecutive
 -- blocks (the IDX format of ViSUS; Pascucci and Frank 2001).
-use Rattle.std.specs.Prelude.{ℕ, Bool, ◌-◌, ◌*◌, ◌/◌, ◌^◌, ◌==◌, ◌&&◌, List, length, filter, find, replicate, slice_index}
+use Rattle.std.specs.Prelude.{ℕ, Bool, ◌*◌, ◌/◌, ◌^◌, ◌==◌, ◌&&◌, List, length, filter, find, replicate, slice_index}
 use Rattle.std.specs.List.{list_any, flat_map, range_with_len}
 use Rattle.std.specs.Option.{option_map_or}
 use Rattle.idx_hz.specs.Address.{hz_address}
 use Rattle.idx_geom.specs.Region.{points}
 use Rattle.idx_geom.specs.Volume.{sample_at}
+use Rattle.idx_header.specs.Header.{blocks_under, samples_bytes}
 
 -- what decides where each sample stands: the mask's digits, the dataset's box, how many blocks of 2^bits addresses there
 -- are in a file, and the bytes of a sample of each field
@@ -18,11 +19,11 @@ pub record Layout : Type 0 where
 
 -- how many blocks there are, present or not
 abbrev pub block_count : Layout → ℕ
-block_count l = 2 ^ (length l.mask - l.bits)
+block_count l = blocks_under (length l.mask) l.bits
 
 -- how many bytes a block of a field has
 abbrev pub block_bytes : Layout → ℕ → ℕ
-block_bytes l field = slice_index l.sizes field * 2 ^ l.bits
+block_bytes l field = samples_bytes (slice_index l.sizes field) l.bits
 
 -- some point of a box has its address in a block of 2^bits addresses
 abbrev pub has_point_in : List ℕ → List (ℕ × ℕ) → ℕ → ℕ → Bool

@@ -12,6 +12,7 @@ use crate::present_files::Files;
 use crate::rows_in_file::FileRows;
 use crate::{blocks_with_points, has_point_in};
 use idx_header::Header;
+use idx_table::table_bytes;
 
 /// Whether a block is present: some point of the header's box has its address in it. The answer takes a few operations
 /// an axis.
@@ -98,7 +99,7 @@ pub fn table_len(header: &Header) -> u64
     ensures fields { length header.now.fields ≤ 64 }
     ensures valid { IsHeader header.now }
 {
-    40 + 40 * u64::from(header.field_count()) * header.blocks_per_file()
+    table_bytes(u64::from(header.field_count()) * header.blocks_per_file())
 }
 
 /// The number of the file of a block, where files hold so many blocks.

@@ -1,46 +1,69 @@
 use crate::{Template, TimeTemplate, file_path, file_path_of_step, step_folder};
 use idx_outside::Bytes;
-use std::test::Fail;
+use std::alloc::Global;
 
-#[test]
-fn templates_are_read_and_written(rt: HostRuntime) -> Result<(), Fail> {
-    let read = Template::read(rt.alloc(), b"./d/%02x/./%02x.bin")?;
-    let template = read.expect(&rt, "a template");
-    let copy = template.copy(rt.alloc())?;
-    assert!(rt; template.equals(&copy));
-    assert!(rt; template.fits(0xffff));
-    assert!(rt; !template.fits(0x10000));
-    let mut text = Bytes::from_slice(rt.alloc(), b"./")?;
-    template.write(&mut text)?;
-    assert_eq!(rt; text.as_slice(), b"./d/%02x/%02x.bin".as_slice());
-    assert!(rt; Template::read(rt.alloc(), b"../%01x")?.is_none());
-    Ok(())
+/// The template of a text.
+fn template(alloc: Global, text: &[u8]) -> Option<Template> {
+    Template::read(alloc, text).ok()?
+}
+
+/// The time template of a text.
+fn time_template(alloc: Global, text: &[u8]) -> Option<TimeTemplate> {
+    TimeTemplate::read(alloc, text).ok()?
+}
+
+/// What a copy of the template of a text writes.
+fn rewritten(alloc: Global, text: &[u8]) -> Option<Bytes> {
+    let copy = template(alloc, text)?.copy(alloc).ok()?;
+    let mut out = Bytes::new(alloc);
+    copy.write(&mut out).ok()?;
+    Some(out)
+}
+
+/// What a copy of the time template of a text writes.
+fn time_rewritten(alloc: Global, text: &[u8]) -> Option<Bytes> {
+    let copy = time_template(alloc, text)?.copy(alloc).ok()?;
+    let mut out = Bytes::new(alloc);
+    copy.write(&mut out).ok()?;
+    Some(out)
+}
+
+/// Whether these are the bytes.
+fn are(bytes: Option<Bytes>, wanted: &[u8]) -> bool {
+    match bytes {
+        Some(bytes) => bytes.as_slice() == wanted,
+        None => false,
+    }
 }
 
 #[test]
-fn time_templates_are_read_and_written(rt: HostRuntime) -> Result<(), Fail> {
-    let read = TimeTemplate::read(rt.alloc(), b"time%04d/")?;
-    let time = read.expect(&rt, "a time template");
-    let copy = time.copy(rt.alloc())?;
-    assert!(rt; time.equals(&copy));
-    let mut text = Bytes::new(rt.alloc());
-    time.write(&mut text)?;
-    assert_eq!(rt; text.as_slice(), b"time%04d/".as_slice());
-    assert!(rt; TimeTemplate::read(rt.alloc(), b"time%04d")?.is_none());
-    Ok(())
+fn templates_are_read_and_written(rt: HostRuntime) {
+    let alloc = rt.alloc();
+    assert!(rt; are(rewritten(alloc, b"./d/%02x/./%02x.bin"), b"d/%02x/%02x.bin"));
+    assert!(rt; are(time_rewritten(alloc, b"time%04d/"), b"time%04d/"));
+    assert!(rt; rewritten(alloc, b"../%01x").is_none());
+}
+
+/// The path of a file where there are no steps.
+fn path(alloc: Global) -> Option<Bytes> {
+    file_path(alloc, &template(alloc, b"./d/%02x/%02x.bin")?, 0x1_abcd).ok()
+}
+
+/// The path of a file of a step.
+fn path_of_step(alloc: Global) -> Option<Bytes> {
+    let template = template(alloc, b"./d/%02x/%02x.bin")?;
+    file_path_of_step(alloc, &template, &time_template(alloc, b"time%04d/")?, 3, 0x1204).ok()
+}
+
+/// The path of a step's folder.
+fn folder(alloc: Global) -> Option<Bytes> {
+    let template = template(alloc, b"./d/%02x/%02x.bin")?;
+    step_folder(alloc, &template, &time_template(alloc, b"time%04d/")?, 3).ok()
 }
 
 #[test]
-fn paths_are_made(rt: HostRuntime) -> Result<(), Fail> {
-    let read = Template::read(rt.alloc(), b"./d/%02x/%02x.bin")?;
-    let template = read.expect(&rt, "a template");
-    let read = TimeTemplate::read(rt.alloc(), b"time%04d/")?;
-    let time = read.expect(&rt, "a time template");
-    let path = file_path_of_step(rt.alloc(), &template, &time, 3, 0x1204)?;
-    assert_eq!(rt; path.as_slice(), b"d/time0003/12/04.bin".as_slice());
-    let folder = step_folder(rt.alloc(), &template, &time, 3)?;
-    assert_eq!(rt; folder.as_slice(), b"d/time0003".as_slice());
-    let path = file_path(rt.alloc(), &template, 0x1_abcd)?;
-    assert_eq!(rt; path.as_slice(), b"d/1ab/cd.bin".as_slice());
-    Ok(())
+fn paths_are_made(rt: HostRuntime) {
+    assert!(rt; are(path(rt.alloc()), b"d/1ab/cd.bin"));
+    assert!(rt; are(path_of_step(rt.alloc()), b"d/time0003/12/04.bin"));
+    assert!(rt; are(folder(rt.alloc()), b"d/time0003"));
 }

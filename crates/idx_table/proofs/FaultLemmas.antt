@@ -136,7 +136,9 @@ pub kind_of_row-cut : (front : List ℕ) (rows : ℕ) (blocks : List ℕ) (len i
 kind_of_row-cut front rows blocks len i h = rw (lt-ltb len (40 + 40 * (i + 1)) h) refl
 
 -- a row that stands in the file whole
-pub kind_of_row-whole : (front : List ℕ) (rows : ℕ) (blocks : List ℕ) (len i : ℕ) → table_bytes (i + 1) ≤ len → kind_of_row front rows blocks len i ≡ fault_in rows (slice_index blocks (field_of rows (length blocks) i)) len (row_at front i)
+pub kind_of_row-whole : (front : List ℕ) (rows : ℕ) (blocks : List ℕ) (len i : ℕ) → table_bytes (i + 1) ≤ len →
+    kind_of_row front rows blocks len i ≡ fault_in rows (slice_index blocks (field_of rows (length blocks) i)) len
+    (row_at front i)
 kind_of_row-whole front rows blocks len i h = rw (le-ltb len (40 + 40 * (i + 1)) h) refl
 
 -- a row that is not faulty stands in the file whole

@@ -12,6 +12,18 @@ pub record IsRow (row : Row) : Type 0 where
   pub size : row.size < 2 ^ 32
   pub flags : row.flags < 2 ^ 32
 
+-- the flags of a block whose samples are raw and in hierarchical Z order
+abbrev pub raw : ℕ
+raw = 0
+
+-- the row of a block that its file lacks
+abbrev pub absent : Row
+absent = record { offset = 0; size = 0; flags = raw }
+
+-- how many bytes a row has; a table begins with as many bytes of 0
+abbrev pub row_length : ℕ
+row_length = 40
+
 -- the word with this number, counted from 0
 abbrev pub word_at : ℕ → List ℕ → ℕ
 word_at place bytes = big_number 4 (drop (4 * place) bytes)

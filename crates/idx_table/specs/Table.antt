@@ -3,7 +3,7 @@
 use Rattle.std.specs.Prelude.{◌≡◌, ℕ, Bool, ◌<◌, ◌+◌, ◌*◌, ◌/◌, ◌==◌, ◌||◌, nat_lt, if◌then◌else◌, List, length, map, take, drop, slice_get, slice_index, Option, Some, None}
 use Rattle.std.specs.Option.{option_map}
 use Rattle.std.specs.List.{filter_map, range_with_len}
-use Rattle.idx_table.specs.Row.{row_of}
+use Rattle.idx_table.specs.Row.{raw, row_length, row_of}
 use Rattle.idx_table.specs.declared.row.Row.{Row}
 use Rattle.idx_table.specs.declared.table_fault.TableFault.{TableFault}
 use Rattle.idx_table.specs.declared.table_fault.TableKind.{TableKind}
@@ -11,11 +11,11 @@ use Rattle.idx_table.specs.declared.table_fault.TableKind.TheVariants.{CutShort,
 
 -- how many bytes a table of so many rows has; row i ends where a table of i + 1 rows does
 abbrev pub table_bytes : ℕ → ℕ
-table_bytes rows = 40 + 40 * rows
+table_bytes rows = row_length + row_length * rows
 
 -- row i of the table with which a file begins
 abbrev pub row_at : List ℕ → ℕ → Row
-row_at front i = row_of (take 40 (drop (table_bytes i) front))
+row_at front i = row_of (take row_length (drop (table_bytes i) front))
 
 -- all of so many rows
 abbrev pub rows_of : List ℕ → ℕ → List Row
@@ -29,7 +29,7 @@ field_of rows fields i = i / (rows / fields)
 abbrev pub is_outside : ℕ → ℕ → Row → Bool
 is_outside rows len row = nat_lt row.offset (table_bytes rows) || nat_lt len (row.offset + row.size)
 
--- the flags of a block whose samples are raw and in row-major order; those of raw samples in hierarchical Z order are 0
+-- the flags of a block whose samples are raw and in row-major order
 abbrev pub row_major : ℕ
 row_major = 16
 
@@ -39,7 +39,7 @@ abbrev pub fault_in : ℕ → ℕ → ℕ → Row → Option TableKind
 fault_in rows size len row =
     if row.size == 0 then None
     else if row.flags == row_major then Some RowMajor
-    else if nat_lt 0 row.flags then Some Compressed
+    else if nat_lt raw row.flags then Some Compressed
     else if nat_lt row.size size || nat_lt size row.size then Some WrongSize
     else if is_outside rows len row then Some OutsideFile
     else None

@@ -1,4 +1,4 @@
-ghost use Rattle.std.specs.Prelude.{◌≡◌, ◌≢◌, ◌↔◌, ℕ, ◌+◌, ◌*◌, ◌/◌, ◌%◌, ◌<◌, ◌≤◌, min, length, slice_index, slice_get, Some, None, IfOk, IfErr};
+ghost use Rattle.std.specs.Prelude.{◌≡◌, ◌≢◌, ◌↔◌, ℕ, ◌+◌, ◌*◌, ◌/◌, ◌%◌, ◌^◌, ◌<◌, ◌≤◌, min, length, slice_index, slice_get, Some, None, IfOk, IfErr};
 ghost use Rattle.idx_table.specs.Table.{table_bytes, row_at, rows_of, field_of, is_outside, fault_in, kind_of_row, first_fault};
 
 use crate::row::{RAW, ROW_BYTES, ROW_MAJOR, Row, row_in};
@@ -6,6 +6,9 @@ use crate::table_fault::{TableFault, TableKind};
 use idx_outside::NoMemory;
 use std::alloc::Global;
 use std::marker::Model;
+
+/// How many bytes a row has.
+const ROW: u64 = ROW_BYTES as u64;
 
 /// The table of the blocks of a file, seen as its rows: field after field, and within a field block after block.
 #[derive(Debug, Drop)]
@@ -51,6 +54,21 @@ impl Table {
                 kind: TableKind::NoMemory,
             }),
         }
+    }
+
+    /// The table of rows, without another look at them. Takes no memory.
+    pub fn of_rows(rows: Vec<Row>) -> Table
+        ensures { result ≡ rows.items }
+    {
+        Table { rows }
+    }
+
+    /// The rows of the table. Takes no memory.
+    pub fn into_rows(self) -> Vec<Row>
+        ensures { result.items ≡ self }
+    {
+        let Table { rows } = self;
+        rows
     }
 
     /// How many rows there are.
@@ -99,11 +117,19 @@ fn kind_of_row(front: &[u8], rows: u64, block: &Vec<u64>, len: u64, i: u64) -> O
     fault_in(rows, block[field as usize], len, &row_at(front, i))
 }
 
+/// How many bytes a table of so many rows has.
+pub fn table_bytes(rows: u64) -> u64
+    requires { rows ≤ 2 ^ 48 }
+    ensures { result ≡ table_bytes rows }
+{
+    ROW + ROW * rows
+}
+
 /// How many rows of a table stand whole in a file of so many bytes.
 fn whole_rows(len: u64) -> u64
     ensures { (i : ℕ) → (i < result) ↔ (table_bytes (i + 1) ≤ len) }
 {
-    len.saturating_sub(ROW_BYTES as u64) / ROW_BYTES as u64
+    len.saturating_sub(ROW) / ROW
 }
 
 /// The field of a row.
@@ -140,7 +166,7 @@ fn fault_in(rows: u64, size: u64, len: u64, row: &Row) -> Option<TableKind>
 fn is_outside(rows: u64, len: u64, row: &Row) -> bool
     ensures { result ≡ is_outside rows len row.now }
 {
-    let is_in_table = row.offset / ROW_BYTES as u64 <= rows;
+    let is_in_table = row.offset / ROW <= rows;
     is_in_table || row.offset > len || u64::from(row.size) > len - row.offset
 }
 

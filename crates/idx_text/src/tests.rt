@@ -1,6 +1,10 @@
-use crate::{read_box, read_number, read_numbers, trim_blanks, write_number};
+use crate::{Document, TextFault, read_box, read_number, read_numbers, trim_blanks, write_number};
 use idx_outside::Bytes;
 use std::test::Fail;
+
+/// A text with both kinds of line ends, blank lines, and a value over several lines.
+const TEXT: &[u8] =
+    b"passed over\r\n (version) \n6\n\n(fields)\r\n p 1*float64 +\n\n\tv 3*float64\r\n(note)";
 
 #[test]
 fn texts_are_read(rt: HostRuntime) -> Result<(), Fail> {
@@ -22,4 +26,26 @@ fn numbers_are_written_and_blanks_go(rt: HostRuntime) -> Result<(), Fail> {
     assert_eq!(rt; trim_blanks(b" \t(a b) \t"), b"(a b)".as_slice());
     assert!(rt; trim_blanks(b" \t ").is_empty());
     Ok(())
+}
+
+#[test]
+fn keys_are_read(rt: HostRuntime) -> Result<(), Fail> {
+    let document = Document::read(rt.alloc(), TEXT)?;
+    assert_eq!(rt; document.lines, 9);
+    assert_eq!(rt; document.sections.len(), 3);
+    let fields = &document.sections[1];
+    assert_eq!(rt; fields.line, 5);
+    assert_eq!(rt; fields.key.as_slice(), b"fields".as_slice());
+    assert_eq!(rt;
+        fields.value.as_slice(),
+        b"p 1*float64 + v 3*float64".as_slice()
+    );
+    assert!(rt; document.sections[2].value.is_empty());
+    Ok(())
+}
+
+#[test]
+fn the_first_wrong_line_is_answered(rt: HostRuntime) {
+    let read = Document::read(rt.alloc(), b"(a)\r\n\r\r\n\x01");
+    assert!(rt; matches!(read, Err(TextFault::NotText { line: 2 })));
 }

@@ -2,7 +2,7 @@
 use Rattle.std.proofs.Common.{◌≡◌, ℕ, List, [], ◌∷◌, ◌++◌, codes, refl, sym, ap, ◌∙◌, append_assoc, inl, inr}
 use Rattle.idx_hz.specs.Guess.{guessed_mask}
 use Rattle.idx_hz.specs.MaskText.{mask_text}
-use Rattle.idx_lines.specs.Entries.{entry_text}
+use Rattle.idx_text.specs.Entries.{entry_text}
 use Rattle.idx_header.specs.declared.key.Key.TheVariants as keys
 use Rattle.idx_header.specs.Written.{entry}
 use Rattle.idx_words.specs.ConvertValue.{ConvertValue}

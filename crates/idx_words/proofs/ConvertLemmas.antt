@@ -8,7 +8,7 @@ use Rattle.idx_words.specs.declared.convert_word.ConvertWord.TheVariants as word
 use Rattle.idx_words.specs.ConvertGrammar.{is_text}
 use Rattle.idx_words.specs.ConvertWord.{place_of, is_right_at}
 use Rattle.idx_words.specs.PathWord.{is_path}
-use Rattle.idx_words.specs.Place.{Begins}
+use Rattle.idx_words.specs.Place.{SomeListBegins}
 use Rattle.idx_words.specs.Words.{AreSomeConvertWords}
 use Rattle.idx_words.proofs.PathLemmas.{path_r}
 use Rattle.idx_words.proofs.RightLemmas.{AreRight, AreRightBelow, Fault, Follow, IsWrong, nth, placed, there, goes_on, right_words, wrong_word}
@@ -127,7 +127,7 @@ unfolding some_words
 some_right = (path_r, (path_r, (text_r, (text_r, (text_r, (text_r, (text_r, (text_r, (text_r, (number_0, tt))))))))))
 
 -- some list begins with no words
-pub convert_goes_on : (ws : List (List ℕ)) → Begins AreSomeConvertWords ws 0
+pub convert_goes_on : (ws : List (List ℕ)) → SomeListBegins AreSomeConvertWords ws 0
 convert_goes_on = goes_on IsRightAt words.Dataset right_some order AreSomeConvertWords to_right from_right some_words some_right
 
 -- the words are right

@@ -15,7 +15,7 @@ use Rattle.idx_words.specs.PathWord.{is_path}
 use Rattle.idx_words.specs.CutGrammar.{AreCutWords}
 use Rattle.idx_words.specs.CutSteps.{IsSize, IsBox, IsMaskOf, IsRegionIn, IsLevel}
 use Rattle.idx_words.specs.CutWord.{place_of}
-use Rattle.idx_words.specs.Place.{Begins, IsPlace}
+use Rattle.idx_words.specs.Place.{SomeListBegins, IsPlace}
 use Rattle.idx_words.specs.WordAt.{word_at}
 use Rattle.idx_words.specs.Words.{AreSomeCutWords}
 use Rattle.idx_words.proofs.BoxLemmas.{spelled-once}
@@ -64,7 +64,7 @@ more_first : (ws front : List (List ℕ)) (k : ℕ) → k < length ws → take k
 more_first ws front k h e = take_more ws k [] h ∙ ap (λ t. t ++ word_at ws k ∷ []) e
 
 -- a list with these words in front goes on
-begun : (ws front : List (List ℕ)) (k : ℕ) → take k ws ≡ front → GoOn front → Begins AreSomeCutWords ws k
+begun : (ws front : List (List ℕ)) (k : ℕ) → take k ws ≡ front → GoOn front → SomeListBegins AreSomeCutWords ws k
 begun ws front k e h = (h.0, subst (λ t. AreSomeCutWords (t ++ h.0)) (sym e) h.1)
 
 -- ---- a right word is there
@@ -109,7 +109,7 @@ pub record Fault (ws : List (List ℕ)) (k : ℕ) : Type 0 where
   pub place : IsPlace AreSomeCutWords ws k
   pub none : (c : CutWords) → AreCutWords ws c → ⊥
 
-fault_at : (ws : List (List ℕ)) (k : ℕ) → k ≤ length ws → Begins AreSomeCutWords ws k → NoneFirst ws (k + 1) → Fault ws k
+fault_at : (ws : List (List ℕ)) (k : ℕ) → k ≤ length ws → SomeListBegins AreSomeCutWords ws k → NoneFirst ws (k + 1) → Fault ws k
 fault_at ws k within begins none = record {
   place = IsPlace-at AreSomeCutWords ws k within begins (λ less longer. none (take (k + 1) ws ++ longer.0) (begun_same ws longer.0 (k + 1) (omega arith)) longer.1.0 longer.1.1);
   none = none ws (λ j less. refl);
@@ -150,7 +150,9 @@ module _ (ws : List (List ℕ)) where
 
       pub wrong_extent : ((b : List (ℕ × ℕ)) → IsBox s (word_at ws 2) b → ⊥) → Fault ws 2
       wrong_extent wrong = fault_at ws 2 within2 (begun ws _ 2 front2 (on_box (word_at ws 0) raw (word_at ws 1) s size))
-          (λ others same c h. wrong c.extent (subst (λ w. IsBox s w c.extent) (same 2 (omega arith)) (subst (λ n. IsBox n (word_at others 2) c.extent) (same_size others 3 (omega arith) same c h) (steps others c h).extent)))
+          (λ others same c h. wrong c.extent (subst (λ w. IsBox s w c.extent) (same 2 (omega arith))
+          (subst (λ n. IsBox n (word_at others 2) c.extent) (same_size others 3 (omega arith) same c h)
+          (steps others c h).extent)))
 
       module _ (b : List (ℕ × ℕ)) (box : IsBox s (word_at ws 2) b) where
         within3 : 3 ≤ length ws
@@ -164,7 +166,9 @@ module _ (ws : List (List ℕ)) where
 
         pub wrong_mask : ((m : List ℕ) → IsMaskOf b (word_at ws 3) m → ⊥) → Fault ws 3
         wrong_mask wrong = fault_at ws 3 within3 (begun ws _ 3 front3 (on_mask (word_at ws 0) raw (word_at ws 1) s size (word_at ws 2) b box))
-            (λ others same c h. wrong c.mask (subst (λ w. IsMaskOf b w c.mask) (same 3 (omega arith)) (subst (λ r. IsMaskOf r (word_at others 3) c.mask) (same_extent others 4 (omega arith) same c h) (steps others c h).mask)))
+            (λ others same c h. wrong c.mask (subst (λ w. IsMaskOf b w c.mask) (same 3 (omega arith))
+            (subst (λ r. IsMaskOf r (word_at others 3) c.mask) (same_extent others 4 (omega arith) same c h)
+            (steps others c h).mask)))
 
         module _ (m : List ℕ) (mask : IsMaskOf b (word_at ws 3) m) where
           within4 : 4 ≤ length ws
@@ -178,7 +182,9 @@ module _ (ws : List (List ℕ)) where
 
           pub wrong_region : ((r : List (ℕ × ℕ)) → IsRegionIn b (word_at ws 4) r → ⊥) → Fault ws 4
           wrong_region wrong = fault_at ws 4 within4 (begun ws _ 4 front4 (on_region (word_at ws 0) raw (word_at ws 1) s size (word_at ws 2) b box (word_at ws 3) m mask))
-              (λ others same c h. wrong c.region (subst (λ w. IsRegionIn b w c.region) (same 4 (omega arith)) (subst (λ r. IsRegionIn r (word_at others 4) c.region) (same_extent others 5 (omega arith) same c h) (steps others c h).region)))
+              (λ others same c h. wrong c.region (subst (λ w. IsRegionIn b w c.region) (same 4 (omega arith))
+              (subst (λ r. IsRegionIn r (word_at others 4) c.region) (same_extent others 5 (omega arith) same c h)
+              (steps others c h).region)))
 
           module _ (r : List (ℕ × ℕ)) (region : IsRegionIn b (word_at ws 4) r) where
             within5 : 5 ≤ length ws
@@ -189,7 +195,9 @@ module _ (ws : List (List ℕ)) where
 
             pub wrong_lo : ((l : ℕ) → IsLevel 0 (length m) (word_at ws 5) l → ⊥) → Fault ws 5
             wrong_lo wrong = fault_at ws 5 within5 (begun ws _ 5 front5 (on_lo (word_at ws 0) raw (word_at ws 1) s size (word_at ws 2) b box (word_at ws 3) m mask (word_at ws 4) r region))
-                (λ others same c h. wrong c.lo (subst (λ w. IsLevel 0 (length m) w c.lo) (same 5 (omega arith)) (subst (λ d. IsLevel 0 (length d) (word_at others 5) c.lo) (same_mask others 6 (omega arith) same c h) (steps others c h).lo)))
+                (λ others same c h. wrong c.lo (subst (λ w. IsLevel 0 (length m) w c.lo) (same 5 (omega arith))
+                (subst (λ d. IsLevel 0 (length d) (word_at others 5) c.lo)
+                (same_mask others 6 (omega arith) same c h) (steps others c h).lo)))
 
             module _ (l : ℕ) (lo : IsLevel 0 (length m) (word_at ws 5) l) where
               within6 : 6 ≤ length ws
@@ -202,7 +210,9 @@ module _ (ws : List (List ℕ)) where
               same_lo others n more same c h = same_Some _ _ (sym (steps others c h).lo.spelled ∙ ap number_of (same 5 (omega arith)) ∙ lo.spelled)
 
               pub wrong_hi : ((h : ℕ) → IsLevel l (length m) (word_at ws 6) h → ⊥) → Fault ws 6
-              wrong_hi wrong = fault_at ws 6 within6 (begun ws _ 6 front6 (on_hi (word_at ws 0) raw (word_at ws 1) s size (word_at ws 2) b box (word_at ws 3) m mask (word_at ws 4) r region (word_at ws 5) l lo))
+              wrong_hi wrong = fault_at ws 6 within6
+                  (begun ws _ 6 front6 (on_hi (word_at ws 0) raw (word_at ws 1) s size (word_at ws 2) b box
+                  (word_at ws 3) m mask (word_at ws 4) r region (word_at ws 5) l lo))
                   (λ others same c h. wrong c.hi (subst (λ w. IsLevel l (length m) w c.hi) (same 6 (omega arith))
                   (subst (λ n. IsLevel n (length m) (word_at others 6) c.hi) (same_lo others 7 (omega arith) same c h)
                   (subst (λ d. IsLevel c.lo (length d) (word_at others 6) c.hi) (same_mask others 7 (omega arith) same c h) (steps others c h).hi))))
@@ -217,7 +227,9 @@ module _ (ws : List (List ℕ)) where
                 -- there is a word more
                 pub wrong_end : 7 < length ws → Fault ws 7
                 wrong_end more = record {
-                  place = IsPlace-at AreSomeCutWords ws 7 within7 (begun ws _ 7 front7 (on_end (word_at ws 0) raw (word_at ws 1) s size (word_at ws 2) b box (word_at ws 3) m mask (word_at ws 4) r region (word_at ws 5) l lo (word_at ws 6) h hi))
+                  place = IsPlace-at AreSomeCutWords ws 7 within7
+                      (begun ws _ 7 front7 (on_end (word_at ws 0) raw (word_at ws 1) s size (word_at ws 2) b box
+                      (word_at ws 3) m mask (word_at ws 4) r region (word_at ws 5) l lo (word_at ws 6) h hi))
                       (λ less longer.
                       let room : length (take 8 ws) ≡ 8 = length-take-le 8 ws (omega arith) in
                       absurd (omega (arith, (steps (take 8 ws ++ longer.0) longer.1.0 longer.1.1).count, length-append (take 8 ws) longer.0)));
@@ -258,7 +270,9 @@ module _ (found : Result CutWords CutWord) (word : CutWord) (ws : List (List ℕ
       none same is = cc
 
 -- an answer with the values of right words
-pub found_once : (ws : List (List ℕ)) (value : CutWords) → AreCutWords ws value → ((c : CutWords) → AreCutWords ws c → value ≡ c) → (c : CutWords) → (◌≡◌ {A = Result CutWords CutWord} (Ok value) (Ok c)) ↔ AreCutWords ws c
+pub found_once : (ws : List (List ℕ)) (value : CutWords) → AreCutWords ws value →
+    ((c : CutWords) → AreCutWords ws c → value ≡ c) → (c : CutWords) →
+    (◌≡◌ {A = Result CutWords CutWord} (Ok value) (Ok c)) ↔ AreCutWords ws c
 found_once ws value whole once c = ((λ same. subst (AreCutWords ws) (same_value same) whole), (λ words. ap Ok (once c words)))
   where
     same_value : ◌≡◌ {A = Result CutWords CutWord} (Ok value) (Ok c) → value ≡ c

@@ -2,7 +2,7 @@
 use Rattle.std.proofs.Common.{◌≡◌, ℕ, zero, suc, ◌+◌, ◌<◌, ◌≤◌, List, ◌∷◌, ◌++◌, length, take, drop, sym, ap, ◌∙◌, subst, arith, append_assoc, ⊎_elim}
 use Rattle.std.proofs.lemmas.Bool.{cases_lt}
 use Rattle.std.proofs.lemmas.List.{take-append-drop, take-take}
-use Rattle.idx_words.specs.Place.{Begins, IsPlace}
+use Rattle.idx_words.specs.Place.{SomeListBegins, IsPlace}
 
 -- the place of a fault is one
 pub IsPlace-once : (G : List (List ℕ) → Type 0) (words : List (List ℕ)) (a b : ℕ) → IsPlace G words a → IsPlace G words b → a ≡ b
@@ -15,21 +15,22 @@ IsPlace-once G words a b here there = ⊎_elim
     (cases_lt a b)
 
 -- a list that begins with some words begins with the first of them
-pub Begins-less : (G : List (List ℕ) → Type 0) (words : List (List ℕ)) (m n : ℕ) → m ≤ n → Begins G words n → Begins G words m
-Begins-less G words m n less h =
+pub SomeListBegins-less : (G : List (List ℕ) → Type 0) (words : List (List ℕ)) (m n : ℕ) → m ≤ n → SomeListBegins G words n → SomeListBegins G words m
+SomeListBegins-less G words m n less h =
     let parts : take m words ++ drop m (take n words) ≡ take n words = ap (λ t. t ++ drop m (take n words)) (sym (take-take m n words less)) ∙ take-append-drop m (take n words) in
     (drop m (take n words) ++ h.0, subst G (ap (λ t. t ++ h.0) (sym parts) ∙ append_assoc (take m words) (drop m (take n words)) h.0) h.1)
 
 -- the first word behind those that begin some list, if none begins with it too
-pub IsPlace-at : (G : List (List ℕ) → Type 0) (words : List (List ℕ)) (at : ℕ) → at ≤ length words → Begins G words at → (at < length words → ¬ Begins G words (at + 1)) → IsPlace G words at
+pub IsPlace-at : (G : List (List ℕ) → Type 0) (words : List (List ℕ)) (at : ℕ) → at ≤ length words →
+    SomeListBegins G words at → (at < length words → ¬ SomeListBegins G words (at + 1)) → IsPlace G words at
 IsPlace-at G words at within begun wrong = record {
   within = within;
-  before = λ k less. Begins-less G words (k + 1) at (omega arith) begun;
+  before = λ k less. SomeListBegins-less G words (k + 1) at (omega arith) begun;
   wrong = wrong;
 }
 
 -- the first word
-pub IsPlace-first : (G : List (List ℕ) → Type 0) (words : List (List ℕ)) → (0 < length words → ¬ Begins G words 1) → IsPlace G words 0
+pub IsPlace-first : (G : List (List ℕ) → Type 0) (words : List (List ℕ)) → (0 < length words → ¬ SomeListBegins G words 1) → IsPlace G words 0
 IsPlace-first G words wrong = record {
   within = omega arith;
   before = λ k less. absurd (omega arith);
@@ -39,27 +40,27 @@ IsPlace-first G words wrong = record {
 -- One word more stands in front: H has behind it the lists of G, and there is one.
 pub IsPlace-behind : (G H : List (List ℕ) → Type 0) (word : List ℕ) (words : List (List ℕ)) (at : ℕ) →
     ((list : List (List ℕ)) → G list → H (word ∷ list)) → ((list : List (List ℕ)) → H (word ∷ list) → G list) →
-    Begins G words 0 → IsPlace G words at → IsPlace H (word ∷ words) (at + 1)
+    SomeListBegins G words 0 → IsPlace G words at → IsPlace H (word ∷ words) (at + 1)
 IsPlace-behind G H word words at longer shorter some h = record {
   within = omega (arith, h.within);
   before = begun;
   wrong = λ within begins.
       let next : at + 1 + 1 ≡ suc (at + 1) = omega arith in
-      h.wrong (omega arith) (behind (at + 1) (subst (Begins H (word ∷ words)) next begins));
+      h.wrong (omega arith) (behind (at + 1) (subst (SomeListBegins H (word ∷ words)) next begins));
 }
   where
     -- the first words of the longer list are the word and the first of those behind it
-    behind : (k : ℕ) → Begins H (word ∷ words) (suc k) → Begins G words k
+    behind : (k : ℕ) → SomeListBegins H (word ∷ words) (suc k) → SomeListBegins G words k
     behind k begins = (begins.0, shorter (take k words ++ begins.0) begins.1)
 
-    before : (k : ℕ) → Begins G words k → Begins H (word ∷ words) (suc k)
+    before : (k : ℕ) → SomeListBegins G words k → SomeListBegins H (word ∷ words) (suc k)
     before k begins = (begins.0, longer (take k words ++ begins.0) begins.1)
 
-    begun : (k : ℕ) → k < at + 1 → Begins H (word ∷ words) (k + 1)
+    begun : (k : ℕ) → k < at + 1 → SomeListBegins H (word ∷ words) (k + 1)
     begun zero less = before zero some
     begun (suc k) less =
         let next : suc (k + 1) ≡ suc k + 1 = omega arith in
-        subst (Begins H (word ∷ words)) next (before (k + 1) (h.before k (omega arith)))
+        subst (SomeListBegins H (word ∷ words)) next (before (k + 1) (h.before k (omega arith)))
 
 -- grammars with the same lists have the same places
 pub IsPlace-same : (G H : List (List ℕ) → Type 0) (words : List (List ℕ)) (at : ℕ) →

@@ -7,7 +7,7 @@ use Rattle.std.proofs.lemmas.Option.{same_Some}
 use Rattle.idx_text.specs.Number.{number_of}
 use Rattle.idx_words.specs.declared.query_word.QueryWord.{QueryWord}
 use Rattle.idx_words.specs.declared.query_word.QueryWord.TheVariants as words
-use Rattle.idx_words.specs.Place.{Begins}
+use Rattle.idx_words.specs.Place.{SomeListBegins}
 use Rattle.idx_words.specs.QueryGrammar.{AreQueryWords, SpellsLevel}
 use Rattle.idx_words.specs.QueryValue.{QueryValue}
 use Rattle.idx_words.specs.QueryWord.{place_of, IsRightAt}
@@ -85,7 +85,7 @@ unfolding some_words
 some_right = (path_r, (ap is_some number_0, (path_r, ((origin, spells_origin), ((0, level_0), ((0, level_0), tt))))))
 
 -- some list begins with no words
-pub query_goes_on : (ws : List (List ℕ)) → Begins AreSomeQueryWords ws 0
+pub query_goes_on : (ws : List (List ℕ)) → SomeListBegins AreSomeQueryWords ws 0
 query_goes_on = goes_on IsRightAt words.Dataset right_some order AreSomeQueryWords to_right from_right some_words some_right
 
 -- the words are right

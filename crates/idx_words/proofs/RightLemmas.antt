@@ -3,7 +3,7 @@ use Rattle.std.proofs.Common.{◌≡◌, ◌↔◌, ℕ, zero, suc, ◌+◌, ◌
 use Rattle.std.specs.List.{slice_index_or}
 use Rattle.std.specs.Option.{is_some}
 use Rattle.std.proofs.lemmas.Bool.{false≢true}
-use Rattle.idx_words.specs.Place.{Begins, IsPlace}
+use Rattle.idx_words.specs.Place.{SomeListBegins, IsPlace}
 use Rattle.idx_words.specs.WordAt.{word_at}
 use Rattle.idx_words.proofs.PlaceLemmas.{IsPlace-first, IsPlace-behind, IsPlace-same}
 
@@ -79,7 +79,7 @@ module _ {P : Type 0} (Right : P → List ℕ → Type 0) (other : P) (empty : (
   module _ (places : List P) (G : List (List ℕ) → Type 0) (to : (ws : List (List ℕ)) → G ws → AreRight Right places ws)
       (from : (ws : List (List ℕ)) → AreRight Right places ws → G ws) (some : List (List ℕ)) (are : AreRight Right places some) where
     -- some list begins with no words
-    pub goes_on : (ws : List (List ℕ)) → Begins G ws 0
+    pub goes_on : (ws : List (List ℕ)) → SomeListBegins G ws 0
     goes_on ws = (some, from some are)
 
     -- the words are right

@@ -1,7 +1,7 @@
 -- The header text that the words of `convert` ask for: the canonical layout with the texts as they were given as values.
 use Rattle.std.specs.Prelude.{◌≡◌, ◌⊎◌, ℕ, List, [], ◌∷◌, codes}
 use Rattle.idx_text.specs.BoxText.{SpellsRegion}
-use Rattle.idx_lines.specs.Entries.{entries_text}
+use Rattle.idx_text.specs.Entries.{entries_text}
 use Rattle.idx_hz.specs.Guess.{CanGuess, guessed_mask}
 use Rattle.idx_hz.specs.MaskText.{mask_text}
 use Rattle.idx_header.specs.declared.key.Key.TheVariants as keys

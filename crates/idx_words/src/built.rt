@@ -1,14 +1,13 @@
 //! The header text that the words of `convert` ask for.
-ghost use Rattle.std.specs.Prelude.{◌≡◌, ◌∷◌, ◌++◌, ℕ, List, [], IfOk, OnOk, MatchOption};
+ghost use Rattle.std.specs.Prelude.{◌≡◌, ℕ, List, IfOk, MatchOption};
 ghost use Rattle.idx_hz.specs.Guess.{guessed_mask};
-ghost use Rattle.idx_lines.specs.Entries.{entry_text};
 ghost use Rattle.idx_words.specs.Built.{IsBits, IsBuilt, Guesses};
 
 use crate::convert_words::ConvertWords;
 use idx_header::mask_text;
 use idx_hz::{Mask, guess};
 use idx_outside::{Bytes, NoMemory};
-use idx_text::read_box;
+use idx_text::{read_box, write_entry};
 use std::alloc::Global;
 
 impl ConvertWords<'_> {
@@ -50,15 +49,4 @@ fn guessed(words: &ConvertWords<'_>) -> Option<Mask>
         (λ mask. (box : List (ℕ × ℕ)) × (Guesses words.now box × (mask ≡ guessed_mask box))) }
 {
     guess(&read_box(words.extent)?)
-}
-
-/// Appends a key with its value, each on a line of its own.
-fn write_entry(key: &[u8], line: &[u8], out: &mut Bytes) -> Result<(), NoMemory>
-    ensures { OnOk result (out.new ≡ out.old ++ entry_text (record { key = key.now; lines = line.now ∷ [] })) }
-{
-    out.push(b'(')?;
-    out.append(key)?;
-    out.append(b")\n")?;
-    out.append(line)?;
-    out.push(b'\n')
 }

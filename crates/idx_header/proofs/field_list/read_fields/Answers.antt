@@ -1,6 +1,6 @@
 use Rattle.std.proofs.Common.{ap, ◌∙◌}
-use Rattle.idx_lines.specs.declared.section.Section.{Section}
-use Rattle.idx_lines.specs.Lines.{is_text_line}
+use Rattle.idx_text.specs.declared.section.Section.{Section}
+use Rattle.idx_text.specs.Lines.{is_text_line}
 use Rattle.idx_header.specs.declared.key.Key.TheVariants as keys
 use Rattle.idx_header.proofs.FieldTexts.{fields-of-text, section-text}
 use Rattle.idx_header.proofs.field_list.read_fields.Goals as goal

@@ -1,6 +1,6 @@
 use Rattle.std.proofs.Common.{◌≡◌, List, ℕ, Ok, length, sym, ap, ◌∙◌}
-use Rattle.idx_lines.specs.Lines.{lines}
-use Rattle.idx_lines.specs.Sections.{sections}
+use Rattle.idx_text.specs.Lines.{lines}
+use Rattle.idx_text.specs.Sections.{sections}
 use Rattle.idx_header.specs.Faults.{first_of}
 use Rattle.idx_header.specs.HeaderOf.{text_faults, key_faults, value_faults, faults_of, header_in, header_of, unless}
 use Rattle.idx_header.proofs.FaultLemmas.{passed, stopped, handed_on, ok_maps, err_maps}

@@ -1,5 +1,5 @@
 use Rattle.std.proofs.Common.{◌≡◌, ◌++◌, List, None, ap, ◌∙◌, subst}
-use Rattle.idx_lines.specs.declared.section.Section.{Section}
+use Rattle.idx_text.specs.declared.section.Section.{Section}
 use Rattle.idx_names.specs.Template.{Fits}
 use Rattle.idx_header.specs.Faults.{first_of, last_file_number}
 use Rattle.idx_header.specs.HeaderOf.{version_faults, box_faults, fields_faults, block_bits_faults, per_file_faults, template_faults, time_faults, value_faults, header_in}

@@ -1,5 +1,5 @@
 use Rattle.std.proofs.Common.{◌≡◌, ◌∙◌, ℕ, List, Some, true, false, length, sym, ap, subst}
-use Rattle.idx_lines.specs.declared.section.Section.{Section}
+use Rattle.idx_text.specs.declared.section.Section.{Section}
 use Rattle.idx_hz.specs.Mask.{NamesAxes}
 use Rattle.idx_hz.specs.MaskText.{mask_of}
 use Rattle.idx_header.specs.declared.key.Key.TheVariants as keys

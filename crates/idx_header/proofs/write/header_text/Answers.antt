@@ -1,6 +1,6 @@
 use Rattle.std.proofs.Common.{◌≡◌, [], ◌∷◌, ◌++◌, List, ℕ, map, codes, ap, ◌∙◌, subst}
 use Rattle.std.specs.Fmt.{decimal}
-use Rattle.idx_lines.specs.Entries.{entries_text, entry_text}
+use Rattle.idx_text.specs.Entries.{entries_text, entry_text}
 use Rattle.idx_header.specs.declared.key.Key.{Key}
 use Rattle.idx_header.specs.declared.key.Key.TheVariants as keys
 use Rattle.idx_header.specs.declared.unknown.Unknown.{Unknown}

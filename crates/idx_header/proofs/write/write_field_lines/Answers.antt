@@ -1,7 +1,7 @@
 use Rattle.std.proofs.Common.{[], ◌∷◌, ◌++◌, ◌<◌, ℕ, List, length, take, sym, ap, ◌∙◌, arith, append_assoc}
 use Rattle.idx_fields.specs.Field.{Field, field_at, field_text}
 use Rattle.idx_fields.specs.Fields.{fields_lines}
-use Rattle.idx_lines.specs.Entries.{lines_text}
+use Rattle.idx_text.specs.Entries.{lines_text}
 use Rattle.idx_header.proofs.WriteLemmas.{lines-more}
 use Rattle.idx_header.proofs.write.write_field_lines.Goals as goal
 

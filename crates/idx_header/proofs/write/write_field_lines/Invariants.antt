@@ -1,6 +1,6 @@
 use Rattle.std.proofs.Common.{◌≡◌, ◌++◌, take}
 use Rattle.idx_fields.specs.Fields.{fields_lines}
-use Rattle.idx_lines.specs.Entries.{lines_text}
+use Rattle.idx_text.specs.Entries.{lines_text}
 use Rattle.idx_header.proofs.write.write_field_lines.Given as goal
 
 abbrev pub invariant-loop-i : goal.invariant-loop-i

@@ -1,5 +1,5 @@
 use Rattle.std.proofs.Common.{◌≡◌, [], ◌∷◌, ◌++◌, List, ℕ, OnOk, ap, ◌∙◌, subst}
-use Rattle.idx_lines.specs.Entries.{entry_text}
+use Rattle.idx_text.specs.Entries.{entry_text}
 use Rattle.idx_names.specs.Template.{template_text}
 use Rattle.idx_header.specs.declared.key.Key.TheVariants as keys
 use Rattle.idx_header.specs.Written.{entry, template_line}

@@ -1,5 +1,5 @@
 use Rattle.std.proofs.Common.{◌≡◌, ◌++◌, take, map}
-use Rattle.idx_lines.specs.Entries.{entries_text}
+use Rattle.idx_text.specs.Entries.{entries_text}
 use Rattle.idx_header.specs.Written.{unknown_entry}
 use Rattle.idx_header.proofs.write.write_unknowns.Given as goal
 

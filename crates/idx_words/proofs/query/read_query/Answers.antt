@@ -56,7 +56,11 @@ returns c =
       ap is_path (sym c.as_bytes.ensures.value) ∙ sym c.is_path.ensures ∙ c.if-not-is_path.false,
       record {
         time_word = ap number_of (sym c.as_bytes-2.ensures.value) ∙ sym c.read_number.ensures ∙ c.in_ok-read_number.was;
-        field_word = record { name = ap is_path (sym c.as_bytes-else-not-is_path.ensures.value) ∙ sym c.is_path-else-not-is_path.ensures ∙ c.if-not-is_path-2.false; same = c.as_bytes-3.ensures.value };
+        field_word = record {
+          name = ap is_path (sym c.as_bytes-else-not-is_path.ensures.value)
+              ∙ sym c.is_path-else-not-is_path.ensures ∙ c.if-not-is_path-2.false;
+          same = c.as_bytes-3.ensures.value;
+        };
         region_word = subst (λ w. SpellsRegion w c.in_ok-read_box.field-0) c.as_bytes-4.ensures.value ((c.read_box.ensures c.in_ok-read_box.field-0).0 c.in_ok-read_box.was);
         lo_word = subst (λ w. SpellsLevel w c.in_ok-read_level.field-0) c.as_bytes-5.ensures.value ((c.read_level.ensures c.in_ok-read_level.field-0).0 c.in_ok-read_level.was);
         hi_word = subst (λ w. SpellsLevel w c.in_ok-read_level-2.field-0) c.as_bytes-6.ensures.value ((c.read_level-2.ensures c.in_ok-read_level-2.field-0).0 c.in_ok-read_level-2.was);

@@ -1,4 +1,0 @@
-pub mod LineLemmas
-pub mod TextLemmas
-pub mod GrowingLemmas
-pub mod EntryLemmas

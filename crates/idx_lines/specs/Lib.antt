@@ -1,4 +1,0 @@
-pub mod Lines
-pub mod Sections
-pub mod Growing
-pub mod Entries
