@@ -8,8 +8,6 @@ mod converting;
 mod faults;
 mod place;
 mod standing;
-#[cfg(test)]
-mod tests;
 
 pub use convert_fault::ConvertFault;
 pub use converting::convert;

@@ -8,8 +8,6 @@ mod extract_fault;
 mod extracting;
 mod faults;
 mod opening;
-#[cfg(test)]
-mod tests;
 
 pub use extract_fault::ExtractFault;
 pub use extracting::extract;

@@ -31,6 +31,3 @@ pub use sure_leaf::SureLeaf;
 pub use sure_reader::SureReader;
 pub use sure_sink::SureSink;
 pub use sure_source::SureSource;
-
-#[cfg(test)]
-mod tests;

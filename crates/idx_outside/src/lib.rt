@@ -31,6 +31,3 @@ pub use outage::Outage;
 pub use reader::Reader;
 pub use sink::Sink;
 pub use source::Source;
-
-#[cfg(test)]
-mod tests;

@@ -4,8 +4,6 @@
 mod plan;
 mod read;
 mod read_fault;
-#[cfg(test)]
-mod tests;
 
 pub use read::read_samples;
 pub use read_fault::ReadFault;

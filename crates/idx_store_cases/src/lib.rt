@@ -4,12 +4,22 @@
 #[cfg(test)]
 mod cache;
 #[cfg(test)]
+mod convert;
+#[cfg(test)]
 mod edition;
 #[cfg(test)]
+mod extract;
+#[cfg(test)]
 mod hall;
+#[cfg(test)]
+mod memory;
+#[cfg(test)]
+mod outside;
 #[cfg(test)]
 mod plan;
 #[cfg(test)]
 mod query;
+#[cfg(test)]
+mod raw;
 #[cfg(test)]
 mod turn;

@@ -1,4 +1,4 @@
-use crate::{ConvertFault, convert};
+use idx_convert::{ConvertFault, convert};
 use idx_header::HeaderKind;
 use idx_memory::{MemBay, MemSource};
 use idx_outside::Bytes;

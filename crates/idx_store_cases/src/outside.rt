@@ -1,5 +1,5 @@
 //! Each call that may want memory, once with ample memory, and printed texts.
-use super::*;
+use idx_outside::*;
 use std::alloc::{AllocError, Global};
 use std::test::Fail;
 

@@ -1,5 +1,5 @@
 //! Answers out of a dataset in memory.
-use crate::{ExtractFault, extract};
+use idx_extract::{ExtractFault, extract};
 use idx_geom::{Point, Region};
 use idx_header::HeaderKind;
 use idx_memory::{MemBay, MemReader};

@@ -3,7 +3,7 @@ ghost use Rattle.std.specs.Prelude.{◌≡◌, ◌≤◌, [], ◌∷◌, length,
 ghost use Rattle.std.specs.Option.{ForSome};
 ghost use Rattle.idx_outside.specs.Files.{added, known_with, file_of, stored_at, HasStep, LiesIn};
 
-use super::*;
+use idx_memory::*;
 use idx_outside::{
     Bay, BayFault, Bytes, Draft, Leaf, MemFile, NoMemory, Outage, Reader, Sink, Source,
 };

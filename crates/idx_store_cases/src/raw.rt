@@ -1,8 +1,8 @@
 ghost use Rattle.std.specs.Prelude.{◌≡◌, [], ◌∷◌, false, IfOk, length, vec_len};
 
-use crate::{ReadFault, read_samples};
 use idx_memory::MemSource;
 use idx_outside::{Bytes, Source};
+use idx_raw::{ReadFault, read_samples};
 use idx_stride::{Axis, Strides};
 use std::alloc::{AllocError, Global};
 use std::test::Fail;
