@@ -125,7 +125,8 @@ steps-line : (s : Steps) → AreSteps s → is_key_line (steps_text s) ≡ false
 steps-line s h value =
     let joined = plain-joined (step_words s) (steps-plain s h) in
     value-line (steps_text s) (subst IsValue (sym (steps-joined s)) joined)
-    (subst (λ (t : List ℕ). 0 < length t) (sym (steps-joined s)) (some-join (decimal s.first) (decimal s.last ∷ time_template_text s.template ∷ []) (number-plain s.first (omega (arith, h.ordered, h.last))).some)) value
+    (subst (λ (t : List ℕ). 0 < length t) (sym (steps-joined s))
+    (some-join (decimal s.first) (decimal s.last ∷ time_template_text s.template ∷ []) (number-plain s.first (omega (arith, h.ordered, h.last))).some)) value
 
 unknown-lines : (value : List ℕ) → is_text_line value ≡ true → trimmed value ≡ value → NoKeyLine (cond (has_bytes value) (value ∷ []) []) →
     All IsValueLine (cond (has_bytes value) (value ∷ []) [])
@@ -165,9 +166,19 @@ module _ (h : HeaderValue) (s : Steps) (is : IsHeader h) (steps : AreSteps s) (l
             (
               record { key = refl; lines = one (mask_text h.mask) (mask-line h.mask is.mask) (lines 3 none (omega arith)) },
               (
-                record { key = refl; lines = one (decimal h.block_bits) (part-line (decimal h.block_bits) (plain-part (decimal h.block_bits) (number-plain h.block_bits (omega (arith, is.bits_few))))) (lines 4 none (omega arith)) },
+                record {
+                  key = refl;
+                  lines =
+                      one (decimal h.block_bits) (part-line (decimal h.block_bits) (plain-part (decimal h.block_bits) (number-plain h.block_bits (omega (arith, is.bits_few)))))
+                      (lines 4 none (omega arith));
+                },
                 (
-                  record { key = refl; lines = one (decimal h.blocks_per_file) (part-line (decimal h.blocks_per_file) (plain-part (decimal h.blocks_per_file) (number-plain h.blocks_per_file (omega (arith, is.blocks_few))))) (lines 5 none (omega arith)) },
+                  record {
+                    key = refl;
+                    lines =
+                        one (decimal h.blocks_per_file)
+                        (part-line (decimal h.blocks_per_file) (plain-part (decimal h.blocks_per_file) (number-plain h.blocks_per_file (omega (arith, is.blocks_few))))) (lines 5 none (omega arith));
+                  },
                   (
                     record { key = refl; lines = one (template_line h.template) (template-line h.template is.template) (lines 6 none (omega arith)) },
                     (

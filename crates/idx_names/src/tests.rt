@@ -52,7 +52,14 @@ fn path(alloc: Global) -> Option<Bytes> {
 /// The path of a file of a step.
 fn path_of_step(alloc: Global) -> Option<Bytes> {
     let template = template(alloc, b"./d/%02x/%02x.bin")?;
-    file_path_of_step(alloc, &template, &time_template(alloc, b"time%04d/")?, 3, 0x1204).ok()
+    file_path_of_step(
+        alloc,
+        &template,
+        &time_template(alloc, b"time%04d/")?,
+        3,
+        0x1204,
+    )
+    .ok()
 }
 
 /// The path of a step's folder.

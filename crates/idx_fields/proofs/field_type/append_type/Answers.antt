@@ -15,7 +15,8 @@ one n test = eqb-true n 1 (of_test (n == 1) test)
 
 pub returns-in_ok-push-2 : goal.returns-in_ok-push-2
 returns-in_ok-push-2 c =
-    canonical-pieces c.args.base c.args.count c.args.out.now _ _ _ _ (not_one c.args.count (sym c.is_written.ensures ∙ c.if-is_written.true)) (c.in_ok-append.ensures.ok ∙ ap (λ t. c.args.out.now ++ t) c.text.ensures)
+    canonical-pieces c.args.base c.args.count c.args.out.now _ _ _ _ (not_one c.args.count (sym c.is_written.ensures ∙ c.if-is_written.true)) (c.in_ok-append.ensures.ok
+    ∙ ap (λ t. c.args.out.now ++ t) c.text.ensures)
     c.in_ok-push.ensures.ok c.in_ok-write_number.ensures.ok c.in_ok-push-2.ensures.ok
 
 pub returns-else-is_written : goal.returns-else-is_written

@@ -9,7 +9,8 @@ pub returns : goal.returns
 returns c =
     let a = c.these.view_is in
     let b = c.those.view_is in
-    let fields = subst (λ fs. AgreeFields fs c.args.those.now.fields) (ap (λ (h : HeaderValue). h.fields) a) (subst (λ fs. AgreeFields c.these.inside.fields fs) (ap (λ (h : HeaderValue). h.fields) b) (c.agrees.ensures.0 c.if-not-agrees.false)) in (
+    let fields = subst (λ fs. AgreeFields fs c.args.those.now.fields) (ap (λ (h : HeaderValue). h.fields) a)
+    (subst (λ fs. AgreeFields c.these.inside.fields fs) (ap (λ (h : HeaderValue). h.fields) b) (c.agrees.ensures.0 c.if-not-agrees.false)) in (
       λ same. record {
         box = sym (ap (λ (h : HeaderValue). h.box) a) ∙ c.same_region.ensures.0 c.if-not-same_region.false ∙ ap (λ (h : HeaderValue). h.box) b;
         mask = sym (ap (λ (h : HeaderValue). h.mask) a) ∙ (equal_iff 40 c.these.inside.mask c.those.inside.mask).0 (grind (arith, nat_tests)) ∙ ap (λ (h : HeaderValue). h.mask) b;

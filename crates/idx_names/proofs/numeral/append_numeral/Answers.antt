@@ -26,7 +26,8 @@ loop-rest-preserved c =
     let glyph = c.glyph.ensures ∙ ap (λ b. digit_glyph false (rest % b)) c.base.ensures in
     let whole = digits_more base rest c.loop-rest.place c.glyph.result _ c.loop-rest.digits (omega arith) c.loop-rest-test.true place (omega arith) glyph c.loop-rest.invariant.digits in
     record {
-      digits = whole ∙ ap (λ b. map (digit_glyph false) (digits_of base (rest / b)) ++ drop (c.loop-rest.place - 1) (set c.loop-rest.digits (c.loop-rest.place - 1) c.glyph.result)) (sym c.base-rest.ensures);
+      digits = whole ∙ ap (λ b. map (digit_glyph false) (digits_of base (rest / b)) ++ drop (c.loop-rest.place - 1) (set c.loop-rest.digits (c.loop-rest.place - 1) c.glyph.result))
+          (sym c.base-rest.ensures);
       small = subst (λ (b : ℕ). rest / b < 10 ^ (c.loop-rest.place - 1)) (sym c.base-rest.ensures) small;
       place = omega arith;
       len = omega (arith, length-set {A = ℕ});

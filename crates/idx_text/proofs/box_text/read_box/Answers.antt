@@ -48,7 +48,8 @@ returns-then-not-is_empty c =
       (λ e. absurd (none_is_not_some r e)),
       (λ h. absurd (
           no_odd_end c.args.text.now c.loop-rest.lower.items c.loop-rest.upper.items c.loop-rest.rest.now c.as_slice-rest.result.now r
-          (c.in_ok-numbers.ensures.some ∙ ap Some (sym c.as_slice-rest.ensures.value)) c.loop-rest.invariant.ends c.in_default.len_below (λ none. false≢true (sym c.if-not-is_empty.true ∙ c.is_empty.ensures ∙ eq-eqb (length c.loop-rest.rest.now) 0 none)) h)),
+          (c.in_ok-numbers.ensures.some ∙ ap Some (sym c.as_slice-rest.ensures.value)) c.loop-rest.invariant.ends c.in_default.len_below
+          (λ none. false≢true (sym c.if-not-is_empty.true ∙ c.is_empty.ensures ∙ eq-eqb (length c.loop-rest.rest.now) 0 none)) h)),
     )
 
 pub returns : goal.returns

@@ -68,7 +68,8 @@ module _ (c : goal.After-loop-rest) where
   all_read =
       let none = nothing c.loop-rest.rest.now (eqb-true (length c.loop-rest.rest.now) 0 (sym c.is_empty.ensures ∙ c.loop-rest-test.false)) in
       let ss : List Section = c.loop-rest.sections.items in
-      sym (ap (λ t. in_all ss (c.loop-rest.number + 1) (trimmed_lines t)) none ∙ ap (λ t. in_all ss (c.loop-rest.number + 1) (map trimmed t)) lines-none ∙ in_all-end ss (c.loop-rest.number + 1)) ∙ c.loop-rest.invariant.all
+      sym (ap (λ t. in_all ss (c.loop-rest.number + 1) (trimmed_lines t)) none ∙ ap (λ t. in_all ss (c.loop-rest.number + 1) (map trimmed t)) lines-none
+      ∙ in_all-end ss (c.loop-rest.number + 1)) ∙ c.loop-rest.invariant.all
 
 pub returns-clause-ok : goal.returns-clause-ok
 returns-clause-ok c = all_right c
