@@ -1,218 +1,228 @@
 //! Steps in the test's own folder.
 use super::*;
-use idx_outside::{Draft, Leaf, Reader};
 
-/// Writes a file of the step that was begun.
-fn written(
-    bay: &mut FolderBay<HostRuntime>,
-    path: &[u8],
-    bytes: &[u8],
-) -> Result<FileLeaf, BayFault> {
-    let mut draft = bay.create(path)?;
+fn begins(bay: &mut FolderBay<HostRuntime>, folder: &str) -> bool {
+    bay.begin_step(folder.as_bytes()).is_ok()
+}
+
+/// A file of the step that was begun; none where it cannot be made.
+fn written(bay: &mut FolderBay<HostRuntime>, path: &str, bytes: &[u8]) -> Option<FileLeaf> {
+    let mut draft = bay.create(path.as_bytes()).ok()?;
     if draft.append(bytes).is_err() || draft.append(&[]).is_err() {
         bay.retire(draft);
-        return Err(BayFault::Outage);
+        return None;
     }
     match draft.seal() {
-        Ok(leaf) => Ok(leaf),
+        Ok(leaf) => Some(leaf),
         Err((draft, _)) => {
             bay.retire(draft);
-            Err(BayFault::Outage)
+            None
         }
     }
 }
 
+/// Gives up a file of the step that was begun.
+fn gives_up(bay: &mut FolderBay<HostRuntime>, path: &str) {
+    if let Ok(draft) = bay.create(path.as_bytes()) {
+        bay.retire(draft);
+    }
+}
+
 /// Commits one file as a step.
-fn saved(
+fn commits(
     alloc: Global,
     bay: &mut FolderBay<HostRuntime>,
     folder: &str,
     path: &str,
-    bytes: &[u8],
-) -> Result<(), BayFault> {
-    bay.begin_step(folder.as_bytes())?;
-    let leaf = written(bay, path.as_bytes(), bytes)?;
+    leaf: FileLeaf,
+) -> Result<bool, Fail> {
     let mut leaves = Vec::new(alloc);
     leaves.push((Bytes::from_slice(alloc, path.as_bytes())?, leaf))?;
-    bay.commit(folder.as_bytes(), &leaves)
+    Ok(bay.commit(folder.as_bytes(), &leaves).is_ok())
 }
 
-fn stands(rt: &HostRuntime, path: &str) -> bool {
-    fs::metadata(rt, path).is_ok()
+/// Writes and commits the file `0.bin` of a step.
+fn saves(alloc: Global, bay: &mut FolderBay<HostRuntime>, folder: &str) -> Result<bool, Fail> {
+    let path = format!(in alloc; "{folder}/0.bin")?;
+    if !begins(bay, folder) {
+        return Ok(false);
+    }
+    match written(bay, path.as_str(), &[1, 2, 3]) {
+        Some(leaf) => commits(alloc, bay, folder, path.as_str(), leaf),
+        None => Ok(false),
+    }
+}
+
+fn has(bay: &mut FolderBay<HostRuntime>, folder: &str) -> Option<bool> {
+    bay.has_step(folder.as_bytes()).ok()
+}
+
+/// The length of a committed file, if there is one; `None` where the call failed.
+fn length_of(bay: &mut FolderBay<HostRuntime>, path: &str) -> Option<Option<u64>> {
+    Some(bay.leaf(path.as_bytes()).ok()?.map(|leaf| leaf.len()))
+}
+
+fn said(alloc: Global, bay: &FolderBay<HostRuntime>) -> Result<String, Fail> {
+    text(alloc, bay.last_fault())
 }
 
 #[test]
 fn a_step_stands_once_it_is_committed(rt: HostRuntime) -> Result<(), Fail> {
     let alloc = rt.alloc();
     let mut bay = folder(&rt, "new/set/dataset.idx")?;
-    assert_eq!(rt; bay.has_step(b"d/t0"), Ok(false));
-    assert_eq!(rt; bay.set_header(b"old text"), Ok(()));
-    assert_eq!(rt; bay.set_header(b"text"), Ok(()));
-    assert_eq!(rt;
-        fs::read(&rt, "new/set/dataset.idx")?.as_slice(),
-        b"text".as_slice()
-    );
-    assert!(rt; !stands(&rt, "new/set/dataset.idx.part"));
-    // What an earlier run left is dropped.
-    fs::create_dir_all(&rt, "new/set/d/t0.part/x")?;
-    fs::write(&rt, "new/set/d/t0.part/x/left.bin", "left")?;
-    assert_eq!(rt; bay.begin_step(b"d/t0"), Ok(()));
-    let given_up = match bay.create(b"d/t0/0/8.bin") {
-        Ok(draft) => draft,
-        Err(_) => return Ok(()),
-    };
-    bay.retire(given_up);
-    let leaf = match written(&mut bay, b"d/t0/0/0.bin", &[1, 2, 3]) {
-        Ok(leaf) => leaf,
-        Err(_) => return Ok(()),
-    };
+    assert_eq!(rt; has(&mut bay, "d/t0"), Some(false));
+    assert!(rt; begins(&mut bay, "d/t0"));
+    let leaf = written(&mut bay, "d/t0/0/0.bin", &[1, 2, 3]).ok_or("no leaf")?;
     assert_eq!(rt; (leaf.len(), leaf.path()), (3, "new/set/d/t0/0/0.bin"));
+    gives_up(&mut bay, "d/t0/0/8.bin");
     assert!(rt; stands(&rt, "new/set/d/t0.part/0/0.bin") && !stands(&rt, "new/set/d/t0"));
-    assert_eq!(rt;
-        bay.leaf(b"d/t0/0/0.bin").map(|leaf| leaf.is_some()),
-        Ok(false)
-    );
-    let mut leaves = Vec::new(alloc);
-    leaves.push((Bytes::from_slice(alloc, b"d/t0/0/0.bin")?, leaf))?;
-    assert_eq!(rt; bay.commit(b"d/t0", &leaves), Ok(()));
-    assert_eq!(rt; bay.has_step(b"d/t0"), Ok(true));
-    assert_eq!(rt;
-        fs::read(&rt, "new/set/d/t0/0/0.bin")?.as_slice(),
-        [1, 2, 3].as_slice()
-    );
-    assert!(rt; !stands(&rt, "new/set/d/t0.part") && !stands(&rt, "new/set/d/t0/x"));
-    assert!(rt; !stands(&rt, "new/set/d/t0/0/8.bin"));
-    assert_eq!(rt;
-        bay.leaf(b"d/t0/0/0.bin")
-            .map(|leaf| leaf.map(|leaf| leaf.len())),
-        Ok(Some(3))
-    );
-    assert!(rt; bay.faults() == 0 && bay.last_fault().is_none());
-    is_sendable(&bay);
+    assert_eq!(rt; length_of(&mut bay, "d/t0/0/0.bin"), Some(None));
+    assert!(rt; commits(alloc, &mut bay, "d/t0", "d/t0/0/0.bin", leaf)?);
+    assert!(rt; holds(&rt, "new/set/d/t0/0/0.bin", &[1, 2, 3]));
+    assert!(rt; !stands(&rt, "new/set/d/t0.part") && !stands(&rt, "new/set/d/t0/0/8.bin"));
     fs::remove_dir_all(&rt, "new")?;
     Ok(())
 }
 
 #[test]
-fn a_refused_call_of_a_bay_is_a_fault_with_its_path(rt: HostRuntime) -> Result<(), Fail> {
+fn a_step_that_stands_is_found(rt: HostRuntime) -> Result<(), Fail> {
     let alloc = rt.alloc();
+    let mut bay = folder(&rt, "found/dataset.idx")?;
+    assert!(rt; saves(alloc, &mut bay, "t0")?);
+    fs::write(&rt, "found/plain", "plain")?;
+    assert_eq!(rt;
+        (has(&mut bay, "t0"), has(&mut bay, "plain")),
+        (Some(true), Some(false))
+    );
+    assert_eq!(rt; length_of(&mut bay, "t0/0.bin"), Some(Some(3)));
+    assert_eq!(rt; length_of(&mut bay, "t0"), None);
+    assert_eq!(rt; said(alloc, &bay)?.as_str(), "found/t0: not a regular file");
+    assert_eq!(rt; has(&mut bay, "plain/t"), None);
+    is_sendable(&bay);
+    fs::remove_dir_all(&rt, "found")?;
+    Ok(())
+}
+
+#[test]
+fn what_an_earlier_run_left_is_dropped(rt: HostRuntime) -> Result<(), Fail> {
+    let mut bay = folder(&rt, "old/dataset.idx")?;
+    fs::create_dir_all(&rt, "old/t0.part/x/y")?;
+    fs::write(&rt, "old/t0.part/x/left.bin", "left")?;
+    fs::write(&rt, "old/t0.part/left.bin", "left")?;
+    assert!(rt; saves(rt.alloc(), &mut bay, "t0")?);
+    assert!(rt; !stands(&rt, "old/t0/x") && !stands(&rt, "old/t0/left.bin"));
+    // The same of a step that is begun twice.
+    assert!(rt; begins(&mut bay, "t1") && written(&mut bay, "t1/1.bin", &[4]).is_some());
+    assert!(rt; saves(rt.alloc(), &mut bay, "t1")? && !stands(&rt, "old/t1/1.bin"));
+    fs::remove_dir_all(&rt, "old")?;
+    Ok(())
+}
+
+/// The fault of a step of this folder, which cannot be saved.
+fn fault_of(rt: &HostRuntime, folder_name: &str) -> Result<String, Fail> {
+    let mut bay = folder(rt, "set/dataset.idx")?;
+    if saves(rt.alloc(), &mut bay, folder_name)? {
+        return Ok(String::new(rt.alloc()));
+    }
+    said(rt.alloc(), &bay)
+}
+
+#[test]
+fn nothing_is_put_over_what_stands(rt: HostRuntime) -> Result<(), Fail> {
     fs::create_dir_all(&rt, "set/folder")?;
     fs::write(&rt, "set/plain", "plain")?;
-    let mut name = String::new(alloc);
-    for _ in 0..256 {
-        name.push('x')?;
-    }
-    let long = format!(in alloc; "t1/{name}")?;
-    let too_long = format!(in alloc; "set/t1.part/{name}: File name too long (os error 36)")?;
-    let mut bay = folder(&rt, "set/dataset.idx")?;
-    for (faults, folder, path, want) in [
-        (
-            1,
-            "plain",
-            "plain/0.bin",
-            "set/plain: something stands there already",
-        ),
-        (
-            2,
-            "folder",
-            "folder/0.bin",
-            "set/folder: something stands there already",
-        ),
-        (
-            3,
-            "plain/t",
-            "plain/t/0.bin",
-            "set/plain: File exists (os error 17)",
-        ),
-        (
-            4,
-            "t1",
-            "t10/0.bin",
-            "set/t10/0.bin: the file is not in the step that was begun",
-        ),
-        (5, "t1", long.as_str(), too_long.as_str()),
+    fs::write(&rt, "set/staged.part", "plain")?;
+    for (name, want) in [
+        ("plain", "set/plain: something stands there already"),
+        ("folder", "set/folder: something stands there already"),
+        ("plain/t", "set/plain: File exists (os error 17)"),
+        ("staged", "set/staged.part: something stands there already"),
     ] {
-        let result = saved(alloc, &mut bay, folder, path, &[1]);
-        assert_eq!(rt; result, Err(BayFault::Outage), "{path}");
-        assert_eq!(rt; text(alloc, bay.last_fault())?.as_str(), want);
-        assert_eq!(rt; bay.faults(), faults);
+        assert_eq!(rt; fault_of(&rt, name)?.as_str(), want);
     }
-    assert_eq!(rt; bay.has_step(b"plain"), Ok(false));
-    assert_eq!(rt; bay.has_step(b"plain/t"), Err(Outage));
-    assert_eq!(rt; bay.has_step(&[255]), Err(Outage));
-    assert_eq!(rt;
-        text(alloc, bay.last_fault())?.as_str(),
-        "set/dataset.idx: the name is no text"
-    );
-    assert!(rt; bay.leaf(b"folder").is_err());
-    assert_eq!(rt;
-        text(alloc, bay.last_fault())?.as_str(),
-        "set/folder: not a regular file"
-    );
-    assert_eq!(rt; folder(&rt, "set/folder")?.set_header(b"text"), Err(Outage));
-    assert_eq!(rt; bay.faults(), 8);
     fs::remove_dir_all(&rt, "set")?;
     Ok(())
 }
 
 #[test]
-fn a_draft_that_cannot_be_written_is_a_fault_of_its_bay(rt: HostRuntime) -> Result<(), Fail> {
+fn a_file_is_made_once_and_in_the_step_that_was_begun(rt: HostRuntime) -> Result<(), Fail> {
     let alloc = rt.alloc();
-    let path = "closed.raw";
-    fs::write(&rt, path, "old")?;
-    // Nothing can be written to a file that is open for reading.
-    let (staged, place) = (
-        String::from_str(alloc, path)?,
-        String::from_str(alloc, "F/0")?,
-    );
-    let mut bay = folder(&rt, "dataset.idx")?;
-    let mut draft = FileDraft::new(fs::open(&rt, path)?, staged, place);
-    let appended = (draft.append(&[4]), draft.append(&[5]));
-    let faults = draft.faults();
-    bay.retire(draft);
-    assert_eq!(rt; appended, (Err(Outage), Err(Outage)));
-    assert_eq!(rt; faults, 2);
-    assert_eq!(rt; bay.faults(), 1);
+    let mut bay = folder(&rt, "made/dataset.idx")?;
+    assert!(rt; begins(&mut bay, "t1") && written(&mut bay, "t1/0.bin", &[1]).is_some());
+    assert!(rt; written(&mut bay, "t1/0.bin", &[2]).is_none());
     assert_eq!(rt;
-        text(alloc, bay.last_fault())?.as_str(),
-        "closed.raw: Bad file descriptor (os error 9)"
+        said(alloc, &bay)?.as_str(),
+        "made/t1.part/0.bin: File exists (os error 17)"
     );
-    assert!(rt; !stands(&rt, path));
+    assert!(rt; written(&mut bay, "t10/0.bin", &[1]).is_none());
+    let want = "made/t10/0.bin: the file is not in the step that was begun";
+    assert_eq!(rt; said(alloc, &bay)?.as_str(), want);
+    fs::remove_dir_all(&rt, "made")?;
     Ok(())
 }
 
 #[test]
-fn a_finished_file_is_read_by_places(rt: HostRuntime) -> Result<(), Fail> {
+fn one_run_at_a_time_writes_a_step(rt: HostRuntime) -> Result<(), Fail> {
     let alloc = rt.alloc();
-    fs::write(&rt, "first.raw", [1u8, 2, 3].as_slice())?;
-    fs::write(&rt, "second.raw", [4u8, 5].as_slice())?;
-    let first = FileLeaf::new(String::from_str(alloc, "first.raw")?, 3);
-    let second = FileLeaf::new(String::from_str(alloc, "second.raw")?, 2);
-    let gone = FileLeaf::new(String::from_str(alloc, "gone.raw")?, 2);
-    let mut reader = FileReader::new(rt.clone()?, alloc);
-    let mut into = [0u8; 2];
-    for (leaf, at, want) in [
-        (&first, 1, Some([2, 3])),
-        (&first, 0, Some([1, 2])),
-        (&second, 0, Some([4, 5])),
-        (&gone, 0, None),
-        (&first, 1, Some([2, 3])),
-    ] {
-        let read = reader.read_at(leaf, at, &mut into).is_ok();
-        assert_eq!(rt; read.then_some(into), want);
-    }
-    assert_eq!(rt;
-        text(alloc, reader.last_fault())?.as_str(),
-        "gone.raw: No such file or directory (os error 2)"
+    let (mut first, mut second) = (
+        folder(&rt, "two/dataset.idx")?,
+        folder(&rt, "two/dataset.idx")?,
     );
-    assert_eq!(rt; reader.read_at(&second, 1, &mut into), Err(Outage));
+    assert!(rt; begins(&mut first, "t0") && !begins(&mut second, "t0"));
     assert_eq!(rt;
-        text(alloc, reader.last_fault())?.as_str(),
-        "second.raw: the range that was asked for passes the end of the file"
+        said(alloc, &second)?.as_str(),
+        "two/t0.part: another run is writing this step"
     );
-    assert_eq!(rt; (reader.reads(), reader.faults()), (6, 2));
-    is_sendable(&reader);
-    fs::remove_file(&rt, "first.raw")?;
-    fs::remove_file(&rt, "second.raw")?;
+    assert!(rt; saves(alloc, &mut second, "t1")? && begins(&mut second, "t2"));
+    // A run that dies lets its step go.
+    drop(second);
+    assert!(rt; saves(alloc, &mut first, "t2")? && saves(alloc, &mut first, "t0")?);
+    fs::remove_dir_all(&rt, "two")?;
+    Ok(())
+}
+
+#[test]
+fn only_the_staged_folder_that_was_begun_is_committed(rt: HostRuntime) -> Result<(), Fail> {
+    let alloc = rt.alloc();
+    let mut bay = folder(&rt, "begun/dataset.idx")?;
+    assert!(rt; begins(&mut bay, "t0"));
+    let leaf = written(&mut bay, "t0/0.bin", &[1]).ok_or("no leaf")?;
+    fs::rename(&rt, "begun/t0.part", "begun/taken")?;
+    fs::create_dir(&rt, "begun/t0.part")?;
+    assert!(rt; !commits(alloc, &mut bay, "t0", "t0/0.bin", leaf)?);
+    let want = "begun/t0: the staged folder is not the one that was begun";
+    assert_eq!(rt; said(alloc, &bay)?.as_str(), want);
+    let leaf = FileLeaf::new(String::from_str(alloc, "begun/t1/0.bin")?, 1);
+    fs::create_dir(&rt, "begun/t1.part")?;
+    assert!(rt; !commits(alloc, &mut bay, "t1", "t1/0.bin", leaf)? && !stands(&rt, "begun/t1"));
+    fs::remove_dir_all(&rt, "begun")?;
+    Ok(())
+}
+
+/// A draft over a file that is open for reading, so that nothing can be written to it, is given up.
+fn gives_up_closed(
+    bay: &mut FolderBay<HostRuntime>,
+    rt: &HostRuntime,
+    path: &str,
+) -> Result<bool, Fail> {
+    let alloc = rt.alloc();
+    let (staged, place) = (
+        String::from_str(alloc, path)?,
+        String::from_str(alloc, "F/0")?,
+    );
+    let mut draft = FileDraft::new(fs::open(rt, path)?, staged, place);
+    let refused = draft.append(&[4]).is_err();
+    bay.retire(draft);
+    Ok(refused)
+}
+
+#[test]
+fn a_draft_that_cannot_be_written_is_a_fault_of_its_bay(rt: HostRuntime) -> Result<(), Fail> {
+    let path = "closed.raw";
+    fs::write(&rt, path, "old")?;
+    let mut bay = folder(&rt, "dataset.idx")?;
+    assert!(rt; gives_up_closed(&mut bay, &rt, path)? && !stands(&rt, path));
+    let want = "closed.raw: Bad file descriptor (os error 9)";
+    assert_eq!(rt; said(rt.alloc(), &bay)?.as_str(), want);
     Ok(())
 }

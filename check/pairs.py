@@ -1,0 +1,143 @@
+#!/usr/bin/env python3
+"""Starts pairs of `convert` at the same time over real folders, and looks at what stands afterwards.
+
+    check/pairs.py PROGRAM [--pairs 200]
+
+Each pair writes into a folder of its own. Some write the same step out of two volumes, some write other steps under one
+header, and some the same step under other headers. However a pair went: each step that stands is whole and of one run, a
+run that ends with 0 has left its files and its header, and the other says why. Runs of other steps under a header that
+stands both end with 0. The last line is `N passed, M failed`.
+"""
+import argparse
+import subprocess
+import sys
+import tempfile
+from pathlib import Path
+
+SIDE = 64
+BOX = f"0 {SIDE - 1} 0 {SIDE - 1} 0 {SIDE - 1}"
+MASK = "V" + "012" * 6
+FIELD = "a uint8"
+TIMES = "0 99 time%04d/"
+KINDS = ["same step", "same step, no header yet", "other steps", "other steps, no header yet", "other headers"]
+WHY = ("another run is writing this step", "something stands there already")
+PUBLISHED = 6
+STORE_FAULT = 5
+
+
+def words(program, dataset, raw, time, blocks_per_file=2):
+    """The words of a run."""
+    return [program, "convert", str(dataset), str(raw), BOX, FIELD, MASK, "12", str(blocks_per_file), "./%02x.bin", TIMES, str(time)]
+
+
+def run_both(first, second):
+    """Starts both, and gives for each its status and what it said."""
+    runs = [subprocess.Popen(line, stdout=subprocess.PIPE, stderr=subprocess.PIPE) for line in (first, second)]
+    ends = []
+    for run in runs:
+        out, err = run.communicate(timeout=60)
+        ends.append((run.returncode, (out + err).decode(errors="replace")))
+    return ends
+
+
+def files_of(folder):
+    """The files of a step, by name; none where the step does not stand."""
+    if not folder.is_dir():
+        return None
+    return {str(file.relative_to(folder)): file.read_bytes() for file in sorted(folder.rglob("*")) if file.is_file()}
+
+
+class Wanted:
+    """What runs alone leave: the header and the step's files of each volume."""
+
+    def __init__(self, program, top, raws):
+        self.header, self.files = {}, {}
+        for name, raw in raws.items():
+            for blocks_per_file in (2, 4):
+                alone = top / f"alone-{name}-{blocks_per_file}"
+                alone.mkdir()
+                line = words(program, alone / "v.idx", raw, 0, blocks_per_file)
+                done = subprocess.run(line, capture_output=True, timeout=60)
+                if done.returncode != 0:
+                    sys.exit(f"a run alone ends with {done.returncode}: {done.stderr.decode(errors='replace')}")
+                self.header[blocks_per_file] = (alone / "v.idx").read_bytes()
+                self.files[name, blocks_per_file] = files_of(alone / "time0000")
+
+
+def refusal(status, said):
+    """What is wrong with the answer of a run that did not end with 0."""
+    if status == PUBLISHED or (status == STORE_FAULT and any(why in said for why in WHY)):
+        return None
+    return f"status {status} with {said!r}"
+
+
+def left_overs(top):
+    """Staged files and folders that both runs left behind, of which a run that was refused may leave none."""
+    return sorted(str(path.relative_to(top)) for path in top.rglob("*.part*"))
+
+
+def check_pair(program, top, raws, wanted, kind):
+    """Runs a pair, and gives what is wrong with it."""
+    top.mkdir()
+    dataset = top / "v.idx"
+    times = (0, 1) if kind.startswith("other steps") else (0, 0)
+    blocks = (2, 4) if kind == "other headers" else (2, 2)
+    if kind in ("same step", "other steps"):
+        dataset.write_bytes(wanted.header[2])
+    names = ("a", "b")
+    ends = run_both(*(words(program, dataset, raws[names[n]], times[n], blocks[n]) for n in (0, 1)))
+    good = [n for n in (0, 1) if ends[n][0] == 0]
+    wrong = [found for n in (0, 1) if n not in good for found in [refusal(*ends[n])] if found]
+    if kind == "other steps" and len(good) != 2:
+        wrong.append(f"other steps ended with {ends[0][0]} and {ends[1][0]}")
+    if not kind.startswith("other steps") and len(good) == 2:
+        wrong.append("both ended with 0")
+    header = dataset.read_bytes() if dataset.exists() else b""
+    if header not in (b"", wanted.header[2], wanted.header[4]):
+        wrong.append("the header is of neither run")
+    for n in good:
+        if header != wanted.header[blocks[n]]:
+            wrong.append(f"run {n} ended with 0, and its header does not stand")
+        if files_of(top / f"time{times[n]:04}") != wanted.files[names[n], blocks[n]]:
+            wrong.append(f"run {n} ended with 0, and its files do not stand")
+    for time in set(times):
+        stands = files_of(top / f"time{time:04}")
+        whole = [wanted.files[names[n], blocks[n]] for n in (0, 1) if times[n] == time]
+        if stands is not None and stands not in whole:
+            wrong.append(f"step {time} is of neither run")
+        if stands is None and any(times[n] == time for n in good):
+            wrong.append(f"step {time} does not stand")
+    if len(good) == 2 and left_overs(top):
+        wrong.append(f"left over: {left_overs(top)}")
+    return ends, wrong
+
+
+def main():
+    parser = argparse.ArgumentParser(description=__doc__.split("\n")[0])
+    parser.add_argument("program", type=Path)
+    parser.add_argument("--pairs", type=int, default=200)
+    asked = parser.parse_args()
+    program = str(asked.program.resolve())
+    passed = failed = 0
+    count = {}
+    with tempfile.TemporaryDirectory() as folder:
+        top = Path(folder)
+        raws = {name: top / f"{name}.raw" for name in ("a", "b")}
+        for name, raw in raws.items():
+            raw.write_bytes(bytes((at * 7 + (name == "b") * 3 + at // 251) % 251 for at in range(SIDE ** 3)))
+        wanted = Wanted(program, top, raws)
+        for number in range(asked.pairs):
+            kind = KINDS[number % len(KINDS)]
+            ends, wrong = check_pair(program, top / f"pair{number}", raws, wanted, kind)
+            statuses = tuple(sorted(end[0] for end in ends))
+            count[kind, statuses] = count.get((kind, statuses), 0) + 1
+            passed, failed = passed + (not wrong), failed + bool(wrong)
+            for text in wrong:
+                print(f"pair {number}, {kind}: {text}")
+    for (kind, statuses), times in sorted(count.items()):
+        print(f"{kind}: {times} pairs ended with {statuses[0]} and {statuses[1]}")
+    print(f"{passed} passed, {failed} failed")
+    sys.exit(1 if failed else 0)
+
+
+main()

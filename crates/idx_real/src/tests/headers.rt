@@ -1,0 +1,98 @@
+//! Header files.
+use super::*;
+
+/// The header's text behind one letter; none where the call failed.
+fn header(alloc: Global, bay: &mut FolderBay<HostRuntime>) -> Result<Option<Bytes>, Fail> {
+    let mut into = Bytes::from_slice(alloc, b"a")?;
+    Ok(bay.header(&mut into).ok().map(|()| into))
+}
+
+/// Whether the header reads so behind one letter.
+fn reads(rt: &HostRuntime, path: &str, want: &[u8]) -> Result<bool, Fail> {
+    match header(rt.alloc(), &mut folder(rt, path)?)? {
+        Some(text) => Ok(text.as_slice() == want),
+        None => Ok(false),
+    }
+}
+
+fn puts(rt: &HostRuntime, path: &str, text: &[u8]) -> Result<bool, Fail> {
+    Ok(folder(rt, path)?.set_header(text).is_ok())
+}
+
+/// The fault of a call that puts a header.
+fn fault_of_put(rt: &HostRuntime, path: &str) -> Result<String, Fail> {
+    let mut bay = folder(rt, path)?;
+    let _ = bay.set_header(b"late");
+    text(rt.alloc(), bay.last_fault())
+}
+
+/// The fault of a call that reads a header.
+fn fault_of_read(rt: &HostRuntime, path: &str) -> Result<String, Fail> {
+    let mut bay = folder(rt, path)?;
+    let _ = header(rt.alloc(), &mut bay)?;
+    is_sendable(&bay);
+    text(rt.alloc(), bay.last_fault())
+}
+
+#[test]
+fn a_header_is_put_once_and_read(rt: HostRuntime) -> Result<(), Fail> {
+    let path = "first/set/dataset.idx";
+    assert!(rt; reads(&rt, path, b"a")?);
+    assert!(rt; puts(&rt, path, b"text")? && reads(&rt, path, b"atext")?);
+    let want = "first/set/dataset.idx: something stands there already";
+    assert_eq!(rt; fault_of_put(&rt, path)?.as_str(), want);
+    assert!(rt; reads(&rt, path, b"atext")?);
+    assert!(rt; !stands(&rt, "first/set/dataset.idx.part0"));
+    fs::remove_dir_all(&rt, "first")?;
+    Ok(())
+}
+
+#[test]
+fn an_empty_header_file_is_none_and_a_staged_one_is_left_alone(
+    rt: HostRuntime,
+) -> Result<(), Fail> {
+    let path = "empty.idx";
+    fs::write(&rt, path, "")?;
+    fs::write(&rt, "empty.idx.part0", "of another run")?;
+    assert!(rt; puts(&rt, path, b"text")? && holds(&rt, path, b"text"));
+    assert!(rt; holds(&rt, "empty.idx.part0", b"of another run"));
+    assert!(rt; !stands(&rt, "empty.idx.part1"));
+    fs::remove_file(&rt, path)?;
+    fs::remove_file(&rt, "empty.idx.part0")?;
+    Ok(())
+}
+
+/// How many bytes are read of a header file of so many.
+fn length_read(rt: &HostRuntime, length: usize) -> Result<Option<usize>, Fail> {
+    let (path, alloc) = ("long.idx", rt.alloc());
+    let bytes = vec![in alloc; 7u8; length]?;
+    fs::write(rt, path, bytes.as_slice())?;
+    let text = header(alloc, &mut folder(rt, path)?)?;
+    fs::remove_file(rt, path)?;
+    Ok(text.map(|text| text.len()))
+}
+
+#[test]
+fn one_byte_more_than_a_header_has_is_read_at_most(rt: HostRuntime) -> Result<(), Fail> {
+    for (length, read) in [(65_536, 65_537), (65_537, 65_538), (100_000, 65_538)] {
+        assert_eq!(rt; length_read(&rt, length)?, Some(read));
+    }
+    Ok(())
+}
+
+#[test]
+fn a_header_that_is_no_regular_file_is_a_fault_with_its_reason(
+    rt: HostRuntime,
+) -> Result<(), Fail> {
+    let alloc = rt.alloc();
+    // To open this pipe, which nobody writes to, would wait for ever.
+    let (reader, writer) = io::pipe(&rt)?;
+    drop(writer);
+    let pipe = format!(in alloc; "/proc/self/fd/{}", reader.as_raw_fd())?;
+    for (path, reason) in no_files(alloc, pipe.as_str())? {
+        let want = format!(in alloc; "{path}: {reason}")?;
+        assert_eq!(rt; fault_of_read(&rt, path.as_str())?, want);
+    }
+    assert_eq!(rt; fault_of_read(&rt, "gone/dataset.idx")?.as_str(), "");
+    Ok(())
+}

@@ -1,0 +1,86 @@
+//! A runtime that looks at a header's file when it gets its name.
+use super::*;
+use crate::header_file::put_new;
+use std::alloc::Allocator;
+use std::cell::Cell;
+use std::fs::{File, Metadata, OpenOptions};
+use std::rt::Files;
+
+/// The files of the system. What is linked or renamed has so many bytes then.
+#[derive(Drop)]
+struct Watched<'a> {
+    rt: &'a HostRuntime,
+    named: &'a Cell<u64>,
+}
+
+impl Watched<'_> {
+    fn look_at(&self, path: &str) -> io::Result<()> {
+        self.named.set(fs::metadata(self.rt, path)?.len());
+        Ok(())
+    }
+}
+
+impl Files for Watched<'_> {
+    type File = File;
+
+    type Dir = <HostRuntime as Files>::Dir;
+
+    fn open_file(&self, how: &OpenOptions, path: &str) -> io::Result<File> {
+        self.rt.open_file(how, path)
+    }
+
+    fn open_dir(&self, path: &str) -> io::Result<<HostRuntime as Files>::Dir> {
+        self.rt.open_dir(path)
+    }
+
+    fn metadata(&self, path: &str) -> io::Result<Metadata> {
+        self.rt.metadata(path)
+    }
+
+    fn symlink_metadata(&self, path: &str) -> io::Result<Metadata> {
+        self.rt.symlink_metadata(path)
+    }
+
+    fn copy(&self, from: &str, to: &str) -> io::Result<u64> {
+        self.rt.copy(from, to)
+    }
+
+    fn rename(&self, from: &str, to: &str) -> io::Result<()> {
+        self.look_at(from)?;
+        self.rt.rename(from, to)
+    }
+
+    fn hard_link(&self, from: &str, to: &str) -> io::Result<()> {
+        self.look_at(from)?;
+        self.rt.hard_link(from, to)
+    }
+
+    fn remove_file(&self, path: &str) -> io::Result<()> {
+        self.rt.remove_file(path)
+    }
+
+    fn create_dir(&self, path: &str) -> io::Result<()> {
+        self.rt.create_dir(path)
+    }
+
+    fn remove_dir(&self, path: &str) -> io::Result<()> {
+        self.rt.remove_dir(path)
+    }
+
+    fn remove_dir_all<B: Allocator>(&self, alloc: B, path: &str) -> io::Result<()> {
+        self.rt.remove_dir_all(alloc, path)
+    }
+}
+
+#[test]
+fn a_header_gets_its_name_with_all_its_bytes(rt: HostRuntime) -> Result<(), Fail> {
+    let named = Cell::new(0);
+    let watched = Watched {
+        rt: &rt,
+        named: &named,
+    };
+    assert!(rt; put_new(&watched, rt.alloc(), "watched.idx", b"text").is_ok());
+    assert_eq!(rt; named.get(), 4);
+    fs::remove_file(&rt, "watched.idx")?;
+    Ok(())
+}
