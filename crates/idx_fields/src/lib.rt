@@ -9,8 +9,6 @@ mod fields;
 mod fields_fault;
 mod laws;
 mod stored_field;
-#[cfg(test)]
-mod tests;
 mod words;
 
 pub use base::Base;

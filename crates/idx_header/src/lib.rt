@@ -17,8 +17,6 @@ mod read;
 mod space;
 mod steps;
 mod template;
-#[cfg(test)]
-mod tests;
 mod time;
 mod unknown;
 mod unknowns;

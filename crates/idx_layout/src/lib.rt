@@ -11,8 +11,6 @@ mod points;
 mod present_files;
 mod rows_in_file;
 mod run;
-#[cfg(test)]
-mod tests;
 
 pub use block_place::Place;
 pub use blocks_in_file::FileBlocks;

@@ -11,8 +11,6 @@ mod path;
 mod piece;
 mod pieces;
 mod template;
-#[cfg(test)]
-mod tests;
 mod time_template;
 
 pub use examples::{worked_paths, worked_templates, worked_time_templates};

@@ -6,8 +6,6 @@ mod laws;
 mod row;
 mod table;
 mod table_fault;
-#[cfg(test)]
-mod tests;
 
 pub use examples::{worked_rows, worked_tables};
 pub use laws::{first_faults_are_first, rows_read_back, tables_read_back};

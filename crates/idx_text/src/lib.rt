@@ -10,8 +10,6 @@ mod line;
 mod number;
 mod numbers;
 mod section;
-#[cfg(test)]
-mod tests;
 mod text_fault;
 mod trim;
 

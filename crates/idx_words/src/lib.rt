@@ -19,8 +19,6 @@ mod path;
 mod query;
 mod query_word;
 mod query_words;
-#[cfg(test)]
-mod tests;
 mod text;
 mod words;
 

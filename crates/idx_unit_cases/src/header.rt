@@ -1,4 +1,4 @@
-use crate::Header;
+use idx_header::Header;
 use idx_outside::Bytes;
 use std::alloc::Global;
 

@@ -1,5 +1,5 @@
-use crate::{file_rows, files, present_in_file};
 use idx_header::Header;
+use idx_layout::{file_rows, files, present_in_file};
 use idx_table::Row;
 use std::alloc::Global;
 

@@ -1,4 +1,4 @@
-use crate::{Template, TimeTemplate, file_path, file_path_of_step, step_folder};
+use idx_names::{Template, TimeTemplate, file_path, file_path_of_step, step_folder};
 use idx_outside::Bytes;
 use std::alloc::Global;
 

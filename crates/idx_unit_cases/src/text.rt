@@ -1,5 +1,7 @@
-use crate::{Document, TextFault, read_box, read_number, read_numbers, trim_blanks, write_number};
 use idx_outside::Bytes;
+use idx_text::{
+    Document, TextFault, read_box, read_number, read_numbers, trim_blanks, write_number,
+};
 use std::test::Fail;
 
 /// A text with both kinds of line ends, blank lines, and a value over several lines.

@@ -1,4 +1,4 @@
-use crate::Fields;
+use idx_fields::Fields;
 use idx_outside::{Bytes, NoMemory};
 use std::alloc::Global;
 

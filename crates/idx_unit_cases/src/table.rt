@@ -1,4 +1,4 @@
-use crate::{ROW_BYTES, Row, Table, TableFault, write_row};
+use idx_table::{ROW_BYTES, Row, Table, TableFault, write_row};
 use std::alloc::{AllocError, Global};
 
 /// How many bytes the file has whose table these tests read: two rows, and a block of four bytes for each.

@@ -1,4 +1,4 @@
-use crate::{Command, ConvertWords, read_words};
+use idx_words::{Command, ConvertWords, read_words};
 use std::alloc::{AllocError, Global};
 
 /// Words of `cut` and `info` and of no command, each behind the place of the first that is wrong or missing.
