@@ -55,8 +55,8 @@ impl Sample for AnySize {
     }
 }
 
-/// Evaluates an expression over the way in which samples of so many bytes are copied, as `by_size!(size, sample =>
-/// walk(sample, ..))`: once for each usual size, which the compiler then knows, and once for all others.
+/// Evaluates an expression with the way in which samples of so many bytes are copied: once for each usual size, which
+/// the compiler then knows, and once for all others. So `by_size!(size, sample => walk(sample, lanes))`.
 #[macro_export]
 macro_rules! by_size {
     ($size:expr, $sample:ident => $copy:expr) => {

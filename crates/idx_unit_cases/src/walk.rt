@@ -4,7 +4,7 @@ ghost use Rattle.idx_stride.specs.Strides.{end_of};
 use idx_geom::{Point, Region};
 use idx_hz::Mask;
 use idx_outside::{Bytes, NoMemory};
-use idx_stride::{Axis, Strides};
+use idx_stride::Strides;
 use idx_walk::{answer_by_points, walk};
 use std::alloc::Global;
 use std::process::Abort;
@@ -114,43 +114,6 @@ fn a_walk_visits_what_the_search_finds(rt: HostRuntime) -> Result<(), Fail> {
                 assert_eq!(rt; samples.as_slice(), found.as_slice());
             }
         }
-    }
-    Ok(())
-}
-
-/// The bytes of 4 by 4 points, of which point number n has the byte n.
-const BYTES: [u8; 16] = [0, 1, 2, 3, 4, 5, 6, 7, 8, 9, 10, 11, 12, 13, 14, 15];
-
-/// The ends of a region, two levels, and the samples of its points between them.
-type Row = ([&'static [u64]; 2], (u32, u32), &'static [u8]);
-
-/// Of the mask V0101: the levels 0 to 2 and 3 to 4 of all points, the only point of level 3 of a box of 2 by 3 points,
-/// and a box without a point of level 0.
-const ROWS: [Row; 4] = [
-    ([&[0, 0], &[3, 3]], (0, 2), &[0, 2, 8, 10]),
-    (
-        [&[0, 0], &[3, 3]],
-        (3, 4),
-        &[1, 3, 4, 5, 6, 7, 9, 11, 12, 13, 14, 15],
-    ),
-    ([&[1, 2], &[1, 3]], (3, 3), &[9]),
-    ([&[1, 1], &[1, 1]], (0, 0), &[]),
-];
-
-#[test]
-fn a_walk_visits_worked_samples(rt: HostRuntime) -> Result<(), Fail> {
-    let mask = Mask::parse(b"V0101").expect(&rt, "a mask");
-    let extent = region_of(&rt, [&[0, 0], &[3, 3]]);
-    for (ends, (lo, hi), want) in &ROWS {
-        let region = region_of(&rt, *ends);
-        assert!(rt; mask.holds(&extent) && extent.holds(&region));
-        assert!(rt; *lo <= *hi && *hi <= mask.len());
-        assert_eq!(rt; extent.count(), 16);
-        let samples = match walk(&mask, &extent, &region, *lo, *hi, 1) {
-            None => Bytes::new(rt.alloc()),
-            Some(walk) => visited(rt.alloc(), &walk, &BYTES)?,
-        };
-        assert_eq!(rt; samples.as_slice(), *want);
     }
     Ok(())
 }
