@@ -1,4 +1,5 @@
 use Rattle.std.proofs.Common.{ℕ, ◌<◌, List, length, sym, ap, subst, ◌∙◌}
+use Rattle.std.specs.Vec.{vec_len}
 use Rattle.idx_outside.specs.Files.{AllLieIn, added, leaf_files, shown}
 use Rattle.idx_header.specs.Names.{file_name}
 use Rattle.idx_layout.specs.Step.{step_files, volume_of_raw}
@@ -27,6 +28,7 @@ of_leaves-requires-clause-written g c =
     )
 
 pub commit-requires-clause-some : goal.commit-requires-clause-some
+unfolding vec_len
 commit-requires-clause-some g c =
     let h = c.args.header.now in
     let volume = volume_of_raw h c.args.raw.now in
