@@ -302,7 +302,7 @@ where
 
     /// Reads the header file anew at each call, and at most `HEADER_READ` bytes of it.
     fn header(&mut self, into: &mut Bytes) -> Result<(), BayFault>
-        ensures text { OnOk result (AppendsFront R.File.remaining HEADER_READ into.old into.new) }
+        ensures text { OnOk result (AppendsFront R.File.remaining 65537 into.old into.new) }
         ensures refused { OnErr result (into.new ≡ into.old) }
         ensures path { self.new.path ≡ self.old.path }
         ensures begun { self.new.begun ≡ self.old.begun }

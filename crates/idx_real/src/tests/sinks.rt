@@ -74,16 +74,6 @@ fn a_piece_is_written_whole_and_flushed(rt: HostRuntime) -> Result<(), Fail> {
 }
 
 #[test]
-fn what_is_written_stands_in_the_file(rt: HostRuntime) -> Result<(), Fail> {
-    let path = "sink.raw";
-    let mut sink = StdSink::new(fs::create(&rt, path)?);
-    assert!(rt; takes(&mut sink, &[1, 2]) && takes(&mut sink, &[]) && takes(&mut sink, &[3]));
-    assert!(rt; holds(&rt, path, &[1, 2, 3]));
-    fs::remove_file(&rt, path)?;
-    Ok(())
-}
-
-#[test]
 fn a_pipe_that_nobody_reads_is_a_fault(rt: HostRuntime) -> Result<(), Fail> {
     let (reader, writer) = io::pipe(&rt)?;
     let mut pipe = StdSink::new(writer);
@@ -93,11 +83,4 @@ fn a_pipe_that_nobody_reads_is_a_fault(rt: HostRuntime) -> Result<(), Fail> {
     let want = "standard output: Broken pipe (os error 32)";
     assert_eq!(rt; said(rt.alloc(), &pipe)?.as_str(), want);
     Ok(())
-}
-
-#[test]
-fn nothing_is_printed_by_an_empty_piece(rt: HostRuntime) {
-    let mut sink = StdSink::new(rt.stdout());
-    assert!(rt; takes(&mut sink, &[]));
-    is_sendable(&sink);
 }
