@@ -1,5 +1,4 @@
-use Rattle.std.proofs.Common.{ℕ, ◌<◌, List, length, sym, ap, subst, ◌∙◌}
-use Rattle.std.specs.Vec.{vec_len}
+use Rattle.std.proofs.Common.{ℕ, ◌<◌, List, length, sym, ap, subst, ◌∙◌, arith}
 use Rattle.idx_outside.specs.Files.{AllLieIn, added, leaf_files, shown}
 use Rattle.idx_header.specs.Names.{file_name}
 use Rattle.idx_layout.specs.Step.{step_files, volume_of_raw}
@@ -28,13 +27,14 @@ of_leaves-requires-clause-written g c =
     )
 
 pub commit-requires-clause-some : goal.commit-requires-clause-some
-unfolding vec_len
 commit-requires-clause-some g c =
     let h = c.args.header.now in
     let volume = volume_of_raw h c.args.raw.now in
+    let some : 0 < length c.leaves.result.now.items =
     subst (λ leaves. 0 < length leaves) (sym (c.leaves.ensures ∙ c.in_ok-edition.ensures.leaves))
     (some_leaf g.B.Leaf.Leaf.contents (g.B.Bay.files c.args.bay.now) c.in_ok-leaves.leaves.items (step_files h volume c.args.step)
-    c.in_ok-leaves.ensures.leaves.same (some_step_file h volume c.args.step c.in_ok-edition.ensures.valid))
+    c.in_ok-leaves.ensures.leaves.same (some_step_file h volume c.args.step c.in_ok-edition.ensures.valid)) in
+    omega (arith, some, c.leaves.result.now.ok)
 
 pub commit-requires-clause-within : goal.commit-requires-clause-within
 commit-requires-clause-within g c = λ files known.
