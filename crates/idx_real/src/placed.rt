@@ -15,11 +15,7 @@ pub(crate) fn length_of<F: Seek>(file: &mut F) -> Result<u64, Reason>
 
 /// Fills `into` with the file's bytes from place `at` on. A range that passes the file's end is a fault, also an empty
 /// one.
-pub(crate) fn read_range<F: Read + Seek>(
-    file: &mut F,
-    at: u64,
-    into: &mut [u8],
-) -> Result<(), Reason>
+pub fn read_range<F: Read + Seek>(file: &mut F, at: u64, into: &mut [u8]) -> Result<(), Reason>
     ensures { OnOk result (WasReadAt F.remaining F.stream_position F.stream_bytes file.old at into.new) }
 {
     if into.is_empty() {

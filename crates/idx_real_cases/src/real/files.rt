@@ -4,7 +4,7 @@ ghost use Rattle.std.specs.Io.Cursor.{cursor_inner};
 ghost use Rattle.idx_real.specs.Placed.{StandsAt};
 
 use super::*;
-use crate::placed::read_range;
+use idx_real::read_range;
 use std::io::Cursor;
 
 /// Bytes in memory, of which the contract of files of the system says all.

@@ -1,6 +1,6 @@
 //! A runtime that looks at a header's file when it gets its name.
 use super::*;
-use crate::header_file::put_new;
+use idx_real::put_new;
 use std::alloc::Allocator;
 use std::cell::Cell;
 use std::fs::{File, Metadata, OpenOptions};

@@ -1,7 +1,7 @@
 //! Files and writers of the system, and fakes of what it may do. Each call with a long contract stands in a function
 //! of its own, which answers a small value.
-use super::*;
 use idx_outside::{Bay, Bytes, Draft, Leaf, Reader, Sink, Source};
+use idx_real::*;
 use std::alloc::Global;
 use std::os::fd::AsRawFd;
 use std::test::Fail;
