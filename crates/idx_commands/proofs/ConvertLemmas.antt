@@ -1,8 +1,9 @@
 -- What a run of `convert` comes to where what it meets is known.
 use Rattle.std.proofs.Common.{◌≡◌, ◌≢◌, ◌⊎◌, ℕ, ◌^◌, ◌<◌, ◌≤◌, List, [], length, Ok, IsErr, IfSome, IsSomeAnd, inl, inr, refl, sym, ◌∙◌, subst, arith}
 use Rattle.std.proofs.lemmas.Bool.{false≢true}
-use Rattle.idx_outside.specs.Cause.{Rose}
-use Rattle.idx_outside.specs.Files.{HasStep as HasCommitted}
+use Rattle.idx_outside.specs.Cause.{NeverFalls, Rose}
+use Rattle.idx_outside.specs.Files.{HasStep as HasCommitted, StillAdmits}
+use Rattle.idx_outside.specs.Objects.{UsesOnly}
 use Rattle.idx_outside.specs.declared.mem_file.MemFile.{MemFile}
 use Rattle.idx_header.specs.declared.header_kind.HeaderKind.{HeaderKind}
 use Rattle.idx_header.specs.Header.{HeaderValue, Agree, volume_bytes}
@@ -18,8 +19,9 @@ use Rattle.idx_words.proofs.BuiltLemmas.{IsBuilt-once}
 use Rattle.idx_commands.specs.declared.causes.Cause.{Cause}
 use Rattle.idx_commands.specs.declared.causes.Cause.TheVariants as causes
 use Rattle.idx_commands.specs.Cause.{status_of}
-use Rattle.idx_commands.specs.Known.{Known}
-use Rattle.idx_commands.specs.ConvertRun.{cause_of_fault, ConvertEnds, Fails, IsConverted, IsEarlyCause}
+use Rattle.idx_commands.specs.Known.{Known, known}
+use Rattle.idx_commands.specs.Seen.{BaySeen, RawsSeen, bay_after, bay_before, raw_after, raw_before}
+use Rattle.idx_commands.specs.ConvertRun.{cause_of_fault, ConvertEnds, ConvertMeans, Fails, IsConverted, IsEarlyCause}
 use Rattle.idx_commands.proofs.KnownLemmas.{both_hold, not_refused, one_header}
 use Rattle.idx_commands.specs.Due.{HasOtherLength, HasRightLength, IsBadText, IsFree, IsTooLarge, LacksStep, MeetsBadHeader, MeetsOtherHeader, MeetsStep}
 
@@ -218,7 +220,7 @@ module _ (text : List ℕ) (step : ℕ) (k : Known) where
 -- status 0 if the step was written, of want of memory, and of each fault.
 judged : (P : ℕ → Type 0) (c : ConvertValue) (k : Known) (text : List ℕ) → IsBuilt c text → (IsConverted text c.step k → P 0) → P 11 →
     ((fault : ConvertFault) → C text c.step k fault → P (status_of (cause_of_fault c.step fault))) →
-    (cause : Cause) → ConvertEnds c k cause → P (status_of cause)
+    (cause : Cause) → ConvertMeans c k cause → P (status_of cause)
 judged P c k text built done starved failed = end
   where
     same : (other : List ℕ) → IsBuilt c other → other ≡ text
@@ -230,27 +232,14 @@ judged P c k text built done starved failed = end
     at : (cause : Cause) (other : List ℕ) → IsBuilt c other → Fails other c.step k cause → P (status_of cause)
     at cause other is f = fails cause (subst (λ x. Fails x c.step k cause) (same other is) f)
 
-    end : (cause : Cause) → ConvertEnds c k cause → P (status_of cause)
+    end : (cause : Cause) → ConvertMeans c k cause → P (status_of cause)
     end causes.Done (other, (is, wrote)) = done (subst (λ x. IsConverted x c.step k) (same other is) wrote)
     end (causes.Usage place) ends = absurd ends
     end causes.SinkFault ends = absurd ends
     end causes.NoMemory ends = starved
-    end (causes.Header line kind) (other, (is, f)) = at (causes.Header line kind) other is f
-    end (causes.RawWrongSize want found) (other, (is, f)) = at (causes.RawWrongSize want found) other is f
-    end causes.RawFault (other, (is, f)) = at causes.RawFault other is f
-    end causes.StoreFault (other, (is, f)) = at causes.StoreFault other is f
-    end (causes.AlreadyPublished time) (other, (is, f)) = at (causes.AlreadyPublished time) other is f
-    end causes.OtherHeader (other, (is, f)) = at causes.OtherHeader other is f
-    end (causes.NotPublished time) (other, (is, f)) = at (causes.NotPublished time) other is f
-    end causes.OtherAxes (other, (is, f)) = at causes.OtherAxes other is f
-    end causes.UnknownField (other, (is, f)) = at causes.UnknownField other is f
-    end (causes.OutsideVolume axis) (other, (is, f)) = at (causes.OutsideVolume axis) other is f
-    end (causes.BadLevels lo hi max) (other, (is, f)) = at (causes.BadLevels lo hi max) other is f
-    end (causes.BadTable file row kind) (other, (is, f)) = at (causes.BadTable file row kind) other is f
-    end (causes.TooLarge bytes) (other, (is, f)) = at (causes.TooLarge bytes) other is f
-    end (causes.NoStep time) (other, (is, f)) = at (causes.NoStep time) other is f
+    end cause (other, (is, f)) = at cause other is f
 
-module _ (c : ConvertValue) (k : Known) (cause : Cause) (ends : ConvertEnds c k cause) where
+module _ (c : ConvertValue) (k : Known) (cause : Cause) (ends : ConvertMeans c k cause) where
   -- what was converted has the header that was asked for
   wrote_for : (text : List ℕ) (step : ℕ) (h : HeaderValue) → AsksFor text step h → (wrote : IsConverted text step k) → (P : HeaderValue → Type 0) → P wrote.header → P h
   wrote_for text step h asked wrote P = subst P (one_header text wrote.header h wrote.asked.reads asked.reads)
@@ -311,6 +300,23 @@ module _ (c : ConvertValue) (k : Known) (cause : Cause) (ends : ConvertEnds c k 
       (λ wrote. inl refl) (inr refl)
       (λ fault caused. complete text c.step k h asked suits new right raw_quiet bay_quiet fault (late text c.step k h asked fault caused)) cause ends
 
+-- a fault of the raw volume or of the store has its cause
+only_raw : (text : List ℕ) (step : ℕ) (k : Known) (fault : ConvertFault) → cause_of_fault step fault ≡ causes.RawFault → C text step k fault →
+    Rose k.raw_before k.raw_after
+only_raw text step k faults.RawFault is c = c.1.1.1
+only_raw text step k _ is c = absurd cc
+
+only_store : (text : List ℕ) (step : ℕ) (k : Known) (fault : ConvertFault) → cause_of_fault step fault ≡ causes.StoreFault → C text step k fault →
+    Rose k.bay_before k.bay_after
+only_store text step k faults.StoreFault is c = c.1.1
+only_store text step k _ is c = absurd cc
+
+pub raw_cause : (c : ConvertValue) (k : Known) → ConvertMeans c k causes.RawFault → Rose k.raw_before k.raw_after
+raw_cause c k (text, (built, f)) = only_raw text c.step k f.fault (sym f.is) f.caused
+
+pub store_cause : (c : ConvertValue) (k : Known) → ConvertMeans c k causes.StoreFault → Rose k.bay_before k.bay_after
+store_cause c k (text, (built, f)) = only_store text c.step k f.fault (sym f.is) f.caused
+
 -- the early causes are those of the early faults
 pub early_fault : (step : ℕ) (fault : ConvertFault) → IsEarlyCause (cause_of_fault step fault) → IsEarly fault
 early_fault step (faults.Header line kind) early = early
@@ -322,3 +328,27 @@ early_fault step (faults.RawWrongSize want found) early = early
 early_fault step faults.RawFault early = early
 early_fault step faults.StoreFault early = early
 early_fault step faults.NoMemory early = early
+
+-- how a run ends, by what its cause says
+module _ {V B : Type 0} (admits : B → List ℕ → Type 0) (c : ConvertValue) (raws : RawsSeen V) (bay : BaySeen B) where
+  pub convert_ends : (cause : Cause) → ConvertMeans c (known raws bay) cause →
+      (raw_before raws < raw_after raws → cause ≡ causes.RawFault) → (bay_before bay < bay_after bay → cause ≡ causes.StoreFault) →
+      (IsEarlyCause cause → StillAdmits admits bay.old bay.new) → UsesOnly raws.contents raws.faults 0 raws.old raws.new →
+      NeverFalls (bay_before bay) (bay_after bay) → ConvertEnds admits c raws bay cause
+  convert_ends cause m raw_answered store_answered unbegun kept count =
+      record {
+        means = m;
+        bad_text = λ (text, (built, due)). bad_text_ends c (known raws bay) cause m text built due;
+        no_step = λ (text, (built, due)). no_step_ends c (known raws bay) cause m text built due;
+        too_large = λ (text, (built, due)). too_large_ends c (known raws bay) cause m text built due;
+        bad_standing = λ (text, (built, due)). bad_standing_ends c (known raws bay) cause m text built due;
+        other_header = λ (text, (built, due)). other_header_ends c (known raws bay) cause m text built due;
+        published = λ (text, (built, due)). published_ends c (known raws bay) cause m text built due;
+        other_length = λ (text, (built, due)). other_length_ends c (known raws bay) cause m text built due;
+        complete = λ (text, (built, due)). complete_ends c (known raws bay) cause m text built due;
+        raw_answered = raw_answered;
+        store_answered = store_answered;
+        unbegun = unbegun;
+        raws_kept = kept;
+        bay_count = count;
+      }

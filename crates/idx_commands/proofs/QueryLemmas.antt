@@ -1,7 +1,9 @@
 -- What a run of `query` comes to where what it meets is known.
-use Rattle.std.proofs.Common.{◌≡◌, ◌≢◌, ◌⊎◌, ℕ, List, length, Option, Some, None, Err, IsErr, IfSome, IsSomeAnd, inl, inr, refl, sym, ◌∙◌, ap, subst}
+use Rattle.std.proofs.Common.{◌≡◌, ◌≢◌, ◌⊎◌, ℕ, ◌<◌, List, length, Option, Some, None, Err, IsErr, IfSome, IsSomeAnd, inl, inr, refl, sym, ◌∙◌, ap, subst}
 use Rattle.std.proofs.lemmas.Bool.{false≢true}
-use Rattle.idx_outside.specs.Cause.{Rose}
+use Rattle.idx_outside.specs.Cause.{NeverFalls, Rose}
+use Rattle.idx_outside.specs.Files.{StillAdmits}
+use Rattle.idx_outside.specs.Objects.{OthersUntouched, faults_at}
 use Rattle.idx_outside.specs.declared.mem_file.MemFile.{MemFile}
 use Rattle.idx_header.specs.declared.header_fault.HeaderFault.{HeaderFault}
 use Rattle.idx_header.specs.Header.{HeaderValue}
@@ -18,15 +20,15 @@ use Rattle.idx_table.specs.declared.table_fault.TableKind.{TableKind}
 use Rattle.idx_words.specs.QueryValue.{QueryValue}
 use Rattle.idx_extract.specs.declared.extract_fault.ExtractFault.{ExtractFault}
 use Rattle.idx_extract.specs.declared.extract_fault.ExtractFault.TheVariants as faults
-use Rattle.idx_extract.specs.Extract.{Asks, Extracted, IsAnswer, IsAsk, IsCause, IsExtracted, IsStop, LacksField, Under}
+use Rattle.idx_extract.specs.Extract.{Asks, Extracted, IsAnswer, IsAsk, IsExtracted, IsStop, LacksField, Under}
 use Rattle.idx_extract.specs.Stages.{fault_of_load}
 use Rattle.idx_commands.specs.declared.causes.Cause.{Cause}
 use Rattle.idx_commands.specs.declared.causes.Cause.TheVariants as causes
 use Rattle.idx_commands.specs.Cause.{status_of}
-use Rattle.idx_commands.specs.Known.{ReaderCounts}
-use Rattle.idx_commands.specs.InfoRun.{KnownReads}
+use Rattle.idx_commands.specs.Seen.{BaySeen, ReaderCounts, ReadersSeen, SinkSeen, bay_after, bay_before, reader_after, reader_before, reader_counts, sink_after, sink_before}
+use Rattle.idx_commands.specs.InfoRun.{HasBadHeader, KnownReads}
 use Rattle.idx_commands.proofs.KnownLemmas.{both_hold, not_refused, one_header}
-use Rattle.idx_commands.specs.QueryRun.{HasSoundStep, IsDue, QueryEnds, ReadsAs, cause_of_extract}
+use Rattle.idx_commands.specs.QueryRun.{HasCause, HasSoundStep, IsDue, IsUnreadCause, QueryEnds, QueryMeans, ReadsAs, cause_of_extract}
 
 -- ---- what is known
 
@@ -165,40 +167,46 @@ query_writes P q (Some text) files before after bytes (h, (reads, e)) holds = (h
 
 -- ---- the run
 
-module _ {K : Type 0} (contents : K → Option (List ℕ)) (faults_of : K → ℕ) (q : QueryValue) (header : Option (List ℕ)) (files : Option (List MemFile))
-    (before after : ℕ) (r : ReaderCounts) (old new : K) where
+module _ {B R K : Type 0} (q : QueryValue) (bay : BaySeen B) (readers : ReadersSeen R) (sink : SinkSeen K) where
+  abbrev header : Option (List ℕ)
+  header = bay.header bay.old
+
+  abbrev files : Option (List MemFile)
+  files = bay.files bay.old
+
+  abbrev reads_before : ℕ
+  reads_before = faults_at readers.reads readers.old 0
+
+  abbrev reads_after : ℕ
+  reads_after = faults_at readers.reads readers.new 0
+
   abbrev C : ExtractFault → Type 0
-  C fault = IsCause q header files before after r.faults_before r.faults_after fault
+  C fault = HasCause q bay (reader_counts readers) fault
 
   abbrev Answered : List ℕ → Type 0
-  Answered bytes = Extracted q header files r.reads_before r.reads_after bytes
+  Answered bytes = Extracted q header files reads_before reads_after bytes
 
   abbrev Ends : Cause → Type 0
-  Ends cause = QueryEnds contents faults_of q header files before after r old new cause
+  Ends cause = QueryMeans q bay (reader_counts readers) sink cause
 
   -- this is so of the cause where it is so of an answer, of want of memory, and of each fault
   judged : (P : Cause → Type 0) → ((bytes : List ℕ) → Answered bytes → P causes.Done) →
-      ((bytes : List ℕ) → Answered bytes → Rose (faults_of old) (faults_of new) → P causes.SinkFault) → P causes.NoMemory →
+      ((bytes : List ℕ) → Answered bytes → Rose (sink_before sink) (sink_after sink) → P causes.SinkFault) → P causes.NoMemory →
       ((fault : ExtractFault) → C fault → P (cause_of_extract q.time fault)) → (cause : Cause) → Ends cause → P cause
-  judged P done sink starved failed causes.Done ends = done ends.0 ends.1.0
-  judged P done sink starved failed causes.SinkFault ends = sink ends.1.0 ends.1.1.0 ends.0
-  judged P done sink starved failed (causes.Header line kind) ends = failed (faults.Header line kind) ends.0
-  judged P done sink starved failed causes.OtherAxes ends = failed faults.OtherAxes ends.0
-  judged P done sink starved failed causes.UnknownField ends = failed faults.UnknownField ends.0
-  judged P done sink starved failed (causes.OutsideVolume axis) ends = failed (faults.Plan (plans.OutsideVolume axis)) ends.0
-  judged P done sink starved failed (causes.BadLevels lo hi max) ends = failed (faults.Plan (plans.BadLevels lo hi max)) ends.0
-  judged P done sink starved failed (causes.TooLarge bytes) ends = failed (faults.Plan (plans.TooLarge bytes)) ends.0
-  judged P done sink starved failed (causes.NotPublished time) (is, c, same) =
+  judged P done taken starved failed causes.Done ends = done ends.0 ends.1.0
+  judged P done taken starved failed causes.SinkFault ends = taken ends.1.0 ends.1.1.0 ends.0
+  judged P done taken starved failed (causes.Header line kind) ends = failed (faults.Header line kind) ends.0
+  judged P done taken starved failed causes.OtherAxes ends = failed faults.OtherAxes ends.0
+  judged P done taken starved failed causes.UnknownField ends = failed faults.UnknownField ends.0
+  judged P done taken starved failed (causes.OutsideVolume axis) ends = failed (faults.Plan (plans.OutsideVolume axis)) ends.0
+  judged P done taken starved failed (causes.BadLevels lo hi max) ends = failed (faults.Plan (plans.BadLevels lo hi max)) ends.0
+  judged P done taken starved failed (causes.TooLarge bytes) ends = failed (faults.Plan (plans.TooLarge bytes)) ends.0
+  judged P done taken starved failed (causes.NotPublished time) (is, c, same) =
       subst (λ t. P (causes.NotPublished t)) (sym is) (failed faults.NotPublished c)
-  judged P done sink starved failed (causes.BadTable file row kind) ends = failed (faults.BadTable file row kind) ends.0
-  judged P done sink starved failed causes.StoreFault ends = failed faults.StoreFault ends.0
-  judged P done sink starved failed causes.NoMemory ends = starved
-  judged P done sink starved failed (causes.Usage at) ends = absurd ends
-  judged P done sink starved failed (causes.RawWrongSize want found) ends = absurd ends
-  judged P done sink starved failed causes.RawFault ends = absurd ends
-  judged P done sink starved failed (causes.AlreadyPublished time) ends = absurd ends
-  judged P done sink starved failed causes.OtherHeader ends = absurd ends
-  judged P done sink starved failed (causes.NoStep time) ends = absurd ends
+  judged P done taken starved failed (causes.BadTable file row kind) ends = failed (faults.BadTable file row kind) ends.0
+  judged P done taken starved failed causes.StoreFault ends = failed faults.StoreFault ends.0
+  judged P done taken starved failed causes.NoMemory ends = starved
+  judged P done taken starved failed _ ends = absurd ends
 
   -- a header that reads is not refused
   due_reads : (fault : ExtractFault) → IsDue q header files fault → (wrong : HeaderFault) → IfSome header (λ text. header_of text ≡ Err wrong) → ⊥
@@ -224,7 +232,7 @@ module _ {K : Type 0} (contents : K → Option (List ℕ)) (faults_of : K → �
   due_stops faults.NoMemory d g u = both_of header _ _ d u (λ h p c. absurd p)
 
   -- where a refusal is due there is no answer
-  time_of : (h : HeaderValue) (bytes : List ℕ) → (e : IsExtracted h q files r.reads_before r.reads_after bytes) → e.ask.time ≡ q.time
+  time_of : (h : HeaderValue) (bytes : List ℕ) → (e : IsExtracted h q files reads_before reads_after bytes) → e.ask.time ≡ q.time
   time_of h bytes e = ap (λ (a : Ask). a.time) e.asked.same
 
   due_unanswered : (fault : ExtractFault) → IsDue q header files fault → (bytes : List ℕ) → Answered bytes → ⊥
@@ -234,10 +242,10 @@ module _ {K : Type 0} (contents : K → Option (List ℕ)) (faults_of : K → �
   due_unanswered (faults.Plan fault) d bytes u =
       both_of header _ _ d u (λ h p e. some_not_none fault (plan_fault h p.0) p.1.1 (same_plan h q files p.0 e.ask p.1.0 e.asked ∙ e.sound))
   due_unanswered faults.NotPublished d bytes u =
-      both_of header _ _ d u (λ h p e. both_hold files (λ files. IsAnswer h e.ask files r.reads_before r.reads_after bytes) _
+      both_of header _ _ d u (λ h p e. both_hold files (λ files. IsAnswer h e.ask files reads_before reads_after bytes) _
       (λ files answer not. not (subst (λ t. Stands h t files) (time_of h bytes e) answer.stands)) e.stored p.1)
   due_unanswered (faults.BadTable file row kind) d bytes u =
-      both_of header _ _ d u (λ h p e. both_hold files (λ files. IsAnswer h e.ask files r.reads_before r.reads_after bytes) _
+      both_of header _ _ d u (λ h p e. both_hold files (λ files. IsAnswer h e.ask files reads_before reads_after bytes) _
       (λ files answer bad. some_not_none (loads.BadTable file row kind) (first_bad h q.time files) bad.1
       (subst (λ t. first_bad h t files ≡ None) (time_of h bytes e) answer.tables)) e.stored p.1)
   due_unanswered faults.StoreFault d bytes u = both_of header _ _ d u (λ h p e. p)
@@ -257,12 +265,12 @@ module _ {K : Type 0} (contents : K → Option (List ℕ)) (faults_of : K → �
     comes faults.StoreFault c = inr (inl refl)
     comes faults.NoMemory c = inr (inr refl)
 
-    pub due_ends : (cause : Cause) → Ends cause → Comes fault cause
+    due_ends : (cause : Cause) → Ends cause → Comes fault cause
     due_ends =
         judged (Comes fault) (λ bytes u. absurd (due_unanswered fault d bytes u)) (λ bytes u rose. absurd (due_unanswered fault d bytes u)) (inr (inr refl)) comes
 
   -- a header that is refused
-  module _ (bad : IsSomeAnd header (λ text. IsErr (header_of text))) where
+  module _ (bad : HasBadHeader header) where
     abbrev Bad : Cause → Type 0
     Bad cause = (status_of cause ≡ 2) ⊎ ((status_of cause ≡ 5) ⊎ (status_of cause ≡ 11))
 
@@ -276,12 +284,12 @@ module _ {K : Type 0} (contents : K → Option (List ℕ)) (faults_of : K → �
     refused faults.StoreFault c = inr (inl refl)
     refused faults.NoMemory c = inr (inr refl)
 
-    pub bad_question : (cause : Cause) → Ends cause → Bad cause
+    bad_question : (cause : Cause) → Ends cause → Bad cause
     bad_question =
         judged Bad (λ bytes u. absurd (not_bad header _ u bad)) (λ bytes u rose. absurd (not_bad header _ u bad)) (inr (inr refl)) refused
 
   -- nothing is due, and no fault was counted
-  module _ (sound : HasSoundStep q header files) (bay_quiet : ¬ Rose before after) (quiet : ¬ Rose r.faults_before r.faults_after) (taken : ¬ Rose (faults_of old) (faults_of new)) where
+  module _ (sound : HasSoundStep q header files) (bay_quiet : ¬ Rose (bay_before bay) (bay_after bay)) (quiet : ¬ Rose (reader_before readers) (reader_after readers)) (taken : ¬ Rose (sink_before sink) (sink_after sink)) where
     abbrev Whole : Cause → Type 0
     Whole cause = (status_of cause ≡ 0) ⊎ (status_of cause ≡ 11)
 
@@ -302,5 +310,61 @@ module _ {K : Type 0} (contents : K → Option (List ℕ)) (faults_of : K → �
     completes faults.StoreFault c = absurd (no_outage c)
     completes faults.NoMemory c = inr refl
 
-    pub sound_ends : (cause : Cause) → Ends cause → Whole cause
+    sound_ends : (cause : Cause) → Ends cause → Whole cause
     sound_ends = judged Whole (λ bytes u. inl refl) (λ bytes u rose. absurd (taken rose)) (inr refl) completes
+
+  pub query_silent : (cause : Cause) → Ends cause → status_of cause ≢ 0 → status_of cause ≢ 9 → sink.new ≡ sink.old
+  query_silent causes.Done m zero nine = absurd (zero refl)
+  query_silent causes.SinkFault m zero nine = absurd (nine refl)
+  query_silent (causes.NotPublished time) m zero nine = m.2
+  query_silent causes.NoMemory m zero nine = m
+  query_silent (causes.Header line kind) m zero nine = m.1
+  query_silent causes.OtherAxes m zero nine = m.1
+  query_silent causes.UnknownField m zero nine = m.1
+  query_silent (causes.OutsideVolume axis) m zero nine = m.1
+  query_silent (causes.BadLevels lo hi max) m zero nine = m.1
+  query_silent (causes.TooLarge bytes) m zero nine = m.1
+  query_silent (causes.BadTable file row kind) m zero nine = m.1
+  query_silent causes.StoreFault m zero nine = m.1
+  query_silent _ m zero nine = absurd m
+
+  -- what the cause says by the counts of the one reader that is used
+  pub means_of_first : (counts : ReaderCounts) (cause : Cause) → counts.faults_before ≡ reader_before readers →
+      counts.faults_after ≡ reader_after readers → counts.reads_before ≡ reads_before → counts.reads_after ≡ reads_after →
+      QueryMeans q bay counts sink cause → Ends cause
+  means_of_first counts cause a b d e =
+      subst (λ k. QueryMeans q bay k sink cause)
+      (λ i. record { faults_before = a i; faults_after = b i; reads_before = d i; reads_after = e i })
+
+  pub count_of_first : (before after : ℕ) → before ≡ reader_before readers → after ≡ reader_after readers → NeverFalls before after →
+      NeverFalls (reader_before readers) (reader_after readers)
+  count_of_first before after a b rises =
+      subst (λ n. NeverFalls (reader_before readers) n) b (subst (λ n. NeverFalls n after) a rises)
+
+  pub query_ends : (admits : B → List ℕ → Type 0) (cause : Cause) → Ends cause →
+      (bay_before bay < bay_after bay → cause ≡ causes.StoreFault) →
+      (reader_before readers < reader_after readers → cause ≡ causes.StoreFault) →
+      (sink_before sink < sink_after sink → cause ≡ causes.SinkFault) → (IsUnreadCause cause → readers.new ≡ readers.old) →
+      bay.header bay.new ≡ bay.header bay.old → bay.files bay.new ≡ bay.files bay.old → StillAdmits admits bay.old bay.new →
+      NeverFalls (bay_before bay) (bay_after bay) → OthersUntouched readers.old readers.new 0 →
+      length readers.new ≡ length readers.old → NeverFalls (reader_before readers) (reader_after readers) →
+      NeverFalls (sink_before sink) (sink_after sink) → QueryEnds admits q bay readers sink cause
+  query_ends admits cause m store_answered reader_answered sink_answered unread header_same files_same begins_none bay_count others list reader_count sink_count =
+      record {
+        means = m;
+        bad_header = λ bad. bad_question bad cause m;
+        due = λ fault d. due_ends fault d cause m;
+        complete = λ sound bay_quiet quiet taken. sound_ends sound bay_quiet quiet taken cause m;
+        store_answered = store_answered;
+        reader_answered = reader_answered;
+        sink_answered = sink_answered;
+        unread = unread;
+        header = header_same;
+        files = files_same;
+        begins_none = begins_none;
+        bay_count = bay_count;
+        others = others;
+        reader_list = list;
+        reader_count = reader_count;
+        sink_count = sink_count;
+      }

@@ -1,323 +1,303 @@
--- What the end of a run says, by the command that its words give.
-use Rattle.std.proofs.Common.{◌≡◌, ◌≢◌, ◌⊎◌, ℕ, List, length, Option, Some, None, Result, Err, IsOk, IsErr, inl, inr, refl, sym, ap, ◌∙◌, subst, IfSome, IsSomeAnd, ⊎_elim, arith}
-use Rattle.std.proofs.lemmas.Bool.{false≢true}
+-- What a run comes to, by the command that its words give and by how that command ended.
+use Rattle.std.proofs.Common.{◌≡◌, ◌≢◌, ◌⊎◌, ℕ, ◌+◌, ◌<◌, ◌≤◌, List, [], ◌∷◌, Option, Result, Ok, inl, inr, refl, sym, ◌∙◌, ap, subst, length, take, drop, codes, arith}
 use Rattle.idx_outside.specs.Cause.{Rose}
 use Rattle.idx_outside.specs.Contents.{appended, AppendsPrefix}
-use Rattle.idx_header.specs.HeaderOf.{header_of}
-use Rattle.idx_header.specs.Header.{HeaderValue}
+use Rattle.idx_outside.specs.Files.{StillAdmits}
+use Rattle.idx_outside.specs.Objects.{OthersUntouched, UsesOnly, faults_at}
 use Rattle.idx_words.specs.declared.cut_words.CutWords.{CutWords}
+use Rattle.idx_words.specs.ConvertValue.{ConvertValue}
+use Rattle.idx_words.specs.QueryValue.{QueryValue}
 use Rattle.idx_words.specs.declared.command.Command.{Command}
 use Rattle.idx_words.specs.declared.command.Command.TheVariants.{Cut, Info, Convert, Query}
-use Rattle.idx_words.specs.CutGrammar.{volume_bytes}
-use Rattle.idx_words.specs.ConvertValue.{ConvertValue}
-use Rattle.idx_words.specs.Words.{Give, GiveCommand, GiveConvert, GiveQuery, IsConvert, IsQuery}
+use Rattle.idx_words.specs.Words.{Give, GiveConvert, GiveCut, GiveInfo, GiveQuery, IsConvert, IsCut, IsInfo, IsQuery}
+use Rattle.idx_extract.specs.declared.extract_fault.ExtractFault.TheVariants as faults
 use Rattle.idx_commands.specs.declared.causes.Cause.{Cause}
 use Rattle.idx_commands.specs.declared.causes.Cause.TheVariants as causes
 use Rattle.idx_commands.specs.Cause.{status_of}
-use Rattle.idx_commands.specs.Known.{Known, ReaderCounts}
-use Rattle.idx_commands.specs.CutRun.{EndsWith}
-use Rattle.idx_commands.specs.InfoRun.{InfoEnds, KnownReads}
-use Rattle.idx_commands.specs.ConvertRun.{ConvertEnds}
-use Rattle.idx_commands.specs.RunEnds.{CommandEnds, RunEnds}
-use Rattle.idx_commands.specs.Due.{HasOtherLength, HasRightLength, IsBadText, IsFree, IsTooLarge, LacksStep, MeetsBadHeader, MeetsOtherHeader, MeetsStep}
-use Rattle.idx_commands.specs.Run.{AskToConvert, Writes, WroteAnswer, WrotePrefix, HasOtherSize, HasRightSize, HasBadHeader, HasGoodHeader}
-use Rattle.idx_words.specs.QueryValue.{QueryValue}
-use Rattle.idx_extract.specs.declared.extract_fault.ExtractFault.{ExtractFault}
-use Rattle.idx_commands.specs.QueryRun.{HasSoundStep, IsDue, cause_of_extract}
-use Rattle.idx_commands.proofs.QueryLemmas.{bad_question, due_ends, query_writes, sound_ends}
-use Rattle.idx_commands.proofs.ConvertLemmas.{bad_text_ends, no_step_ends, too_large_ends, bad_standing_ends, other_header_ends, published_ends, other_length_ends, complete_ends}
+use Rattle.idx_commands.specs.CutRun.{CutEnds, CutMeans}
+use Rattle.idx_commands.specs.InfoRun.{InfoEnds, InfoMeans}
+use Rattle.idx_commands.specs.ConvertRun.{ConvertEnds, ConvertMeans}
+use Rattle.idx_commands.specs.QueryRun.{HasCause, QueryEnds, QueryMeans}
+use Rattle.idx_commands.specs.Known.{Known, known}
+use Rattle.idx_commands.specs.Seen.{raw_after, raw_before, raw_bytes, reader_counts}
+use Rattle.idx_commands.specs.Run.{AreNamed, CommandEnds, CountsFaults, LeavesRest, RunSeen, Writes, WroteAnswer, WrotePrefix}
+use Rattle.idx_commands.proofs.CauseLemmas.{done_is, raw_fault_is, sink_fault_is, store_fault_is, usage_is}
+use Rattle.idx_commands.proofs.CutLemmas.{cut_silent}
+use Rattle.idx_commands.proofs.InfoLemmas.{info_silent}
+use Rattle.idx_commands.proofs.ConvertLemmas.{raw_cause, store_cause}
+use Rattle.idx_commands.proofs.QueryLemmas.{query_silent, query_writes}
 
-not_right : (raw : Option (List ℕ)) (want : ℕ) → IfSome raw (λ bytes. length bytes ≡ want) → IsSomeAnd raw (λ bytes. length bytes ≢ want) → ⊥
-not_right None want right wrong = wrong
-not_right (Some bytes) want right wrong = wrong right
+-- ---- the command that words give
 
-not_found : (raw : Option (List ℕ)) (want found : ℕ) → found ≢ want → IfSome raw (λ bytes. found ≡ length bytes) → IsSomeAnd raw (λ bytes. length bytes ≡ want) → ⊥
-not_found None want found other same right = right
-not_found (Some bytes) want found other same right = other (same ∙ right)
+-- there is one result
+pub same_ok : {T E : Type 0} (result : Result T E) (a b : T) → result ≡ Ok a → result ≡ Ok b → b ≡ a
+same_ok result a b first second = let same = sym second ∙ first in cc
 
--- a header text that reads is not refused, and one that is refused does not read
-not_refused : (header : Option (List ℕ)) (P : HeaderValue → Type 0) → KnownReads header P → IsSomeAnd header (λ text. IsErr (header_of text)) → ⊥
-not_refused None P reads refused = refused
-not_refused (Some text) P reads refused = false≢true (subst IsErr reads.1.0 refused)
+-- the name of a command
+abbrev pub name_of : Command → List ℕ
+name_of (Cut c) = codes "cut"
+name_of Info = codes "info"
+name_of (Convert c) = codes "convert"
+name_of (Query q) = codes "query"
 
-not_read : {F : Type 0} (answer : List ℕ → Result HeaderValue F) (header : Option (List ℕ)) (fault : F) → IfSome header (λ text. answer text ≡ Err fault) → IsSomeAnd header (λ text. IsOk (answer text)) → ⊥
-not_read answer None fault refused reads = reads
-not_read answer (Some text) fault refused reads = false≢true (subst IsOk refused reads)
+-- words that give a command begin with its name
+pub given_named : (words : List (List ℕ)) (command : Command) (name : List ℕ) → AreNamed words name → Give words command → name ≡ name_of command
+given_named [] command name named given = absurd named
+given_named (first ∷ words) (Cut c) name named given = sym named ∙ given.0
+given_named (first ∷ words) Info name named given = sym named ∙ given.0
+given_named (first ∷ words) (Convert c) name named given = sym named ∙ given.0
+given_named (first ∷ words) (Query q) name named given = sym named ∙ given.0
 
--- words that are not those of `convert` give another command
-pub not_convert : (words : List (List ℕ)) (command : Command) → Give words command → ¬ GiveConvert words → ¬ IsConvert command
-not_convert words (Cut c) gives never is = is
-not_convert words Info gives never is = is
-not_convert words (Convert c) gives never is = never (c, gives)
-not_convert words (Query q) gives never is = is
+-- words that begin with the name of a command give no other
+pub misnamed : (words : List (List ℕ)) (command other : Command) (name : List ℕ) → AreNamed words name → Give words command → command ≡ other →
+    name ≢ name_of other → ⊥
+misnamed words command other name named given is differ = differ (given_named words command name named given ∙ ap name_of is)
 
--- words that are not those of `query` give another command
-pub not_query : (words : List (List ℕ)) (command : Command) → Give words command → ¬ GiveQuery words → ¬ IsQuery command
-not_query words (Cut c) gives never is = is
-not_query words Info gives never is = is
-not_query words (Convert c) gives never is = is
-not_query words (Query q) gives never is = never (q, gives)
+-- ---- what was not touched
 
-module _ {K : Type 0} (contents : K → Option (List ℕ)) (faults : K → ℕ) (words : List (List ℕ)) (k : Known) (r : ReaderCounts) (old new : K) where
-  abbrev Ends : Cause → Type 0
-  Ends cause = RunEnds contents faults words k r old new cause
+not_more : {T : Type 0} (count : T → ℕ) (old new : T) → new ≡ old → count old < count new → ⊥
+not_more count old new same more = let equal : count new ≡ count old = ap count same in omega (arith, equal, more)
 
-  -- where the words give a command, the run is one of it
-  pub ended : (cause : Cause) → Ends cause → (command : Command) → Give words command → CommandEnds contents faults k r old new command cause
-  ended cause ends command gives = at cause ends
+not_less : {T : Type 0} (count : T → ℕ) (old new : T) → new ≡ old → count old ≤ count new
+not_less count old new same = let equal : count new ≡ count old = ap count same in omega (arith, equal)
+
+others_same : {T : Type 0} (old new : List T) → new ≡ old → OthersUntouched old new 0
+others_same old new same = record { before = ap (λ xs. take 0 xs) same; behind = ap (λ xs. drop (0 + 1) xs) same }
+
+uses_none : {T : Type 0} (contents : T → Option (List ℕ)) (count : T → ℕ) (old new : List T) → new ≡ old → UsesOnly contents count 0 old new
+uses_none contents count old new same =
+    subst (λ xs. UsesOnly contents count 0 old xs) (sym same)
+    (record { same = refl; others = others_same old old refl; count = not_less (λ xs. faults_at count xs 0) old old refl })
+
+admits_same : {B : Type 0} (admits : B → List ℕ → Type 0) (old new : B) → new ≡ old → StillAdmits admits old new
+admits_same admits old new same = λ path admitted. subst (λ bay. admits bay path) (sym same) admitted
+
+module _ {V B R K : Type 0} (admits : B → List ℕ → Type 0) (words : List (List ℕ)) (seen : RunSeen V B R K) where
+  abbrev E : Command → Cause → Type 0
+  E command cause = CommandEnds admits seen command cause
+
+  abbrev Only : Command → Type 0
+  Only command = (other : Command) → Give words other → other ≡ command
+
+  -- ---- the record of a command
+
+  ended : (command : Command) → Only command → (cause : Cause) → E command cause → (other : Command) → Give words other → E other cause
+  ended command only cause e other given = subst (λ x. E x cause) (sym (only other given)) e
+
+  pub of_cut : (command : Command) → Only command → (cause : Cause) → E command cause → (c : CutWords) → Give words (Cut c) →
+      CutEnds c seen.raws seen.sink cause
+  of_cut command only cause e c given = let all : E (Cut c) cause = ended command only cause e (Cut c) given in all.0
+
+  pub of_info : (command : Command) → Only command → (cause : Cause) → E command cause → GiveInfo words →
+      InfoEnds admits seen.bay seen.sink cause
+  of_info command only cause e given = let all : E Info cause = ended command only cause e Info given in all.0
+
+  pub of_convert : (command : Command) → Only command → (cause : Cause) → E command cause → (c : ConvertValue) → Give words (Convert c) →
+      ConvertEnds admits c seen.raws seen.bay cause
+  of_convert command only cause e c given = let all : E (Convert c) cause = ended command only cause e (Convert c) given in all.0
+
+  pub of_query : (command : Command) → Only command → (cause : Cause) → E command cause → (q : QueryValue) → Give words (Query q) →
+      QueryEnds admits q seen.bay seen.readers seen.sink cause
+  of_query command only cause e q given = let all : E (Query q) cause = ended command only cause e (Query q) given in all.0
+
+  -- ---- what is written
+
+  pub no_usage : (command : Command) (cause : Cause) → E command cause → status_of cause ≡ 1 → ⊥
+  no_usage (Cut c) cause e one = subst (CutMeans c (raw_bytes seen.raws) (raw_before seen.raws) (raw_after seen.raws) seen.sink) (usage_is cause one).1 e.0.means
+  no_usage Info cause e one = let m = subst (InfoMeans seen.bay seen.sink) (usage_is cause one).1 e.0.means in m.0
+  no_usage (Convert c) cause e one = subst (ConvertMeans c (known seen.raws seen.bay)) (usage_is cause one).1 e.0.means
+  no_usage (Query q) cause e one = subst (QueryMeans q seen.bay (reader_counts seen.readers) seen.sink) (usage_is cause one).1 e.0.means
+
+  writes : (command : Command) → E command causes.Done →
+      Writes command (raw_bytes seen.raws) (seen.bay.header seen.bay.old) (seen.bay.files seen.bay.old)
+      (λ answer. seen.sink.contents seen.sink.new ≡ appended (seen.sink.contents seen.sink.old) answer)
+      (seen.sink.contents seen.sink.new ≡ seen.sink.contents seen.sink.old)
+  writes (Cut c) e = e.0.means.1
+  writes Info e = e.0.means
+  writes (Convert c) e = ap seen.sink.contents e.2
+  writes (Query q) e =
+      let m = e.0.means in
+      query_writes (λ answer. seen.sink.contents seen.sink.new ≡ appended (seen.sink.contents seen.sink.old) answer) q
+      (seen.bay.header seen.bay.old) (seen.bay.files seen.bay.old) _ _ m.0 m.1.0 m.1.1
+
+  writes_prefix : (command : Command) → E command causes.SinkFault →
+      Writes command (raw_bytes seen.raws) (seen.bay.header seen.bay.old) (seen.bay.files seen.bay.old)
+      (λ answer. AppendsPrefix (seen.sink.contents seen.sink.old) (seen.sink.contents seen.sink.new) answer) ⊥
+  writes_prefix (Cut c) e = e.0.means.2
+  writes_prefix Info e = e.0.means.1
+  writes_prefix (Convert c) e = e.0.means
+  writes_prefix (Query q) e =
+      let m = e.0.means in
+      query_writes (λ answer. AppendsPrefix (seen.sink.contents seen.sink.old) (seen.sink.contents seen.sink.new) answer) q
+      (seen.bay.header seen.bay.old) (seen.bay.files seen.bay.old) _ _ m.1.0 m.1.1.0 m.1.1.1
+
+  pub written : (command : Command) → Give words command → (cause : Cause) → E command cause → status_of cause ≡ 0 →
+      WroteAnswer words (raw_bytes seen.raws) (seen.bay.header seen.bay.old) (seen.bay.files seen.bay.old)
+      (seen.sink.contents seen.sink.old) (seen.sink.contents seen.sink.new)
+  written command gives cause e zero = (command, (gives, writes command (subst (E command) (done_is cause zero) e)))
+
+  pub cut_off : (command : Command) → Give words command → (cause : Cause) → E command cause → status_of cause ≡ 9 →
+      WrotePrefix words (raw_bytes seen.raws) (seen.bay.header seen.bay.old) (seen.bay.files seen.bay.old)
+      (seen.sink.contents seen.sink.old) (seen.sink.contents seen.sink.new)
+  cut_off command gives cause e nine = (command, (gives, writes_prefix command (subst (E command) (sink_fault_is cause nine) e)))
+
+  pub silent : (command : Command) (cause : Cause) → E command cause → status_of cause ≢ 0 → status_of cause ≢ 9 →
+      seen.sink.new ≡ seen.sink.old
+  silent (Cut c) cause e = cut_silent c seen.raws seen.sink cause e.0.means
+  silent Info cause e = info_silent seen.bay seen.sink cause e.0.means
+  silent (Convert c) cause e = λ zero nine. e.2
+  silent (Query q) cause e = query_silent q seen.bay seen.readers seen.sink cause e.0.means
+
+  -- ---- the faults
+
+  abbrev reader_count : List R → ℕ
+  reader_count readers = faults_at seen.readers.faults readers 0
+
+  abbrev raw_count : List V → ℕ
+  raw_count raws = faults_at seen.raws.faults raws 0
+
+  pub counts_faults : (command : Command) → Give words command → (cause : Cause) → E command cause → CountsFaults words seen cause
+  counts_faults (Cut c) gives cause e =
+      let m : (other : Cause) → cause ≡ other → CutMeans c (raw_bytes seen.raws) (raw_before seen.raws) (raw_after seen.raws) seen.sink other = λ other is. subst (CutMeans c (raw_bytes seen.raws) (raw_before seen.raws) (raw_after seen.raws) seen.sink) is e.0.means in
+      record {
+        raw_fault = λ four. (m causes.RawFault (raw_fault_is cause four)).0;
+        raw_used = λ four. inl (c, gives);
+        store_fault = λ five. absurd (m causes.StoreFault (store_fault_is cause five));
+        store_used = λ five. absurd (m causes.StoreFault (store_fault_is cause five));
+        sink_fault = λ nine. (m causes.SinkFault (sink_fault_is cause nine)).1;
+        raw_answered = λ more. ap status_of (e.0.raw_answered more);
+        store_answered = λ more. absurd (not_more seen.bay.faults seen.bay.old seen.bay.new e.1 more);
+        reader_answered = λ more. absurd (not_more reader_count seen.readers.old seen.readers.new e.2 more);
+        sink_answered = λ more. ap status_of (e.0.sink_answered more);
+      }
+  counts_faults Info gives cause e =
+      let m : (other : Cause) → cause ≡ other → InfoMeans seen.bay seen.sink other = λ other is. subst (InfoMeans seen.bay seen.sink) is e.0.means in
+      record {
+        raw_fault = λ four. absurd (m causes.RawFault (raw_fault_is cause four)).0;
+        raw_used = λ four. absurd (m causes.RawFault (raw_fault_is cause four)).0;
+        store_fault = λ five. inl (m causes.StoreFault (store_fault_is cause five)).0;
+        store_used = λ five. inl gives;
+        sink_fault = λ nine. (m causes.SinkFault (sink_fault_is cause nine)).0;
+        raw_answered = λ more. absurd (not_more raw_count seen.raws.old seen.raws.new e.1 more);
+        store_answered = λ more. ap status_of (e.0.store_answered more);
+        reader_answered = λ more. absurd (not_more reader_count seen.readers.old seen.readers.new e.2 more);
+        sink_answered = λ more. ap status_of (e.0.sink_answered more);
+      }
+  counts_faults (Convert c) gives cause e =
+      let k : Known = known seen.raws seen.bay in
+      let m : (other : Cause) → cause ≡ other → ConvertMeans c k other = λ other is. subst (ConvertMeans c k) is e.0.means in
+      record {
+        raw_fault = λ four. raw_cause c k (m causes.RawFault (raw_fault_is cause four));
+        raw_used = λ four. inr (c, gives);
+        store_fault = λ five. inl (store_cause c k (m causes.StoreFault (store_fault_is cause five)));
+        store_used = λ five. inr (inl (c, gives));
+        sink_fault = λ nine. absurd (m causes.SinkFault (sink_fault_is cause nine));
+        raw_answered = λ more. ap status_of (e.0.raw_answered more);
+        store_answered = λ more. ap status_of (e.0.store_answered more);
+        reader_answered = λ more. absurd (not_more reader_count seen.readers.old seen.readers.new e.1 more);
+        sink_answered = λ more. absurd (not_more seen.sink.faults seen.sink.old seen.sink.new e.2 more);
+      }
+  counts_faults (Query q) gives cause e =
+      let m : (other : Cause) → cause ≡ other → QueryMeans q seen.bay (reader_counts seen.readers) seen.sink other =
+      λ other is. subst (QueryMeans q seen.bay (reader_counts seen.readers) seen.sink) is e.0.means in
+      record {
+        raw_fault = λ four. absurd (m causes.RawFault (raw_fault_is cause four));
+        raw_used = λ four. absurd (m causes.RawFault (raw_fault_is cause four));
+        store_fault = λ five. outage (m causes.StoreFault (store_fault_is cause five)).0;
+        store_used = λ five. inr (inr (q, gives));
+        sink_fault = λ nine. (m causes.SinkFault (sink_fault_is cause nine)).0;
+        raw_answered = λ more. absurd (not_more raw_count seen.raws.old seen.raws.new e.1 more);
+        store_answered = λ more. ap status_of (e.0.store_answered more);
+        reader_answered = λ more. ap status_of (e.0.reader_answered more);
+        sink_answered = λ more. ap status_of (e.0.sink_answered more);
+      }
     where
-      moved : (cause : Cause) (other : Command) → ((more : Command) → Give words more → more ≡ other) → CommandEnds contents faults k r old new other cause →
-          CommandEnds contents faults k r old new command cause
-      moved cause other only = subst (λ x. CommandEnds contents faults k r old new x cause) (sym (only command gives))
+      outage : HasCause q seen.bay (reader_counts seen.readers) faults.StoreFault →
+          Rose (seen.bay.faults seen.bay.old) (seen.bay.faults seen.bay.new)
+          ⊎ (GiveQuery words × Rose (reader_count seen.readers.old) (reader_count seen.readers.new))
+      outage (inl rose) = inl rose
+      outage (inr both) = inr ((q, gives), both.0)
 
-      at : (cause : Cause) → Ends cause → CommandEnds contents faults k r old new command cause
-      at causes.Done (other, (given, only, ends)) = moved causes.Done other only ends
-      at (causes.Usage place) ends = absurd (ends.0 (command, gives))
-      at (causes.Header line kind) (other, (given, only, ends)) = moved (causes.Header line kind) other only ends
-      at (causes.RawWrongSize want found) (other, (given, only, ends)) = moved (causes.RawWrongSize want found) other only ends
-      at causes.RawFault (other, (given, only, ends)) = moved causes.RawFault other only ends
-      at causes.StoreFault (other, (given, only, ends)) = moved causes.StoreFault other only ends
-      at (causes.AlreadyPublished time) (other, (given, only, ends)) = moved (causes.AlreadyPublished time) other only ends
-      at causes.OtherHeader (other, (given, only, ends)) = moved causes.OtherHeader other only ends
-      at (causes.TooLarge bytes) (other, (given, only, ends)) = moved (causes.TooLarge bytes) other only ends
-      at (causes.NoStep time) (other, (given, only, ends)) = moved (causes.NoStep time) other only ends
-      at (causes.NotPublished time) (other, (given, only, ends)) = moved (causes.NotPublished time) other only ends
-      at causes.OtherAxes (other, (given, only, ends)) = moved causes.OtherAxes other only ends
-      at causes.UnknownField (other, (given, only, ends)) = moved causes.UnknownField other only ends
-      at (causes.OutsideVolume axis) (other, (given, only, ends)) = moved (causes.OutsideVolume axis) other only ends
-      at (causes.BadLevels lo hi max) (other, (given, only, ends)) = moved (causes.BadLevels lo hi max) other only ends
-      at (causes.BadTable file row kind) (other, (given, only, ends)) = moved (causes.BadTable file row kind) other only ends
-      at causes.SinkFault (other, (given, only, ends)) = moved causes.SinkFault other only ends
-      at causes.NoMemory (other, (given, only, ends)) = moved causes.NoMemory other only ends
+  -- ---- what is left
 
-  -- status 1 is that of words that are not in the grammar, and no other
-  pub named : (cause : Cause) → Ends cause →
-      ((status_of cause ≡ 1) × (¬ GiveCommand words)) ⊎ ((status_of cause ≢ 1) × GiveCommand words)
-  named (causes.Usage place) ends = inl (refl, ends.0)
-  named causes.Done ends = inr ((λ one. omega (arith, one)), (ends.0, ends.1.0))
-  named (causes.Header line kind) ends = inr ((λ one. omega (arith, one)), (ends.0, ends.1.0))
-  named (causes.RawWrongSize want found) ends = inr ((λ one. omega (arith, one)), (ends.0, ends.1.0))
-  named causes.RawFault ends = inr ((λ one. omega (arith, one)), (ends.0, ends.1.0))
-  named causes.StoreFault ends = inr ((λ one. omega (arith, one)), (ends.0, ends.1.0))
-  named (causes.AlreadyPublished time) ends = inr ((λ one. omega (arith, one)), (ends.0, ends.1.0))
-  named causes.OtherHeader ends = inr ((λ one. omega (arith, one)), (ends.0, ends.1.0))
-  named (causes.TooLarge bytes) ends = inr ((λ one. omega (arith, one)), (ends.0, ends.1.0))
-  named (causes.NoStep time) ends = inr ((λ one. omega (arith, one)), (ends.0, ends.1.0))
-  named (causes.NotPublished time) ends = inr ((λ one. omega (arith, one)), (ends.0, ends.1.0))
-  named causes.OtherAxes ends = inr ((λ one. omega (arith, one)), (ends.0, ends.1.0))
-  named causes.UnknownField ends = inr ((λ one. omega (arith, one)), (ends.0, ends.1.0))
-  named (causes.OutsideVolume axis) ends = inr ((λ one. omega (arith, one)), (ends.0, ends.1.0))
-  named (causes.BadLevels lo hi max) ends = inr ((λ one. omega (arith, one)), (ends.0, ends.1.0))
-  named (causes.BadTable file row kind) ends = inr ((λ one. omega (arith, one)), (ends.0, ends.1.0))
-  named causes.SinkFault ends = inr ((λ one. omega (arith, one)), (ends.0, ends.1.0))
-  named causes.NoMemory ends = inr ((λ one. omega (arith, one)), (ends.0, ends.1.0))
+  is_cut : (command : Command) → Only command → GiveCut words → IsCut command
+  is_cut command only (c, given) = subst IsCut (only (Cut c) given) tt
 
-  pub usage_is : (cause : Cause) → Ends cause → status_of cause ≡ 1 → ¬ GiveCommand words
-  usage_is cause ends one = ⊎_elim (λ h. h.1) (λ h. absurd (h.0 one)) (named cause ends)
+  is_info : (command : Command) → Only command → GiveInfo words → IsInfo command
+  is_info command only given = subst IsInfo (only Info given) tt
 
-  pub is_usage : (cause : Cause) → Ends cause → ¬ GiveCommand words → status_of cause ≡ 1
-  is_usage cause ends never = ⊎_elim (λ h. h.0) (λ h. absurd (never h.1)) (named cause ends)
+  is_convert : (command : Command) → Only command → GiveConvert words → IsConvert command
+  is_convert command only (c, given) = subst IsConvert (only (Convert c) given) tt
 
-  pub is_given : (cause : Cause) → Ends cause → status_of cause ≢ 1 → GiveCommand words
-  is_given cause ends other = ⊎_elim (λ h. absurd (other h.0)) (λ h. h.1) (named cause ends)
+  is_query : (command : Command) → Only command → GiveQuery words → IsQuery command
+  is_query command only (q, given) = subst IsQuery (only (Query q) given) tt
 
-  -- what is written at status 0, and at status 9
-  writes : (command : Command) → CommandEnds contents faults k r old new command causes.Done →
-      Writes command k.raw k.header k.files (λ answer. contents new ≡ appended (contents old) answer) (contents new ≡ contents old)
-  writes (Cut c) ends = ends.1
-  writes Info ends = ends
-  writes (Convert c) ends = ap contents ends.1
-  writes (Query q) (bytes, (answered, same)) =
-      query_writes (λ answer. contents new ≡ appended (contents old) answer) q k.header k.files r.reads_before r.reads_after bytes answered same
-
-  writes_prefix : (command : Command) → CommandEnds contents faults k r old new command causes.SinkFault →
-      Writes command k.raw k.header k.files (λ answer. AppendsPrefix (contents old) (contents new) answer) ⊥
-  writes_prefix (Cut c) ends = ends.2
-  writes_prefix Info ends = ends.1
-  writes_prefix (Convert c) ends = ends.0
-  writes_prefix (Query q) (rose, (bytes, (answered, part))) =
-      query_writes (λ answer. AppendsPrefix (contents old) (contents new) answer) q k.header k.files r.reads_before r.reads_after bytes answered part
-
-  pub written : (cause : Cause) → Ends cause → status_of cause ≡ 0 → WroteAnswer words k.raw k.header k.files (contents old) (contents new)
-  written causes.Done (command, (gives, only, ends)) zero = (command, (gives, writes command ends))
-  written causes.SinkFault ends zero = absurd (omega (arith, zero))
-  written (causes.Usage place) ends zero = absurd (omega (arith, zero))
-  written (causes.Header line kind) ends zero = absurd (omega (arith, zero))
-  written (causes.RawWrongSize want found) ends zero = absurd (omega (arith, zero))
-  written causes.RawFault ends zero = absurd (omega (arith, zero))
-  written causes.StoreFault ends zero = absurd (omega (arith, zero))
-  written (causes.AlreadyPublished time) ends zero = absurd (omega (arith, zero))
-  written causes.OtherHeader ends zero = absurd (omega (arith, zero))
-  written (causes.NotPublished time) ends zero = absurd (omega (arith, zero))
-  written causes.OtherAxes ends zero = absurd (omega (arith, zero))
-  written causes.UnknownField ends zero = absurd (omega (arith, zero))
-  written (causes.OutsideVolume axis) ends zero = absurd (omega (arith, zero))
-  written (causes.BadLevels lo hi max) ends zero = absurd (omega (arith, zero))
-  written (causes.TooLarge bytes) ends zero = absurd (omega (arith, zero))
-  written (causes.NoStep time) ends zero = absurd (omega (arith, zero))
-  written (causes.BadTable file row kind) ends zero = absurd (omega (arith, zero))
-  written causes.NoMemory ends zero = absurd (omega (arith, zero))
-
-  pub cut_off : (cause : Cause) → Ends cause → status_of cause ≡ 9 → WrotePrefix words k.raw k.header k.files (contents old) (contents new)
-  cut_off causes.SinkFault (command, (gives, only, ends)) nine = (command, (gives, writes_prefix command ends))
-  cut_off causes.Done ends nine = absurd (omega (arith, nine))
-  cut_off (causes.Usage place) ends nine = absurd (omega (arith, nine))
-  cut_off (causes.Header line kind) ends nine = absurd (omega (arith, nine))
-  cut_off (causes.RawWrongSize want found) ends nine = absurd (omega (arith, nine))
-  cut_off causes.RawFault ends nine = absurd (omega (arith, nine))
-  cut_off causes.StoreFault ends nine = absurd (omega (arith, nine))
-  cut_off (causes.AlreadyPublished time) ends nine = absurd (omega (arith, nine))
-  cut_off causes.OtherHeader ends nine = absurd (omega (arith, nine))
-  cut_off (causes.NotPublished time) ends nine = absurd (omega (arith, nine))
-  cut_off causes.OtherAxes ends nine = absurd (omega (arith, nine))
-  cut_off causes.UnknownField ends nine = absurd (omega (arith, nine))
-  cut_off (causes.OutsideVolume axis) ends nine = absurd (omega (arith, nine))
-  cut_off (causes.BadLevels lo hi max) ends nine = absurd (omega (arith, nine))
-  cut_off (causes.TooLarge bytes) ends nine = absurd (omega (arith, nine))
-  cut_off (causes.NoStep time) ends nine = absurd (omega (arith, nine))
-  cut_off (causes.BadTable file row kind) ends nine = absurd (omega (arith, nine))
-  cut_off causes.NoMemory ends nine = absurd (omega (arith, nine))
-
-  -- `cut` over a raw volume of another size, and over one of the right size
-  cut_other : (c : CutWords) → IsSomeAnd k.raw (λ bytes. length bytes ≢ volume_bytes c) → (cause : Cause) →
-      EndsWith contents faults c k.raw k.raw_before k.raw_after old new cause → (status_of cause ≡ 3) ⊎ (status_of cause ≡ 4)
-  cut_other c other causes.Done ends = absurd (not_right k.raw (volume_bytes c) ends.0 other)
-  cut_other c other (causes.RawWrongSize want found) ends = inl refl
-  cut_other c other causes.RawFault ends = inr refl
-  cut_other c other causes.SinkFault ends = absurd (not_right k.raw (volume_bytes c) ends.0 other)
-  cut_other c other causes.NoMemory ends = absurd (not_right k.raw (volume_bytes c) ends.0 other)
-  cut_other c other (causes.Usage place) ends = absurd ends
-  cut_other c other (causes.Header line kind) ends = absurd ends
-  cut_other c other causes.StoreFault ends = absurd ends
-  cut_other c other (causes.AlreadyPublished time) ends = absurd ends
-  cut_other c other causes.OtherHeader ends = absurd ends
-  cut_other c other (causes.TooLarge bytes) ends = absurd ends
-  cut_other c other (causes.NoStep time) ends = absurd ends
-  cut_other c other (causes.NotPublished time) ends = absurd ends
-  cut_other c other causes.OtherAxes ends = absurd ends
-  cut_other c other causes.UnknownField ends = absurd ends
-  cut_other c other (causes.OutsideVolume axis) ends = absurd ends
-  cut_other c other (causes.BadLevels lo hi max) ends = absurd ends
-  cut_other c other (causes.BadTable file row kind) ends = absurd ends
-
-  cut_right : (c : CutWords) → IsSomeAnd k.raw (λ bytes. length bytes ≡ volume_bytes c) → ¬ Rose k.raw_before k.raw_after → ¬ Rose (faults old) (faults new) → (cause : Cause) →
-      EndsWith contents faults c k.raw k.raw_before k.raw_after old new cause → (status_of cause ≡ 0) ⊎ (status_of cause ≡ 11)
-  cut_right c right no_fault taken causes.Done ends = inl refl
-  cut_right c right no_fault taken (causes.RawWrongSize want found) (asks, other, same, kept) =
-      absurd (not_found k.raw (volume_bytes c) found (λ e. other (e ∙ sym asks)) same right)
-  cut_right c right no_fault taken causes.RawFault ends = absurd (no_fault ends.0)
-  cut_right c right no_fault taken causes.SinkFault ends = absurd (taken ends.1)
-  cut_right c right no_fault taken causes.NoMemory ends = inr refl
-  cut_right c right no_fault taken (causes.Usage place) ends = absurd ends
-  cut_right c right no_fault taken (causes.Header line kind) ends = absurd ends
-  cut_right c right no_fault taken causes.StoreFault ends = absurd ends
-  cut_right c right no_fault taken (causes.AlreadyPublished time) ends = absurd ends
-  cut_right c right no_fault taken causes.OtherHeader ends = absurd ends
-  cut_right c right no_fault taken (causes.TooLarge bytes) ends = absurd ends
-  cut_right c right no_fault taken (causes.NoStep time) ends = absurd ends
-  cut_right c right no_fault taken (causes.NotPublished time) ends = absurd ends
-  cut_right c right no_fault taken causes.OtherAxes ends = absurd ends
-  cut_right c right no_fault taken causes.UnknownField ends = absurd ends
-  cut_right c right no_fault taken (causes.OutsideVolume axis) ends = absurd ends
-  cut_right c right no_fault taken (causes.BadLevels lo hi max) ends = absurd ends
-  cut_right c right no_fault taken (causes.BadTable file row kind) ends = absurd ends
-
-  -- `info` over a header that is refused, and over one that reads
-  info_bad : IsSomeAnd k.header (λ text. IsErr (header_of text)) → (cause : Cause) →
-      InfoEnds contents faults k.header k.bay_before k.bay_after old new cause →
-      (status_of cause ≡ 2) ⊎ ((status_of cause ≡ 5) ⊎ (status_of cause ≡ 11))
-  info_bad bad causes.Done ends = absurd (not_refused k.header _ ends bad)
-  info_bad bad causes.SinkFault ends = absurd (not_refused k.header _ ends.1 bad)
-  info_bad bad (causes.Header line kind) ends = inl refl
-  info_bad bad causes.StoreFault ends = inr (inl refl)
-  info_bad bad causes.NoMemory ends = inr (inr refl)
-  info_bad bad (causes.Usage place) ends = absurd ends.0
-  info_bad bad (causes.RawWrongSize want found) ends = absurd ends.0
-  info_bad bad causes.RawFault ends = absurd ends.0
-  info_bad bad (causes.AlreadyPublished time) ends = absurd ends.0
-  info_bad bad causes.OtherHeader ends = absurd ends.0
-  info_bad bad (causes.TooLarge bytes) ends = absurd ends.0
-  info_bad bad (causes.NoStep time) ends = absurd ends.0
-  info_bad bad (causes.NotPublished time) ends = absurd ends.0
-  info_bad bad causes.OtherAxes ends = absurd ends.0
-  info_bad bad causes.UnknownField ends = absurd ends.0
-  info_bad bad (causes.OutsideVolume axis) ends = absurd ends.0
-  info_bad bad (causes.BadLevels lo hi max) ends = absurd ends.0
-  info_bad bad (causes.BadTable file row kind) ends = absurd ends.0
-
-  info_good : IsSomeAnd k.header (λ text. IsOk (header_of text)) → ¬ Rose k.bay_before k.bay_after → ¬ Rose (faults old) (faults new) → (cause : Cause) →
-      InfoEnds contents faults k.header k.bay_before k.bay_after old new cause → (status_of cause ≡ 0) ⊎ (status_of cause ≡ 11)
-  info_good good no_fault taken causes.Done ends = inl refl
-  info_good good no_fault taken causes.SinkFault ends = absurd (taken ends.0)
-  info_good good no_fault taken (causes.Header line kind) ends = absurd (not_read header_of k.header _ ends.0.1 good)
-  info_good good no_fault taken causes.StoreFault ends = absurd (no_fault ends.0)
-  info_good good no_fault taken causes.NoMemory ends = inr refl
-  info_good good no_fault taken (causes.Usage place) ends = absurd ends.0
-  info_good good no_fault taken (causes.RawWrongSize want found) ends = absurd ends.0
-  info_good good no_fault taken causes.RawFault ends = absurd ends.0
-  info_good good no_fault taken (causes.AlreadyPublished time) ends = absurd ends.0
-  info_good good no_fault taken causes.OtherHeader ends = absurd ends.0
-  info_good good no_fault taken (causes.TooLarge bytes) ends = absurd ends.0
-  info_good good no_fault taken (causes.NoStep time) ends = absurd ends.0
-  info_good good no_fault taken (causes.NotPublished time) ends = absurd ends.0
-  info_good good no_fault taken causes.OtherAxes ends = absurd ends.0
-  info_good good no_fault taken causes.UnknownField ends = absurd ends.0
-  info_good good no_fault taken (causes.OutsideVolume axis) ends = absurd ends.0
-  info_good good no_fault taken (causes.BadLevels lo hi max) ends = absurd ends.0
-  info_good good no_fault taken (causes.BadTable file row kind) ends = absurd ends.0
-
-  module _ (cause : Cause) (ends : Ends cause) where
-    pub other_size : HasOtherSize words k.raw → (status_of cause ≡ 3) ⊎ (status_of cause ≡ 4)
-    other_size (c, (gives, other)) = cut_other c other cause (ended cause ends (Cut c) gives)
-
-    pub right_size : HasRightSize words k.raw → ¬ Rose k.raw_before k.raw_after → ¬ Rose (faults old) (faults new) → (status_of cause ≡ 0) ⊎ (status_of cause ≡ 11)
-    right_size (c, (gives, right)) no_fault taken = cut_right c right no_fault taken cause (ended cause ends (Cut c) gives)
-
-    pub bad_header : HasBadHeader words k.header → (status_of cause ≡ 2) ⊎ ((status_of cause ≡ 5) ⊎ (status_of cause ≡ 11))
-    bad_header (inl gives, bad) = info_bad bad cause (ended cause ends Info gives)
-    bad_header (inr (q, gives), bad) =
-        bad_question contents faults q k.header k.files k.bay_before k.bay_after r old new bad cause (ended cause ends (Query q) gives)
-
-    pub good_header : HasGoodHeader words k.header → ¬ Rose k.bay_before k.bay_after → ¬ Rose (faults old) (faults new) → (status_of cause ≡ 0) ⊎ (status_of cause ≡ 11)
-    good_header (gives, good) no_fault taken = info_good good no_fault taken cause (ended cause ends Info gives)
-
-    -- of `convert`
-    pub convert_ended : (c : ConvertValue) → Give words (Convert c) → ConvertEnds c k cause
-    convert_ended c gives = let both = ended cause ends (Convert c) gives in both.0
-
-    pub bad_text : AskToConvert words IsBadText → (status_of cause ≡ 2) ⊎ (status_of cause ≡ 11)
-    bad_text (c, (gives, (text, (built, due)))) = bad_text_ends c k cause (convert_ended c gives) text built due
-
-    pub no_step : AskToConvert words LacksStep → (status_of cause ≡ 8) ⊎ (status_of cause ≡ 11)
-    no_step (c, (gives, (text, (built, due)))) = no_step_ends c k cause (convert_ended c gives) text built due
-
-    pub too_large : AskToConvert words IsTooLarge → (status_of cause ≡ 8) ⊎ (status_of cause ≡ 11)
-    too_large (c, (gives, (text, (built, due)))) = too_large_ends c k cause (convert_ended c gives) text built due
-
-    pub bad_standing : AskToConvert words (MeetsBadHeader k.header) → (status_of cause ≡ 2) ⊎ ((status_of cause ≡ 5) ⊎ (status_of cause ≡ 11))
-    bad_standing (c, (gives, (text, (built, due)))) = bad_standing_ends c k cause (convert_ended c gives) text built due
-
-    pub other_header : AskToConvert words (MeetsOtherHeader k.header) → (status_of cause ≡ 6) ⊎ ((status_of cause ≡ 5) ⊎ (status_of cause ≡ 11))
-    other_header (c, (gives, (text, (built, due)))) = other_header_ends c k cause (convert_ended c gives) text built due
-
-    pub published : AskToConvert words (MeetsStep k.header k.files) → (status_of cause ≡ 6) ⊎ ((status_of cause ≡ 5) ⊎ (status_of cause ≡ 11))
-    published (c, (gives, (text, (built, due)))) = published_ends c k cause (convert_ended c gives) text built due
-
-    pub other_length : AskToConvert words (IsFree k.header k.files k.raw HasOtherLength) →
-        (status_of cause ≡ 3) ⊎ ((status_of cause ≡ 4) ⊎ ((status_of cause ≡ 5) ⊎ (status_of cause ≡ 11)))
-    other_length (c, (gives, (text, (built, due)))) = other_length_ends c k cause (convert_ended c gives) text built due
-
-    pub complete_convert : AskToConvert words (IsFree k.header k.files k.raw HasRightLength) → ¬ Rose k.raw_before k.raw_after → ¬ Rose k.bay_before k.bay_after →
-        (status_of cause ≡ 0) ⊎ (status_of cause ≡ 11)
-    complete_convert (c, (gives, (text, (built, due)))) = complete_ends c k cause (convert_ended c gives) text built due
-
-    -- of `query`
-    pub due : (q : QueryValue) (fault : ExtractFault) → Give words (Query q) → IsDue q k.header k.files fault →
-        (cause ≡ cause_of_extract q.time fault) ⊎ ((status_of cause ≡ 5) ⊎ (status_of cause ≡ 11))
-    due q fault gives is =
-        due_ends contents faults q k.header k.files k.bay_before k.bay_after r old new fault is cause (ended cause ends (Query q) gives)
-
-    pub complete_query : (q : QueryValue) → Give words (Query q) → HasSoundStep q k.header k.files → ¬ Rose k.bay_before k.bay_after →
-        ¬ Rose r.faults_before r.faults_after → ¬ Rose (faults old) (faults new) → (status_of cause ≡ 0) ⊎ (status_of cause ≡ 11)
-    complete_query q gives sound bay_quiet quiet taken =
-        sound_ends contents faults q k.header k.files k.bay_before k.bay_after r old new sound bay_quiet quiet taken cause (ended cause ends (Query q) gives)
+  pub leaves_rest : (command : Command) → Give words command → Only command → (cause : Cause) → E command cause → LeavesRest admits words seen
+  leaves_rest (Cut c) gives only cause e =
+      record {
+        raws = e.0.raws_kept;
+        readers = others_same seen.readers.old seen.readers.new e.2;
+        reader_list = ap length e.2;
+        reader_count = not_less reader_count seen.readers.old seen.readers.new e.2;
+        bay_count = not_less seen.bay.faults seen.bay.old seen.bay.new e.1;
+        sink_count = e.0.sink_count;
+        header = λ never. ap seen.bay.header e.1;
+        files = λ never. ap seen.bay.files e.1;
+        convert_begins = λ never. admits_same admits seen.bay.old seen.bay.new e.1;
+        convert_silent = λ given. absurd (is_convert (Cut c) only given);
+        cut_alone = λ given. e.1;
+        info_alone = λ given. absurd (is_info (Cut c) only given);
+        query_alone = λ given. absurd (is_query (Cut c) only given);
+        query_reads = λ never. e.2;
+      }
+  leaves_rest Info gives only cause e =
+      record {
+        raws = uses_none seen.raws.contents seen.raws.faults seen.raws.old seen.raws.new e.1;
+        readers = others_same seen.readers.old seen.readers.new e.2;
+        reader_list = ap length e.2;
+        reader_count = not_less reader_count seen.readers.old seen.readers.new e.2;
+        bay_count = e.0.bay_count;
+        sink_count = e.0.sink_count;
+        header = λ never. e.0.header;
+        files = λ never. e.0.files;
+        convert_begins = λ never. e.0.begins_none;
+        convert_silent = λ given. absurd (is_convert Info only given);
+        cut_alone = λ given. absurd (is_cut Info only given);
+        info_alone = λ given. e.1;
+        query_alone = λ given. absurd (is_query Info only given);
+        query_reads = λ never. e.2;
+      }
+  leaves_rest (Convert c) gives only cause e =
+      record {
+        raws = e.0.raws_kept;
+        readers = others_same seen.readers.old seen.readers.new e.1;
+        reader_list = ap length e.1;
+        reader_count = not_less reader_count seen.readers.old seen.readers.new e.1;
+        bay_count = e.0.bay_count;
+        sink_count = not_less seen.sink.faults seen.sink.old seen.sink.new e.2;
+        header = λ never. absurd (never (c, gives));
+        files = λ never. absurd (never (c, gives));
+        convert_begins = λ never. absurd (never (c, gives));
+        convert_silent = λ given. e.2;
+        cut_alone = λ given. absurd (is_cut (Convert c) only given);
+        info_alone = λ given. absurd (is_info (Convert c) only given);
+        query_alone = λ given. absurd (is_query (Convert c) only given);
+        query_reads = λ never. e.1;
+      }
+  leaves_rest (Query q) gives only cause e =
+      record {
+        raws = uses_none seen.raws.contents seen.raws.faults seen.raws.old seen.raws.new e.1;
+        readers = e.0.others;
+        reader_list = e.0.reader_list;
+        reader_count = e.0.reader_count;
+        bay_count = e.0.bay_count;
+        sink_count = e.0.sink_count;
+        header = λ never. e.0.header;
+        files = λ never. e.0.files;
+        convert_begins = λ never. e.0.begins_none;
+        convert_silent = λ given. absurd (is_convert (Query q) only given);
+        cut_alone = λ given. absurd (is_cut (Query q) only given);
+        info_alone = λ given. absurd (is_info (Query q) only given);
+        query_alone = λ given. e.1;
+        query_reads = λ never. absurd (never (q, gives));
+      }

@@ -1,28 +1,54 @@
--- How a run of `cut` on one raw volume and one sink ends.
-use Rattle.std.specs.Prelude.{◌≡◌, ◌≢◌, ℕ, List, length, Option, IfSome}
-use Rattle.idx_outside.specs.Cause.{Rose}
+-- How a run of `cut` ends, by what is seen of the raw volumes and of the sink.
+use Rattle.std.specs.Prelude.{◌≡◌, ◌≢◌, ◌⊎◌, ℕ, ◌<◌, List, length, Option, IfSome, IsSomeAnd}
+use Rattle.idx_outside.specs.Cause.{NeverFalls, Rose}
 use Rattle.idx_outside.specs.Contents.{appended, AppendsPrefix}
+use Rattle.idx_outside.specs.Objects.{UsesOnly}
 use Rattle.idx_words.specs.declared.cut_words.CutWords.{CutWords}
 use Rattle.idx_words.specs.CutGrammar.{volume_bytes}
 use Rattle.idx_commands.specs.declared.causes.Cause.{Cause}
 use Rattle.idx_commands.specs.declared.causes.Cause.TheVariants as causes
+use Rattle.idx_commands.specs.Cause.{status_of}
 use Rattle.idx_commands.specs.CutOutput.{cut_output}
+use Rattle.idx_commands.specs.Seen.{RawsSeen, SinkSeen, raw_after, raw_before, raw_bytes, sink_after, sink_before}
 
 -- A raw volume whose bytes are known has as many as the words ask for.
 abbrev pub HasSize : CutWords → Option (List ℕ) → Type 0
 HasSize c raw = IfSome raw (λ bytes. length bytes ≡ volume_bytes c)
 
-module _ {K : Type 0} (contents : K → Option (List ℕ)) (faults : K → ℕ) where
-  -- What each cause says of the raw volume, what is known of it and its counts before and after, and of the sink before and
-  -- after. No other cause comes.
-  abbrev pub EndsWith : CutWords → Option (List ℕ) → ℕ → ℕ → K → K → Cause → Type 0
-  EndsWith c raw before after old new causes.Done =
-      HasSize c raw × IfSome raw (λ bytes. contents new ≡ appended (contents old) (cut_output c bytes))
-  EndsWith c raw before after old new (causes.RawWrongSize want found) =
-      (want ≡ volume_bytes c) × (found ≢ want) × IfSome raw (λ bytes. found ≡ length bytes) × (new ≡ old)
-  EndsWith c raw before after old new causes.RawFault = Rose before after × (new ≡ old)
-  EndsWith c raw before after old new causes.SinkFault =
-      HasSize c raw × Rose (faults old) (faults new)
-      × IfSome raw (λ bytes. AppendsPrefix (contents old) (contents new) (cut_output c bytes))
-  EndsWith c raw before after old new causes.NoMemory = HasSize c raw × (new ≡ old)
-  EndsWith c raw before after old new _ = ⊥
+-- its bytes are known, and are as many
+abbrev pub HasRightSize : CutWords → Option (List ℕ) → Type 0
+HasRightSize c raw = IsSomeAnd raw (λ bytes. length bytes ≡ volume_bytes c)
+
+-- its bytes are known, but are not as many
+abbrev pub HasOtherSize : CutWords → Option (List ℕ) → Type 0
+HasOtherSize c raw = IsSomeAnd raw (λ bytes. length bytes ≢ volume_bytes c)
+
+-- What each cause says of the raw volume, what is known of its bytes and its counts of faults before and after, and of the sink.
+-- No other cause comes.
+abbrev pub CutMeans : {K : Type 0} → CutWords → Option (List ℕ) → ℕ → ℕ → SinkSeen K → Cause → Type 0
+CutMeans c raw before after sink causes.Done =
+    HasSize c raw × IfSome raw (λ bytes. sink.contents sink.new ≡ appended (sink.contents sink.old) (cut_output c bytes))
+CutMeans c raw before after sink (causes.RawWrongSize want found) =
+    (want ≡ volume_bytes c) × (found ≢ want) × IfSome raw (λ bytes. found ≡ length bytes) × (sink.new ≡ sink.old)
+CutMeans c raw before after sink causes.RawFault = Rose before after × (sink.new ≡ sink.old)
+CutMeans c raw before after sink causes.SinkFault =
+    HasSize c raw × Rose (sink_before sink) (sink_after sink)
+    × IfSome raw (λ bytes. AppendsPrefix (sink.contents sink.old) (sink.contents sink.new) (cut_output c bytes))
+CutMeans c raw before after sink causes.NoMemory = HasSize c raw × (sink.new ≡ sink.old)
+CutMeans c raw before after sink _ = ⊥
+
+-- how a run ends with this cause
+pub record CutEnds {V K : Type 0} (c : CutWords) (raws : RawsSeen V) (sink : SinkSeen K) (cause : Cause) : Type 0 where
+  -- what the cause says
+  pub means : CutMeans c (raw_bytes raws) (raw_before raws) (raw_after raws) sink cause
+  -- a raw volume of another length is refused, unless a call on it failed
+  pub other_size : HasOtherSize c (raw_bytes raws) → (status_of cause ≡ 3) ⊎ (status_of cause ≡ 4)
+  -- where nothing is wrong and no fault was counted, all is written, unless there is not enough memory
+  pub complete : HasRightSize c (raw_bytes raws) → ¬ Rose (raw_before raws) (raw_after raws) →
+      ¬ Rose (sink_before sink) (sink_after sink) → (status_of cause ≡ 0) ⊎ (status_of cause ≡ 11)
+  -- a fault that was counted is answered
+  pub raw_answered : raw_before raws < raw_after raws → cause ≡ causes.RawFault
+  pub sink_answered : sink_before sink < sink_after sink → cause ≡ causes.SinkFault
+  -- what is known of the raw volumes' bytes stays, none but the first was touched, and no count fell
+  pub raws_kept : UsesOnly raws.contents raws.faults 0 raws.old raws.new
+  pub sink_count : NeverFalls (sink_before sink) (sink_after sink)

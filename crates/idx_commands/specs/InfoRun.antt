@@ -1,17 +1,28 @@
--- How a run of `info` on one bay and one sink ends.
-use Rattle.std.specs.Prelude.{◌≡◌, ◌≢◌, ℕ, List, Option, IfSome, Ok, Err}
-use Rattle.idx_outside.specs.Cause.{Rose}
+-- How a run of `info` ends, by what is seen of the bay and of the sink.
+use Rattle.std.specs.Prelude.{◌≡◌, ◌≢◌, ◌⊎◌, ℕ, ◌<◌, List, Option, IfSome, IsErr, IsOk, IsSomeAnd, Ok, Err}
+use Rattle.idx_outside.specs.Cause.{NeverFalls, Rose}
 use Rattle.idx_outside.specs.Contents.{appended, AppendsPrefix}
+use Rattle.idx_outside.specs.Files.{StillAdmits}
 use Rattle.idx_header.specs.declared.header_kind.HeaderKind.TheVariants as kinds
 use Rattle.idx_header.specs.Header.{HeaderValue}
 use Rattle.idx_header.specs.HeaderOf.{header_of}
 use Rattle.idx_commands.specs.declared.causes.Cause.{Cause}
 use Rattle.idx_commands.specs.declared.causes.Cause.TheVariants as causes
+use Rattle.idx_commands.specs.Cause.{status_of}
+use Rattle.idx_commands.specs.Seen.{BaySeen, SinkSeen, bay_after, bay_before, sink_after, sink_before}
 use Rattle.idx_commands.specs.Summary.{summary}
 
 -- A header text that is known reads, and this holds of its header.
 abbrev pub KnownReads : Option (List ℕ) → (HeaderValue → Type 0) → Type 0
 KnownReads known P = IfSome known (λ text. (h : HeaderValue) × ((header_of text ≡ Ok h) × P h))
+
+-- The header text is known, and is refused.
+abbrev pub HasBadHeader : Option (List ℕ) → Type 0
+HasBadHeader known = IsSomeAnd known (λ text. IsErr (header_of text))
+
+-- It is known, and reads.
+abbrev pub HasGoodHeader : Option (List ℕ) → Type 0
+HasGoodHeader known = IsSomeAnd known (λ text. IsOk (header_of text))
 
 -- Why a bay gives no header: what is known of its header text, and its counts of faults before and after.
 abbrev pub GivesNone : Option (List ℕ) → ℕ → ℕ → Cause → Type 0
@@ -21,12 +32,32 @@ GivesNone known before after causes.StoreFault = Rose before after
 GivesNone known before after causes.NoMemory = Unit {0}
 GivesNone known before after _ = ⊥
 
-module _ {K : Type 0} (contents : K → Option (List ℕ)) (faults : K → ℕ) where
-  -- What each cause says of the bay, what is known of its header text and its counts before and after, and of the sink
-  -- before and after.
-  abbrev pub InfoEnds : Option (List ℕ) → ℕ → ℕ → K → K → Cause → Type 0
-  InfoEnds known before after old new causes.Done =
-      KnownReads known (λ h. contents new ≡ appended (contents old) (summary h))
-  InfoEnds known before after old new causes.SinkFault =
-      Rose (faults old) (faults new) × KnownReads known (λ h. AppendsPrefix (contents old) (contents new) (summary h))
-  InfoEnds known before after old new cause = GivesNone known before after cause × (new ≡ old)
+-- what each cause says; no other cause comes
+abbrev pub InfoMeans : {B K : Type 0} → BaySeen B → SinkSeen K → Cause → Type 0
+InfoMeans bay sink causes.Done =
+    KnownReads (bay.header bay.old) (λ h. sink.contents sink.new ≡ appended (sink.contents sink.old) (summary h))
+InfoMeans bay sink causes.SinkFault =
+    Rose (sink_before sink) (sink_after sink)
+    × KnownReads (bay.header bay.old) (λ h. AppendsPrefix (sink.contents sink.old) (sink.contents sink.new) (summary h))
+InfoMeans bay sink cause =
+    GivesNone (bay.header bay.old) (bay_before bay) (bay_after bay) cause × (sink.new ≡ sink.old)
+
+-- How a run ends with this cause. `admits` is the ghost member of bays.
+pub record InfoEnds {B K : Type 0} (admits : B → List ℕ → Type 0) (bay : BaySeen B) (sink : SinkSeen K) (cause : Cause) : Type 0 where
+  -- what the cause says
+  pub means : InfoMeans bay sink cause
+  -- a header whose text is refused is refused, unless a call on the bay failed or there is not enough memory
+  pub bad_header : HasBadHeader (bay.header bay.old) →
+      (status_of cause ≡ 2) ⊎ ((status_of cause ≡ 5) ⊎ (status_of cause ≡ 11))
+  -- where nothing is wrong and no fault was counted, all is written, unless there is not enough memory
+  pub complete : HasGoodHeader (bay.header bay.old) → ¬ Rose (bay_before bay) (bay_after bay) →
+      ¬ Rose (sink_before sink) (sink_after sink) → (status_of cause ≡ 0) ⊎ (status_of cause ≡ 11)
+  -- a fault that was counted is answered
+  pub store_answered : bay_before bay < bay_after bay → cause ≡ causes.StoreFault
+  pub sink_answered : sink_before sink < sink_after sink → cause ≡ causes.SinkFault
+  -- the header text and the committed files stay, no step is begun, and no count fell
+  pub header : bay.header bay.new ≡ bay.header bay.old
+  pub files : bay.files bay.new ≡ bay.files bay.old
+  pub begins_none : StillAdmits admits bay.old bay.new
+  pub bay_count : NeverFalls (bay_before bay) (bay_after bay)
+  pub sink_count : NeverFalls (sink_before sink) (sink_after sink)

@@ -1,12 +1,12 @@
 pub mod CutOutput
 pub mod KindText
 pub mod Cause
+pub mod Seen
 pub mod Known
 pub mod Summary
 pub mod InfoRun
 pub mod CutRun
+pub mod Due
 pub mod ConvertRun
 pub mod QueryRun
-pub mod Due
-pub mod RunEnds
 pub mod Run

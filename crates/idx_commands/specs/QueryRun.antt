@@ -1,7 +1,9 @@
--- How a run of `query` on one bay, one reader and one sink ends.
-use Rattle.std.specs.Prelude.{◌≡◌, ℕ, List, Option, Some, None, IsSomeAnd, Ok}
-use Rattle.idx_outside.specs.Cause.{Rose}
+-- How a run of `query` ends, by what is seen of the bay, of the readers and of the sink.
+use Rattle.std.specs.Prelude.{◌≡◌, ◌⊎◌, ℕ, ◌<◌, List, Option, Some, None, IsSomeAnd, Ok, length}
+use Rattle.idx_outside.specs.Cause.{NeverFalls, Rose}
 use Rattle.idx_outside.specs.Contents.{appended, AppendsPrefix}
+use Rattle.idx_outside.specs.Files.{StillAdmits}
+use Rattle.idx_outside.specs.Objects.{OthersUntouched}
 use Rattle.idx_outside.specs.declared.mem_file.MemFile.{MemFile}
 use Rattle.idx_header.specs.Header.{HeaderValue}
 use Rattle.idx_header.specs.HeaderOf.{header_of}
@@ -15,7 +17,9 @@ use Rattle.idx_extract.specs.declared.extract_fault.ExtractFault.TheVariants as 
 use Rattle.idx_extract.specs.Extract.{Extracted, HasPlan, IsCause, IsStop}
 use Rattle.idx_commands.specs.declared.causes.Cause.{Cause}
 use Rattle.idx_commands.specs.declared.causes.Cause.TheVariants as causes
-use Rattle.idx_commands.specs.Known.{ReaderCounts}
+use Rattle.idx_commands.specs.Cause.{status_of}
+use Rattle.idx_commands.specs.InfoRun.{HasBadHeader}
+use Rattle.idx_commands.specs.Seen.{BaySeen, ReaderCounts, ReadersSeen, SinkSeen, bay_after, bay_before, reader_after, reader_before, reader_counts, sink_after, sink_before}
 
 -- the cause of a run whose question has no plan
 abbrev pub cause_of_plan : PlanFault → Cause
@@ -36,38 +40,41 @@ cause_of_extract step faults.StoreFault = causes.StoreFault
 cause_of_extract step faults.NoMemory = causes.NoMemory
 
 -- The question has an answer, of whose bytes this holds; it took as many reads as it does by its definition.
-abbrev pub HasAnswer : QueryValue → Option (List ℕ) → Option (List MemFile) → ReaderCounts → (List ℕ → Type 0) → Type 0
-HasAnswer q header files r P = (bytes : List ℕ) × (Extracted q header files r.reads_before r.reads_after bytes × P bytes)
+abbrev pub HasAnswer : {B : Type 0} → QueryValue → BaySeen B → ReaderCounts → (List ℕ → Type 0) → Type 0
+HasAnswer q bay counts P =
+    (bytes : List ℕ)
+    × (Extracted q (bay.header bay.old) (bay.files bay.old) counts.reads_before counts.reads_after bytes × P bytes)
 
-module _ {K : Type 0} (contents : K → Option (List ℕ)) (faults_of : K → ℕ) where
-  -- What each cause says of the bay, what is known of its header text and of its committed files and its counts before and
-  -- after; of the reader's counts; and of the sink before and after. No other cause comes.
-  abbrev pub QueryEnds : QueryValue → Option (List ℕ) → Option (List MemFile) → ℕ → ℕ → ReaderCounts → K → K → Cause → Type 0
-  QueryEnds q header files before after r old new causes.Done =
-      HasAnswer q header files r (λ bytes. contents new ≡ appended (contents old) bytes)
-  QueryEnds q header files before after r old new causes.SinkFault =
-      Rose (faults_of old) (faults_of new)
-      × HasAnswer q header files r (λ bytes. AppendsPrefix (contents old) (contents new) bytes)
-  QueryEnds q header files before after r old new (causes.Header line kind) =
-      IsCause q header files before after r.faults_before r.faults_after (faults.Header line kind) × (new ≡ old)
-  QueryEnds q header files before after r old new causes.OtherAxes =
-      IsCause q header files before after r.faults_before r.faults_after faults.OtherAxes × (new ≡ old)
-  QueryEnds q header files before after r old new causes.UnknownField =
-      IsCause q header files before after r.faults_before r.faults_after faults.UnknownField × (new ≡ old)
-  QueryEnds q header files before after r old new (causes.OutsideVolume axis) =
-      IsCause q header files before after r.faults_before r.faults_after (faults.Plan (plans.OutsideVolume axis)) × (new ≡ old)
-  QueryEnds q header files before after r old new (causes.BadLevels lo hi max) =
-      IsCause q header files before after r.faults_before r.faults_after (faults.Plan (plans.BadLevels lo hi max)) × (new ≡ old)
-  QueryEnds q header files before after r old new (causes.TooLarge bytes) =
-      IsCause q header files before after r.faults_before r.faults_after (faults.Plan (plans.TooLarge bytes)) × (new ≡ old)
-  QueryEnds q header files before after r old new (causes.NotPublished time) =
-      (time ≡ q.time) × IsCause q header files before after r.faults_before r.faults_after faults.NotPublished × (new ≡ old)
-  QueryEnds q header files before after r old new (causes.BadTable file row kind) =
-      IsCause q header files before after r.faults_before r.faults_after (faults.BadTable file row kind) × (new ≡ old)
-  QueryEnds q header files before after r old new causes.StoreFault =
-      IsCause q header files before after r.faults_before r.faults_after faults.StoreFault × (new ≡ old)
-  QueryEnds q header files before after r old new causes.NoMemory = new ≡ old
-  QueryEnds q header files before after r old new _ = ⊥
+-- the fault has its cause
+abbrev pub HasCause : {B : Type 0} → QueryValue → BaySeen B → ReaderCounts → ExtractFault → Type 0
+HasCause q bay counts fault =
+    IsCause q (bay.header bay.old) (bay.files bay.old) (bay_before bay) (bay_after bay) counts.faults_before
+    counts.faults_after fault
+
+-- What each cause says, by the counts of the reader that is used. No other cause comes.
+abbrev pub QueryMeans : {B K : Type 0} → QueryValue → BaySeen B → ReaderCounts → SinkSeen K → Cause → Type 0
+QueryMeans q bay counts sink causes.Done =
+    HasAnswer q bay counts (λ bytes. sink.contents sink.new ≡ appended (sink.contents sink.old) bytes)
+QueryMeans q bay counts sink causes.SinkFault =
+    Rose (sink_before sink) (sink_after sink)
+    × HasAnswer q bay counts (λ bytes. AppendsPrefix (sink.contents sink.old) (sink.contents sink.new) bytes)
+QueryMeans q bay counts sink (causes.Header line kind) =
+    HasCause q bay counts (faults.Header line kind) × (sink.new ≡ sink.old)
+QueryMeans q bay counts sink causes.OtherAxes = HasCause q bay counts faults.OtherAxes × (sink.new ≡ sink.old)
+QueryMeans q bay counts sink causes.UnknownField = HasCause q bay counts faults.UnknownField × (sink.new ≡ sink.old)
+QueryMeans q bay counts sink (causes.OutsideVolume axis) =
+    HasCause q bay counts (faults.Plan (plans.OutsideVolume axis)) × (sink.new ≡ sink.old)
+QueryMeans q bay counts sink (causes.BadLevels lo hi max) =
+    HasCause q bay counts (faults.Plan (plans.BadLevels lo hi max)) × (sink.new ≡ sink.old)
+QueryMeans q bay counts sink (causes.TooLarge bytes) =
+    HasCause q bay counts (faults.Plan (plans.TooLarge bytes)) × (sink.new ≡ sink.old)
+QueryMeans q bay counts sink (causes.NotPublished time) =
+    (time ≡ q.time) × HasCause q bay counts faults.NotPublished × (sink.new ≡ sink.old)
+QueryMeans q bay counts sink (causes.BadTable file row kind) =
+    HasCause q bay counts (faults.BadTable file row kind) × (sink.new ≡ sink.old)
+QueryMeans q bay counts sink causes.StoreFault = HasCause q bay counts faults.StoreFault × (sink.new ≡ sink.old)
+QueryMeans q bay counts sink causes.NoMemory = sink.new ≡ sink.old
+QueryMeans q bay counts sink _ = ⊥
 
 -- The run ended for the header, for the question, or since the step does not stand: before the first read.
 abbrev pub IsUnreadCause : Cause → Type 0
@@ -98,3 +105,32 @@ abbrev pub HasSoundStep : QueryValue → Option (List ℕ) → Option (List MemF
 HasSoundStep q header files =
     ReadsAs header (λ h. HasPlan q h
     × IsSomeAnd files (λ files. Stands h q.time files × (first_bad h q.time files ≡ None)))
+
+-- How a run ends with this cause. `admits` is the ghost member of bays.
+pub record QueryEnds {B R K : Type 0} (admits : B → List ℕ → Type 0) (q : QueryValue) (bay : BaySeen B) (readers : ReadersSeen R) (sink : SinkSeen K) (cause : Cause) : Type 0 where
+  -- what the cause says
+  pub means : QueryMeans q bay (reader_counts readers) sink cause
+  -- each refusal comes where it is due, but for a fault of the store that comes before, and want of memory
+  pub bad_header : HasBadHeader (bay.header bay.old) →
+      (status_of cause ≡ 2) ⊎ ((status_of cause ≡ 5) ⊎ (status_of cause ≡ 11))
+  pub due : (fault : ExtractFault) → IsDue q (bay.header bay.old) (bay.files bay.old) fault →
+      (cause ≡ cause_of_extract q.time fault) ⊎ ((status_of cause ≡ 5) ⊎ (status_of cause ≡ 11))
+  -- where nothing is wrong and no fault was counted, all is written, unless there is not enough memory
+  pub complete : HasSoundStep q (bay.header bay.old) (bay.files bay.old) →
+      ¬ Rose (bay_before bay) (bay_after bay) → ¬ Rose (reader_before readers) (reader_after readers) →
+      ¬ Rose (sink_before sink) (sink_after sink) → (status_of cause ≡ 0) ⊎ (status_of cause ≡ 11)
+  -- a fault that was counted is answered
+  pub store_answered : bay_before bay < bay_after bay → cause ≡ causes.StoreFault
+  pub reader_answered : reader_before readers < reader_after readers → cause ≡ causes.StoreFault
+  pub sink_answered : sink_before sink < sink_after sink → cause ≡ causes.SinkFault
+  -- no leaf is read before the question is accepted and the step known to stand
+  pub unread : IsUnreadCause cause → readers.new ≡ readers.old
+  -- the header text and the committed files stay, no step is begun, no reader but the first was touched, and no count fell
+  pub header : bay.header bay.new ≡ bay.header bay.old
+  pub files : bay.files bay.new ≡ bay.files bay.old
+  pub begins_none : StillAdmits admits bay.old bay.new
+  pub bay_count : NeverFalls (bay_before bay) (bay_after bay)
+  pub others : OthersUntouched readers.old readers.new 0
+  pub reader_list : length readers.new ≡ length readers.old
+  pub reader_count : NeverFalls (reader_before readers) (reader_after readers)
+  pub sink_count : NeverFalls (sink_before sink) (sink_after sink)

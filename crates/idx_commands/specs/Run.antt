@@ -1,32 +1,34 @@
--- What a run promises, by its words, the first raw volume, the bay and the sink.
-use Rattle.std.specs.Prelude.{◌≡◌, ◌≢◌, ◌⊎◌, ℕ, ◌<◌, List, length, Option, IfSome, IsSomeAnd, IsErr, IsOk, Err}
+-- What a run promises, by its words and by what is seen of the raw volumes, the bay, the readers and the sink.
+use Rattle.std.specs.Prelude.{◌≡◌, ◌⊎◌, ℕ, ◌<◌, List, [], ◌∷◌, length, Option, IfSome}
+use Rattle.idx_outside.specs.Cause.{NeverFalls, Rose}
 use Rattle.idx_outside.specs.Contents.{appended, AppendsPrefix}
-use Rattle.idx_outside.specs.Objects.{contents_at}
+use Rattle.idx_outside.specs.Files.{StillAdmits}
+use Rattle.idx_outside.specs.Objects.{OthersUntouched, UsesOnly, contents_at}
 use Rattle.idx_outside.specs.declared.mem_file.MemFile.{MemFile}
-use Rattle.idx_header.specs.declared.header_kind.HeaderKind.{HeaderKind}
-use Rattle.idx_header.specs.declared.header_kind.HeaderKind.TheVariants as kinds
-use Rattle.idx_header.specs.HeaderOf.{header_of}
-use Rattle.idx_words.specs.declared.cut_words.CutWords.{CutWords}
-use Rattle.idx_words.specs.CutGrammar.{volume_bytes}
 use Rattle.idx_words.specs.declared.command.Command.{Command}
 use Rattle.idx_words.specs.declared.command.Command.TheVariants.{Cut, Info, Convert, Query}
-use Rattle.idx_words.specs.ConvertValue.{ConvertValue}
-use Rattle.idx_words.specs.Words.{Give, GiveInfo, GiveQuery}
+use Rattle.idx_words.specs.Words.{Give, GiveConvert, GiveCut, GiveInfo, GiveQuery}
 use Rattle.idx_plan.specs.Answer.{answer_of}
 use Rattle.idx_edition.specs.Stored.{stored_block}
 use Rattle.idx_extract.specs.Extract.{Asks}
+use Rattle.idx_commands.specs.declared.causes.Cause.{Cause}
+use Rattle.idx_commands.specs.Cause.{status_of}
 use Rattle.idx_commands.specs.CutOutput.{cut_output}
 use Rattle.idx_commands.specs.Summary.{summary}
-use Rattle.idx_commands.specs.InfoRun.{KnownReads}
-use Rattle.idx_commands.specs.ConvertRun.{AsksForText}
+use Rattle.idx_commands.specs.InfoRun.{InfoEnds, KnownReads}
+use Rattle.idx_commands.specs.CutRun.{CutEnds}
+use Rattle.idx_commands.specs.ConvertRun.{ConvertEnds}
+use Rattle.idx_commands.specs.QueryRun.{QueryEnds}
+use Rattle.idx_commands.specs.Seen.{BaySeen, RawsSeen, ReadersSeen, SinkSeen, bay_after, bay_before, raw_after, raw_before, reader_after, reader_before, sink_after, sink_before}
 
 -- The bytes of no raw volume are known, or those of all, and then they are the same.
 abbrev pub HaveSameContents : {V : Type 0} → (V → Option (List ℕ)) → List V → Type 0
 HaveSameContents contents raws = (i : ℕ) → i < length raws → contents_at contents raws i ≡ contents_at contents raws 0
 
--- the words are those of `cut`, with values of which this holds
-abbrev pub AskFor : List (List ℕ) → (CutWords → Type 0) → Type 0
-AskFor words P = (c : CutWords) × (Give words (Cut c) × P c)
+-- the first word is this name of a command
+abbrev pub AreNamed : List (List ℕ) → List ℕ → Type 0
+AreNamed [] name = ⊥
+AreNamed (first ∷ words) name = first ≡ name
 
 -- What a command writes is what P holds of, where what it reads is known: a raw volume's bytes, or the header text of a bay,
 -- which then reads, and its committed files. Of a command that writes nothing, this holds in its place.
@@ -48,37 +50,64 @@ abbrev pub WrotePrefix : List (List ℕ) → Option (List ℕ) → Option (List 
 WrotePrefix words raw header files old new =
     (command : Command) × (Give words command × Writes command raw header files (λ answer. AppendsPrefix old new answer) ⊥)
 
--- The words are those of `cut` and ask for a raw volume of `want` bytes; the raw volume has another number, `found`.
-abbrev pub AsksForOther : List (List ℕ) → Option (List ℕ) → ℕ → ℕ → Type 0
-AsksForOther words raw want found =
-    AskFor words (λ c. (want ≡ volume_bytes c) × (found ≢ want) × IfSome raw (λ bytes. found ≡ length bytes))
+-- what is seen of all objects of a run
+pub record RunSeen (V B R K : Type 0) : Type 0 where
+  pub raws : RawsSeen V
+  pub bay : BaySeen B
+  pub readers : ReadersSeen R
+  pub sink : SinkSeen K
 
--- The words are those of `cut`, and the raw volume's bytes are known, but are not as many as they ask for.
-abbrev pub HasOtherSize : List (List ℕ) → Option (List ℕ) → Type 0
-HasOtherSize words raw = AskFor words (λ c. IsSomeAnd raw (λ bytes. length bytes ≢ volume_bytes c))
+abbrev pub run_seen : {V B R K : Type 0} → RawsSeen V → BaySeen B → ReadersSeen R → SinkSeen K → RunSeen V B R K
+run_seen raws bay readers sink = record { raws = raws; bay = bay; readers = readers; sink = sink }
 
--- The words are those of `cut`, and the raw volume's bytes are known and are as many as they ask for.
-abbrev pub HasRightSize : List (List ℕ) → Option (List ℕ) → Type 0
-HasRightSize words raw = AskFor words (λ c. IsSomeAnd raw (λ bytes. length bytes ≡ volume_bytes c))
+-- How a run of a command ends with this cause: as its record says, and the objects that it does not use are as they were.
+abbrev pub CommandEnds : {V B R K : Type 0} → (B → List ℕ → Type 0) → RunSeen V B R K → Command → Cause → Type 0
+CommandEnds admits seen (Cut c) cause =
+    CutEnds c seen.raws seen.sink cause × (seen.bay.new ≡ seen.bay.old) × (seen.readers.new ≡ seen.readers.old)
+CommandEnds admits seen Info cause =
+    InfoEnds admits seen.bay seen.sink cause × (seen.raws.new ≡ seen.raws.old) × (seen.readers.new ≡ seen.readers.old)
+CommandEnds admits seen (Convert c) cause =
+    ConvertEnds admits c seen.raws seen.bay cause × (seen.readers.new ≡ seen.readers.old) × (seen.sink.new ≡ seen.sink.old)
+CommandEnds admits seen (Query q) cause =
+    QueryEnds admits q seen.bay seen.readers seen.sink cause × (seen.raws.new ≡ seen.raws.old)
 
--- the words are those of `info` or of `query`
-abbrev pub GiveReading : List (List ℕ) → Type 0
-GiveReading words = GiveInfo words ⊎ GiveQuery words
+-- A fault of an object comes only where it was counted in this call, by a command that uses the object; and one that was counted
+-- is answered.
+pub record CountsFaults {V B R K : Type 0} (words : List (List ℕ)) (seen : RunSeen V B R K) (cause : Cause) : Type 0 where
+  pub raw_fault : status_of cause ≡ 4 → Rose (raw_before seen.raws) (raw_after seen.raws)
+  pub raw_used : status_of cause ≡ 4 → GiveCut words ⊎ GiveConvert words
+  pub store_fault : status_of cause ≡ 5 → Rose (bay_before seen.bay) (bay_after seen.bay)
+      ⊎ (GiveQuery words × Rose (reader_before seen.readers) (reader_after seen.readers))
+  pub store_used : status_of cause ≡ 5 → GiveInfo words ⊎ (GiveConvert words ⊎ GiveQuery words)
+  pub sink_fault : status_of cause ≡ 9 → Rose (sink_before seen.sink) (sink_after seen.sink)
+  pub raw_answered : raw_before seen.raws < raw_after seen.raws → status_of cause ≡ 4
+  pub store_answered : bay_before seen.bay < bay_after seen.bay → status_of cause ≡ 5
+  pub reader_answered : reader_before seen.readers < reader_after seen.readers → status_of cause ≡ 5
+  pub sink_answered : sink_before seen.sink < sink_after seen.sink → status_of cause ≡ 9
 
--- The words are those of a command that reads, and the header text, where it is known, has this fault on this line.
-abbrev pub IsRefusedFor : List (List ℕ) → Option (List ℕ) → ℕ → HeaderKind → Type 0
-IsRefusedFor words header line kind =
-    GiveReading words × (kind ≢ kinds.NoMemory)
-    × IfSome header (λ text. header_of text ≡ Err (record { line = line; kind = kind }))
+-- What a run leaves as it was. `admits` is the ghost member of bays.
+pub record LeavesRest {V B R K : Type 0} (admits : B → List ℕ → Type 0) (words : List (List ℕ)) (seen : RunSeen V B R K) : Type 0 where
+  -- what is known of the raw volumes' bytes stays, no raw volume and no reader but the first was touched, and no count fell
+  pub raws : UsesOnly seen.raws.contents seen.raws.faults 0 seen.raws.old seen.raws.new
+  pub readers : OthersUntouched seen.readers.old seen.readers.new 0
+  pub reader_list : length seen.readers.new ≡ length seen.readers.old
+  pub reader_count : NeverFalls (reader_before seen.readers) (reader_after seen.readers)
+  pub bay_count : NeverFalls (bay_before seen.bay) (bay_after seen.bay)
+  pub sink_count : NeverFalls (sink_before seen.sink) (sink_after seen.sink)
+  -- `convert` alone changes the header text and the committed files and begins a step, and it writes nothing to the sink
+  pub header : ¬ GiveConvert words → seen.bay.header seen.bay.new ≡ seen.bay.header seen.bay.old
+  pub files : ¬ GiveConvert words → seen.bay.files seen.bay.new ≡ seen.bay.files seen.bay.old
+  pub convert_begins : ¬ GiveConvert words → StillAdmits admits seen.bay.old seen.bay.new
+  pub convert_silent : GiveConvert words → seen.sink.new ≡ seen.sink.old
+  -- `cut` leaves the bay as it was, `info` and `query` the raw volumes, and none but `query` reads a leaf
+  pub cut_alone : GiveCut words → seen.bay.new ≡ seen.bay.old
+  pub info_alone : GiveInfo words → seen.raws.new ≡ seen.raws.old
+  pub query_alone : GiveQuery words → seen.raws.new ≡ seen.raws.old
+  pub query_reads : ¬ GiveQuery words → seen.readers.new ≡ seen.readers.old
 
--- The words are those of a command that reads, and the header text is known, but is refused.
-abbrev pub HasBadHeader : List (List ℕ) → Option (List ℕ) → Type 0
-HasBadHeader words header = GiveReading words × IsSomeAnd header (λ text. IsErr (header_of text))
-
--- The words are those of `info`, and the header text is known and reads.
-abbrev pub HasGoodHeader : List (List ℕ) → Option (List ℕ) → Type 0
-HasGoodHeader words header = GiveInfo words × IsSomeAnd header (λ text. IsOk (header_of text))
-
--- The words are those of `convert`, and this holds of the header text and of the step that they ask for.
-abbrev pub AskToConvert : List (List ℕ) → (List ℕ → ℕ → Type 0) → Type 0
-AskToConvert words P = (c : ConvertValue) × (Give words (Convert c) × AsksForText c (λ text. P text c.step))
+-- Nothing is asked of any object.
+pub record Unasked {V B R K : Type 0} (seen : RunSeen V B R K) : Type 0 where
+  pub raws : seen.raws.new ≡ seen.raws.old
+  pub bay : seen.bay.new ≡ seen.bay.old
+  pub readers : seen.readers.new ≡ seen.readers.old
+  pub sink : seen.sink.new ≡ seen.sink.old

@@ -1,34 +1,62 @@
-ghost use Rattle.std.specs.Prelude.{◌≡◌, ◌<◌, vec_len};
-ghost use Rattle.idx_outside.specs.Cause.{NeverFalls};
-ghost use Rattle.idx_outside.specs.Files.{StillAdmits};
-ghost use Rattle.idx_outside.specs.Objects.{contents_at, faults_at, UsesOnly};
-ghost use Rattle.idx_commands.specs.ConvertRun.{cause_of_fault, ConvertEnds, IsEarlyCause};
-ghost use Rattle.idx_commands.specs.Known.{known};
+ghost use Rattle.std.specs.Prelude.{◌≡◌, ◌↔◌, ℕ, ◌<◌, codes, map, string_bytes, vec_len};
+ghost use Rattle.idx_words.specs.declared.command.Command.{Command};
+ghost use Rattle.idx_words.specs.ConvertValue.{ConvertValue};
+ghost use Rattle.idx_words.specs.Words.{Give, GiveConvert, IsUsagePlace};
+ghost use Rattle.idx_commands.specs.Cause.{status_of};
+ghost use Rattle.idx_commands.specs.ConvertRun.{ConvertEnds, cause_of_fault};
+ghost use Rattle.idx_commands.specs.Run.{AreNamed};
+ghost use Rattle.idx_commands.specs.Seen.{bay_seen, raws_seen};
 
-use crate::causes::Cause;
+use crate::causes::{Cause, Done};
 use idx_convert::{ConvertFault, convert};
 use idx_outside::{Bay, Source};
-use idx_words::ConvertWords;
+use idx_words::{Command, ConvertWords, read_words};
 use std::alloc::Global;
+
+/// Does what the words ask for, whose first is `convert`, and says how it ended. The first refusal ends it, in this order:
+/// the words, the header text that they ask for, its step, its volume's bytes; the header that stands, whether it agrees,
+/// whether the step stands; the raw volume's length; putting the header, beginning the step, reading the raw volume,
+/// writing and committing the files. It uses the first raw volume and the bay.
+pub(crate) fn run_convert<V: Source, B: Bay>(
+    alloc: Global,
+    words: &[String],
+    raws: &mut Vec<V>,
+    bay: &mut B,
+) -> Done
+    requires some { 0 < vec_len raws.old }
+    requires named { AreNamed (map string_bytes words.now) (codes "convert") }
+    ensures status { result.status ≡ status_of result.cause }
+    ensures convert { (c : ConvertValue) → Give (map string_bytes words.now) (Command.Convert c) →
+        ConvertEnds B.admits c (raws_seen V.contents V.faults raws.old.items raws.new.items)
+        (bay_seen B.header B.files B.faults bay.old bay.new) result.cause }
+
+    // Usage comes exactly where the words are not in the grammar, and then nothing was asked of any object.
+    ensures usage { (result.status ≡ 1) ↔ (¬ GiveConvert (map string_bytes words.now)) }
+    ensures place { (at : ℕ) → result.cause ≡ Cause.Usage at → IsUsagePlace (map string_bytes words.now) at }
+    ensures unasked { result.status ≡ 1 → raws.new.items ≡ raws.old.items }
+    ensures bay_unasked { result.status ≡ 1 → bay.new ≡ bay.old }
+{
+    match read_words(words) {
+        Ok(Command::Convert(words)) => Done::of(convert_volume(alloc, &words, raws, bay)),
+        Ok(Command::Cut(_)) => unreachable!(),
+        Ok(Command::Info) => unreachable!(),
+        Ok(Command::Query(_)) => unreachable!(),
+        Err(misread) => Done::of(Cause::Usage { at: misread.at }),
+    }
+}
 
 /// Writes the step that the words ask for out of the first raw volume, and puts the header text that they ask for where
 /// none stands.
-#[tactic(auto, using(crate::proofs::ConvertLemmas::early_fault))]
-pub fn convert_volume<V: Source, B: Bay>(
+#[tactic(auto, using(crate::proofs::ConvertLemmas::early_fault, crate::proofs::ConvertLemmas::convert_ends))]
+fn convert_volume<V: Source, B: Bay>(
     alloc: Global,
     words: &ConvertWords<'_>,
     raws: &mut Vec<V>,
     bay: &mut B,
 ) -> Cause
     requires some { 0 < vec_len raws.old }
-    ensures ends { ConvertEnds words.now (known V.contents V.faults B.header B.files B.faults
-        raws.old.items raws.new.items bay.old bay.new) result }
-    ensures raw_answered { faults_at V.faults raws.old.items 0 < faults_at V.faults raws.new.items 0 →
-        result ≡ Cause.RawFault }
-    ensures bay_answered { B.faults bay.old < B.faults bay.new → result ≡ Cause.StoreFault }
-    ensures unbegun { IsEarlyCause result → StillAdmits B.admits bay.old bay.new }
-    ensures raws { UsesOnly V.contents V.faults 0 raws.old.items raws.new.items }
-    ensures bay_count { NeverFalls (B.faults bay.old) (B.faults bay.new) }
+    ensures { ConvertEnds B.admits words.now (raws_seen V.contents V.faults raws.old.items raws.new.items)
+        (bay_seen B.header B.files B.faults bay.old bay.new) result }
 {
     let Ok(text) = words.header_text(alloc) else {
         return Cause::NoMemory;

@@ -14,5 +14,8 @@ mod summary;
 mod tests;
 
 pub use causes::{Cause, Done};
+pub use cut::run_cut;
 pub use examples::{worked_cut, worked_summary};
+pub use info::run_info;
+pub use query::run_query;
 pub use running::run;

@@ -1,30 +1,87 @@
-ghost use Rattle.std.specs.Prelude.{◌≡◌, ◌<◌};
+ghost use Rattle.std.specs.Prelude.{◌≡◌, ◌↔◌, ℕ, ◌<◌, codes, map, string_bytes, vec_len};
 ghost use Rattle.idx_outside.specs.Cause.{NeverFalls};
 ghost use Rattle.idx_outside.specs.Files.{StillAdmits};
-ghost use Rattle.idx_commands.specs.QueryRun.{IsUnreadCause, QueryEnds, cause_of_extract, cause_of_plan};
+ghost use Rattle.idx_words.specs.declared.command.Command.{Command};
+ghost use Rattle.idx_words.specs.QueryValue.{QueryValue};
+ghost use Rattle.idx_words.specs.Words.{Give, GiveQuery, IsUsagePlace};
+ghost use Rattle.idx_commands.specs.Cause.{status_of};
+ghost use Rattle.idx_commands.specs.QueryRun.{IsUnreadCause, QueryEnds, QueryMeans, cause_of_extract, cause_of_plan};
+ghost use Rattle.idx_commands.specs.Run.{AreNamed};
+ghost use Rattle.idx_commands.specs.Seen.{bay_seen, readers_seen, sink_seen};
 
-use crate::causes::Cause;
+use crate::causes::{Cause, Done};
 use idx_extract::{ExtractFault, extract};
 use idx_outside::{Bay, Reader, Sink};
 use idx_plan::PlanFault;
-use idx_words::QueryWords;
+use idx_words::{Command, QueryWords, read_words};
 use std::alloc::Global;
 
+/// Does what the words ask for, whose first is `query`, and says how it ended. The first refusal ends it, in this order:
+/// the words, reading the header of the bay, the header's faults, the number of axes, the name of the field, the region,
+/// the levels, the bytes of the answer, whether the step stands, the tables of its files, the blocks that it needs,
+/// writing. It uses the bay and the first reader.
+pub fn run_query<B: Bay, R: Reader<B::Leaf>, K: Sink>(
+    alloc: Global,
+    words: &[String],
+    bay: &mut B,
+    readers: &mut Vec<R>,
+    out: &mut K,
+) -> Done
+    requires reader { 0 < vec_len readers.old }
+    requires named { AreNamed (map string_bytes words.now) (codes "query") }
+    ensures status { result.status ≡ status_of result.cause }
+    ensures query { (q : QueryValue) → Give (map string_bytes words.now) (Command.Query q) →
+        QueryEnds B.admits q (bay_seen B.header B.files B.faults bay.old bay.new)
+        (readers_seen R.faults R.reads readers.old.items readers.new.items)
+        (sink_seen K.contents K.faults out.old out.new) result.cause }
+
+    // Usage comes exactly where the words are not in the grammar, and then nothing was asked of any object.
+    ensures usage { (result.status ≡ 1) ↔ (¬ GiveQuery (map string_bytes words.now)) }
+    ensures place { (at : ℕ) → result.cause ≡ Cause.Usage at → IsUsagePlace (map string_bytes words.now) at }
+    ensures unasked { result.status ≡ 1 → bay.new ≡ bay.old }
+    ensures unread { result.status ≡ 1 → readers.new.items ≡ readers.old.items }
+    ensures silent { result.status ≡ 1 → out.new ≡ out.old }
+{
+    match read_words(words) {
+        Ok(Command::Query(query)) => Done::of(query_first(alloc, &query, bay, readers, out)),
+        Ok(Command::Cut(_)) => unreachable!(),
+        Ok(Command::Info) => unreachable!(),
+        Ok(Command::Convert(_)) => unreachable!(),
+        Err(misread) => Done::of(Cause::Usage { at: misread.at }),
+    }
+}
+
+/// Does what the values of the words ask for, with the first reader.
+#[tactic(auto, using(crate::proofs::QueryLemmas::query_ends))]
+fn query_first<B: Bay, R: Reader<B::Leaf>, K: Sink>(
+    alloc: Global,
+    words: &QueryWords<'_>,
+    bay: &mut B,
+    readers: &mut Vec<R>,
+    out: &mut K,
+) -> Cause
+    requires { 0 < vec_len readers.old }
+    ensures { QueryEnds B.admits words.now (bay_seen B.header B.files B.faults bay.old bay.new)
+        (readers_seen R.faults R.reads readers.old.items readers.new.items)
+        (sink_seen K.contents K.faults out.old out.new) result }
+{
+    query(alloc, words, bay, &mut readers[0], out)
+}
+
 /// Reads the samples that the words ask for, and then writes them in one piece. It writes nothing before all is read.
-pub fn query<B: Bay, R: Reader<B::Leaf>, K: Sink>(
+fn query<B: Bay, R: Reader<B::Leaf>, K: Sink>(
     alloc: Global,
     words: &QueryWords<'_>,
     bay: &mut B,
     reader: &mut R,
     out: &mut K,
 ) -> Cause
-    ensures ends { QueryEnds K.contents K.faults words.now
-        (B.header bay.old) (B.files bay.old) (B.faults bay.old) (B.faults bay.new) (record {
-          faults_before = R.faults reader.old;
-          faults_after = R.faults reader.new;
-          reads_before = R.reads reader.old;
-          reads_after = R.reads reader.new;
-        }) out.old out.new result }
+    ensures means { QueryMeans words.now (bay_seen B.header B.files B.faults bay.old bay.new) (record {
+      faults_before = R.faults reader.old;
+      faults_after = R.faults reader.new;
+      reads_before = R.reads reader.old;
+      reads_after = R.reads reader.new;
+    }) (sink_seen K.contents K.faults out.old out.new) result }
     ensures unread { IsUnreadCause result → reader.new ≡ reader.old }
     ensures header { B.header bay.new ≡ B.header bay.old }
     ensures files { B.files bay.new ≡ B.files bay.old }

@@ -1,0 +1,22 @@
+use Rattle.std.proofs.Common.{codes, map, string_bytes}
+use Rattle.idx_words.specs.declared.command.Command.TheVariants.{Info, Convert, Query}
+use Rattle.idx_commands.proofs.RunLemmas.{misnamed}
+use Rattle.idx_commands.proofs.cut.run_cut.Goals as goal
+
+pub unreachable-requires : goal.unreachable-requires
+unreachable-requires g c =
+    let given = c.read_words.ensures.read c.in-Ok-Info.field-0 in
+    misnamed (map string_bytes c.args.words.now) c.in-Ok-Info.field-0 Info (codes "cut") c.requires.named
+    (given.0 c.in-Ok-Info.is) c.in-Ok-Info.field-0-is (λ e. cc)
+
+pub unreachable-requires-in-Ok-Convert : goal.unreachable-requires-in-Ok-Convert
+unreachable-requires-in-Ok-Convert g c =
+    let given = c.read_words.ensures.read c.in-Ok-Convert.field-0 in
+    misnamed (map string_bytes c.args.words.now) c.in-Ok-Convert.field-0 (Convert c.in-Ok-Convert.field-0-0) (codes "cut") c.requires.named
+    (given.0 c.in-Ok-Convert.is) c.in-Ok-Convert.field-0-is (λ e. cc)
+
+pub unreachable-requires-in-Ok-Query : goal.unreachable-requires-in-Ok-Query
+unreachable-requires-in-Ok-Query g c =
+    let given = c.read_words.ensures.read c.in-Ok-Query.field-0 in
+    misnamed (map string_bytes c.args.words.now) c.in-Ok-Query.field-0 (Query c.in-Ok-Query.field-0-0) (codes "cut") c.requires.named
+    (given.0 c.in-Ok-Query.is) c.in-Ok-Query.field-0-is (λ e. cc)

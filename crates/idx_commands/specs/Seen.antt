@@ -1,0 +1,94 @@
+-- What is seen of the objects of a run: each object as it was before and as it is after, with the ghost members of its trait.
+use Rattle.std.specs.Prelude.{ℕ, List, Option}
+use Rattle.idx_outside.specs.Objects.{contents_at, faults_at}
+use Rattle.idx_outside.specs.declared.mem_file.MemFile.{MemFile}
+
+-- Raw volumes. What they hold is known or not, and their counts of faults are told.
+pub record RawsSeen (V : Type 0) : Type 0 where
+  pub contents : V → Option (List ℕ)
+  pub faults : V → ℕ
+  pub old : List V
+  pub new : List V
+
+-- A bay: its header text and its committed files, known or not, and its count of faults.
+pub record BaySeen (B : Type 0) : Type 0 where
+  pub header : B → Option (List ℕ)
+  pub files : B → Option (List MemFile)
+  pub faults : B → ℕ
+  pub old : B
+  pub new : B
+
+-- Readers, with their counts of faults and of reads.
+pub record ReadersSeen (R : Type 0) : Type 0 where
+  pub faults : R → ℕ
+  pub reads : R → ℕ
+  pub old : List R
+  pub new : List R
+
+-- A sink: what was written to it, known or not, and its count of faults.
+pub record SinkSeen (K : Type 0) : Type 0 where
+  pub contents : K → Option (List ℕ)
+  pub faults : K → ℕ
+  pub old : K
+  pub new : K
+
+-- the bytes of the first raw volume, and its counts before and after
+abbrev pub raw_bytes : {V : Type 0} → RawsSeen V → Option (List ℕ)
+raw_bytes raws = contents_at raws.contents raws.old 0
+
+abbrev pub raw_before : {V : Type 0} → RawsSeen V → ℕ
+raw_before raws = faults_at raws.faults raws.old 0
+
+abbrev pub raw_after : {V : Type 0} → RawsSeen V → ℕ
+raw_after raws = faults_at raws.faults raws.new 0
+
+-- the bay's counts before and after
+abbrev pub bay_before : {B : Type 0} → BaySeen B → ℕ
+bay_before bay = bay.faults bay.old
+
+abbrev pub bay_after : {B : Type 0} → BaySeen B → ℕ
+bay_after bay = bay.faults bay.new
+
+-- the first reader's counts of faults before and after
+abbrev pub reader_before : {R : Type 0} → ReadersSeen R → ℕ
+reader_before readers = faults_at readers.faults readers.old 0
+
+abbrev pub reader_after : {R : Type 0} → ReadersSeen R → ℕ
+reader_after readers = faults_at readers.faults readers.new 0
+
+-- The counts of a reader before and after: of its faults, and of its reads.
+pub record ReaderCounts : Type 0 where
+  pub faults_before : ℕ
+  pub faults_after : ℕ
+  pub reads_before : ℕ
+  pub reads_after : ℕ
+
+-- those of the first reader
+abbrev pub reader_counts : {R : Type 0} → ReadersSeen R → ReaderCounts
+reader_counts readers =
+    record {
+      faults_before = faults_at readers.faults readers.old 0;
+      faults_after = faults_at readers.faults readers.new 0;
+      reads_before = faults_at readers.reads readers.old 0;
+      reads_after = faults_at readers.reads readers.new 0;
+    }
+
+-- the sink's counts before and after
+abbrev pub sink_before : {K : Type 0} → SinkSeen K → ℕ
+sink_before sink = sink.faults sink.old
+
+abbrev pub sink_after : {K : Type 0} → SinkSeen K → ℕ
+sink_after sink = sink.faults sink.new
+
+-- what is seen of these objects, by the ghost members of their traits
+abbrev pub raws_seen : {V : Type 0} → (V → Option (List ℕ)) → (V → ℕ) → List V → List V → RawsSeen V
+raws_seen contents faults old new = record { contents = contents; faults = faults; old = old; new = new }
+
+abbrev pub bay_seen : {B : Type 0} → (B → Option (List ℕ)) → (B → Option (List MemFile)) → (B → ℕ) → B → B → BaySeen B
+bay_seen header files faults old new = record { header = header; files = files; faults = faults; old = old; new = new }
+
+abbrev pub readers_seen : {R : Type 0} → (R → ℕ) → (R → ℕ) → List R → List R → ReadersSeen R
+readers_seen faults reads old new = record { faults = faults; reads = reads; old = old; new = new }
+
+abbrev pub sink_seen : {K : Type 0} → (K → Option (List ℕ)) → (K → ℕ) → K → K → SinkSeen K
+sink_seen contents faults old new = record { contents = contents; faults = faults; old = old; new = new }
