@@ -36,7 +36,9 @@ impl<F: Write + OpenFile + Drop> Model for FileDraft<F> {
 }
 
 impl<F: Write + OpenFile + Drop> FileDraft<F> {
-    pub(crate) fn new(file: F, staged: String, path: String) -> FileDraft<F>
+    /// A file that is being written at the path `staged`, open for that, and that will stand at `path` once its step was
+    /// committed.
+    pub fn new(file: F, staged: String, path: String) -> FileDraft<F>
         ensures { result ≡ record {
           file = file;
           staged = string_bytes staged;

@@ -20,7 +20,8 @@ impl Model for FileLeaf {
 }
 
 impl FileLeaf {
-    pub(crate) fn new(path: String, len: u64) -> FileLeaf
+    /// A finished file of so many bytes that stands, or will stand, at this path. That it does is not looked at here.
+    pub fn new(path: String, len: u64) -> FileLeaf
         ensures { result ≡ record { path = string_bytes path; len = len } }
     {
         FileLeaf { path, len }
