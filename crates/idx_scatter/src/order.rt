@@ -81,14 +81,14 @@ impl Order {
     }
 
     /// The mask.
-    pub(crate) fn mask(&self) -> &Mask
+    pub fn mask(&self) -> &Mask
         ensures { result.now ≡ self.now.mask }
     {
         &self.mask
     }
 
     /// The region.
-    pub(crate) fn region(&self) -> &Region
+    pub fn region(&self) -> &Region
         ensures { result.now ≡ self.now.region }
     {
         &self.region
