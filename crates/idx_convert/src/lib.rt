@@ -11,5 +11,6 @@ mod standing;
 #[cfg(test)]
 mod tests;
 
+pub use asked::MAX_VOLUME;
 pub use convert_fault::ConvertFault;
 pub use converting::convert;
