@@ -16,6 +16,8 @@ mod tests;
 pub use causes::{Cause, Done};
 pub use cut::run_cut;
 pub use examples::{worked_cut, worked_summary};
+pub use idx_convert::MAX_VOLUME;
+pub use idx_plan::MAX_ANSWER;
 pub use info::run_info;
 pub use query::run_query;
 pub use running::run;

@@ -9,7 +9,7 @@ use idx_header::Header;
 use std::alloc::Global;
 
 /// The samples of a header take at most so many bytes.
-const MAX_VOLUME_BYTES: u64 = 1 << 30;
+pub const MAX_VOLUME: u64 = 1 << 30;
 
 /// The header of the text that is asked for, if it has the step and its samples are few enough. Nothing else has a part
 /// in the cause of a refusal.
@@ -27,7 +27,7 @@ pub(crate) fn asked_header(alloc: Global, text: &[u8], step: u64) -> Result<Head
         return Err(ConvertFault::NoStep);
     }
     let bytes = header.volume_bytes();
-    if bytes > MAX_VOLUME_BYTES {
+    if bytes > MAX_VOLUME {
         return Err(ConvertFault::TooLarge { bytes });
     }
     Ok(header)

@@ -9,5 +9,6 @@ mod faults;
 mod place;
 mod standing;
 
+pub use asked::MAX_VOLUME;
 pub use convert_fault::ConvertFault;
 pub use converting::convert;
