@@ -1,5 +1,5 @@
-//! Words, and runs over forms in memory.
-use idx_commands::{Done, run};
+//! A case: words, what stands before a run over forms in memory, and how the run is to end.
+use idx_commands::{Cause, Done, run};
 use idx_memory::{MemBay, MemReader, MemSink, MemSource};
 use idx_outside::{Bytes, MemFile};
 use std::alloc::{AllocError, Global};
@@ -10,105 +10,244 @@ pub(crate) const HEADER: &str =
     "(version)\n6\n(box)\n0 3 0 3\n(fields)\na uint8\n(bits)\nV0101\n(bitsperblock)\n2\n\
     (blocksperfile)\n2\n(filename_template)\n./%01x.bin\n(time)\n0 9 time%04d/\n";
 
-/// The bytes 00 to 0f, and one more.
-pub(crate) const RAW: [u8; 17] = [0, 1, 2, 3, 4, 5, 6, 7, 8, 9, 10, 11, 12, 13, 14, 15, 16];
-
-/// The first bytes of a raw volume, so many of them, or all.
-pub(crate) fn first_bytes(raw: &[u8], length: usize) -> &[u8] {
-    if length < raw.len() {
-        &raw[..length]
-    } else {
-        raw
-    }
+/// The numbers of the calls that fail, or 0: of the raw volume, the bay, its first two drafts, the reader and the sink.
+#[derive(Clone, Copy)]
+pub(crate) struct Fails {
+    pub(crate) raw: u64,
+    pub(crate) bay: u64,
+    pub(crate) drafts: (u64, u64),
+    pub(crate) reader: u64,
+    pub(crate) sink: u64,
 }
 
-/// These words with others in the place of some.
-pub(crate) fn changed(
-    alloc: Global,
-    words: &[&str],
-    changes: &[(usize, &str)],
-) -> Result<Vec<String>, AllocError> {
-    let mut all = Vec::new(alloc);
-    for word in words {
-        all.push(String::from_str(alloc, word)?)?;
-    }
-    for (at, word) in changes {
-        if *at < all.len() {
-            all[*at] = String::from_str(alloc, word)?;
+pub(crate) const NONE_FAILS: Fails = Fails {
+    raw: 0,
+    bay: 0,
+    drafts: (0, 0),
+    reader: 0,
+    sink: 0,
+};
+
+/// A file by its table and its blocks: the first row, and the further ones, each with the offset, the upper half of the
+/// offset, the size and the flags; and how many bytes of the file there are.
+#[derive(Clone, Copy)]
+pub(crate) struct Stored {
+    pub(crate) first: [u32; 4],
+    pub(crate) further: &'static [[u32; 4]],
+    pub(crate) blocks: &'static [u8],
+    pub(crate) kept: usize,
+}
+
+/// A whole file of two blocks of four bytes, which are 0.
+pub(crate) const WHOLE: Stored = Stored {
+    first: [120, 0, 4, 0],
+    further: &[[124, 0, 4, 0]],
+    blocks: &[0, 0, 0, 0, 0, 0, 0, 0],
+    kept: 128,
+};
+
+/// The first and the second file of a step, which stand in its folder, behind so many other files.
+#[derive(Clone, Copy)]
+pub(crate) struct Step {
+    pub(crate) behind: usize,
+    pub(crate) folder: &'static str,
+    pub(crate) files: (Option<Stored>, Option<Stored>),
+}
+
+/// What a run meets, and how it is to end.
+#[derive(Clone, Copy)]
+pub(crate) struct Case {
+    /// The words, with bars between them.
+    pub(crate) words: &'static str,
+    /// The words of a run over the same bay before, or none.
+    pub(crate) earlier: &'static str,
+    /// The first byte of the raw volume, each further one being one more, and how many there are.
+    pub(crate) raw: (u8, usize),
+    /// The header text that stands, with the first of two texts replaced by the second.
+    pub(crate) header: (&'static str, &'static str, &'static str),
+    /// The files that stand.
+    pub(crate) step: Option<Step>,
+    pub(crate) fails: Fails,
+    /// The cause that it ends with, the bytes that it writes to the sink, and how many reads it makes.
+    pub(crate) cause: Cause,
+    pub(crate) written: &'static [u8],
+    pub(crate) reads: u64,
+    /// The header text and the files that stand afterwards, where these are looked at.
+    pub(crate) header_after: Option<(&'static str, &'static str, &'static str)>,
+    pub(crate) step_after: Option<Step>,
+}
+
+/// The number of the first case that does not end as it is to, if there is one.
+pub(crate) fn first_other(alloc: Global, cases: &[Case]) -> Result<Option<usize>, AllocError> {
+    for (number, case) in cases.iter().enumerate() {
+        if !ends_as_wanted(alloc, case)? {
+            return Ok(Some(number));
         }
     }
-    Ok(all)
+    Ok(None)
 }
 
-/// A raw volume of these bytes, whose calls of these numbers fail.
-pub(crate) fn raw_of(alloc: Global, bytes: &[u8], fails: &[u64]) -> Result<MemSource, AllocError> {
-    let bytes = Bytes::from_vec(Vec::from_slice(alloc, bytes)?);
-    Ok(MemSource::new(bytes, Vec::from_slice(alloc, fails)?))
+/// Whether a case ends as it is to.
+fn ends_as_wanted(alloc: Global, case: &Case) -> Result<bool, AllocError> {
+    let mut bay = bay_of(alloc, case)?;
+    if !case.earlier.is_empty() {
+        let _ = run_over(alloc, case.earlier, case.raw, NONE_FAILS, &mut bay)?;
+    }
+    let end = run_over(alloc, case.words, case.raw, case.fails, &mut bay)?;
+    Ok(is_wanted(&end, case) && leaves_as_wanted(alloc, case, &bay)?)
 }
 
-/// The bay of a header text, without a step, whose calls of these numbers fail.
-pub(crate) fn bay_of(alloc: Global, text: &str, fails: &[u64]) -> Result<MemBay, AllocError> {
-    bay_with(alloc, text, Vec::new(alloc), fails)
+/// How a run ended, what it wrote to the sink, and how many leaves it read.
+#[derive(Drop)]
+struct End {
+    done: Done,
+    written: Vec<u8>,
+    reads: u64,
 }
 
-/// The bay of a header text with these files, whose calls of these numbers fail.
-pub(crate) fn bay_with(
+fn is_wanted(end: &End, case: &Case) -> bool {
+    end.done == Done::of(case.cause)
+        && end.written.as_slice() == case.written
+        && end.reads == case.reads
+}
+
+/// Whether a bay holds what a case is to leave.
+fn leaves_as_wanted(alloc: Global, case: &Case, bay: &MemBay) -> Result<bool, AllocError> {
+    if let Some(header) = case.header_after {
+        let header = text_of(alloc, header)?;
+        if bay.header_text().as_slice() != header.as_bytes() {
+            return Ok(false);
+        }
+    }
+    match case.step_after {
+        Some(step) => holds_step(alloc, step, bay),
+        None => Ok(true),
+    }
+}
+
+/// Whether the last files of a bay are exactly those of a step, behind as many as it says.
+fn holds_step(alloc: Global, step: Step, bay: &MemBay) -> Result<bool, AllocError> {
+    let files = files_of(alloc, step)?;
+    let committed = bay.committed();
+    Ok(
+        committed.len() >= step.behind
+            && committed.len() - step.behind == files.len()
+            && committed
+                .iter()
+                .skip(step.behind)
+                .zip(files.iter())
+                .all(|(found, wanted)| is_same(found, wanted)),
+    )
+}
+
+fn is_same(found: &MemFile, wanted: &MemFile) -> bool {
+    found.folder.as_slice() == wanted.folder.as_slice()
+        && found.path.as_slice() == wanted.path.as_slice()
+        && found.bytes.as_slice() == wanted.bytes.as_slice()
+}
+
+/// A run on these words over a bay, this raw volume, a reader and a sink.
+fn run_over(
     alloc: Global,
-    text: &str,
-    files: Vec<MemFile>,
-    fails: &[u64],
-) -> Result<MemBay, AllocError> {
-    let header = Bytes::from_vec(Vec::from_slice(alloc, text.as_bytes())?);
-    let fails = Vec::from_slice(alloc, fails)?;
-    Ok(MemBay::new(header, files, fails, Vec::new(alloc)))
-}
-
-/// How a run on these words, this raw volume, this bay and a reader ends, what it writes to a sink, and how many leaves it
-/// reads, where the calls of these numbers of the reader and of the sink fail.
-pub(crate) fn run_over(
-    alloc: Global,
-    words: &[String],
-    raw: MemSource,
+    line: &str,
+    raw: (u8, usize),
+    fails: Fails,
     bay: &mut MemBay,
-    reader_fails: &[u64],
-    sink_fails: &[u64],
-) -> Result<(Done, Vec<u8>, u64), AllocError> {
+) -> Result<End, AllocError> {
+    let words = words_in(alloc, line)?;
     let mut raws = Vec::with_capacity(alloc, 1)?;
-    raws.push(raw)?;
+    raws.push(raw_of(alloc, raw, fails.raw)?)?;
     let mut readers = Vec::with_capacity(alloc, 1)?;
-    readers.push(MemReader::new(Vec::from_slice(alloc, reader_fails)?))?;
-    let mut out = MemSink::new(Vec::from_slice(alloc, sink_fails)?);
-    let done = run(alloc, words, &mut raws, bay, &mut readers, &mut out);
+    readers.push(MemReader::new(calls(alloc, fails.reader)?))?;
+    let mut out = MemSink::new(calls(alloc, fails.sink)?);
+    let done = run(alloc, &words, &mut raws, bay, &mut readers, &mut out);
     let reads = readers.first().map_or(0, MemReader::reads);
     let written = Vec::from_slice(alloc, out.written().as_slice())?;
-    Ok((done, written, reads))
+    Ok(End {
+        done,
+        written,
+        reads,
+    })
 }
 
-/// A file with these offsets and sizes in its table, and these bytes behind it.
-pub(crate) fn file_of(
-    alloc: Global,
-    rows: &[(u32, u32)],
-    blocks: &[u8],
-) -> Result<Vec<u8>, AllocError> {
-    let mut file = Vec::from_slice(alloc, &[0; 40])?;
-    for (offset, size) in rows {
-        for word in [0, 0, *offset, 0, *size, 0, 0, 0, 0, 0] {
-            file.extend_from_slice(&word.to_be_bytes())?;
-        }
+/// The words of a line, which stand between its bars.
+fn words_in(alloc: Global, line: &str) -> Result<Vec<String>, AllocError> {
+    let mut words = Vec::new(alloc);
+    for word in line.split('|') {
+        words.push(String::from_str(alloc, word)?)?;
     }
-    file.extend_from_slice(blocks)?;
+    Ok(words)
+}
+
+/// The call of this number, which is to fail.
+fn calls(alloc: Global, number: u64) -> Result<Vec<u64>, AllocError> {
+    Vec::from_slice(alloc, &[number])
+}
+
+/// A raw volume of so many bytes from this one on, whose call of this number fails.
+fn raw_of(alloc: Global, (first, count): (u8, usize), fail: u64) -> Result<MemSource, AllocError> {
+    let bytes: Vec<u8> = (0..count)
+        .map(|n| first.wrapping_add((n % 256) as u8))
+        .collect(alloc)?;
+    Ok(MemSource::new(Bytes::from_vec(bytes), calls(alloc, fail)?))
+}
+
+/// A text with the first of two others in it replaced by the second.
+fn text_of(alloc: Global, (text, usual, given): (&str, &str, &str)) -> Result<String, AllocError> {
+    text.replace(alloc, usual, given)
+}
+
+/// The bay of a case.
+fn bay_of(alloc: Global, case: &Case) -> Result<MemBay, AllocError> {
+    let header = Bytes::from_vec(text_of(alloc, case.header)?.into_bytes());
+    let files = match case.step {
+        Some(step) => files_of(alloc, step)?,
+        None => Vec::new(alloc),
+    };
+    let mut drafts = Vec::new(alloc);
+    drafts.push(calls(alloc, case.fails.drafts.0)?)?;
+    drafts.push(calls(alloc, case.fails.drafts.1)?)?;
+    Ok(MemBay::new(header, files, calls(alloc, case.fails.bay)?, drafts))
+}
+
+/// The files of a step.
+fn files_of(alloc: Global, step: Step) -> Result<Vec<MemFile>, AllocError> {
+    let mut files = Vec::new(alloc);
+    if let Some(stored) = step.files.0 {
+        files.push(file_of(alloc, step.folder, "0.bin", stored)?)?;
+    }
+    if let Some(stored) = step.files.1 {
+        files.push(file_of(alloc, step.folder, "2.bin", stored)?)?;
+    }
+    Ok(files)
+}
+
+/// A file of this name in this folder.
+fn file_of(alloc: Global, folder: &str, name: &str, stored: Stored) -> Result<MemFile, AllocError> {
+    let path = format!(in alloc; "{folder}/{name}")?;
+    Ok(MemFile {
+        folder: Bytes::from_vec(Vec::from_slice(alloc, folder.as_bytes())?),
+        path: Bytes::from_vec(path.into_bytes()),
+        bytes: Bytes::from_vec(bytes_of(alloc, stored)?),
+    })
+}
+
+/// The bytes of a file.
+fn bytes_of(alloc: Global, stored: Stored) -> Result<Vec<u8>, AllocError> {
+    let mut file = Vec::from_slice(alloc, &[0; 40])?;
+    push_row(&mut file, stored.first)?;
+    for row in stored.further {
+        push_row(&mut file, *row)?;
+    }
+    file.extend_from_slice(stored.blocks)?;
+    file.truncate(stored.kept);
     Ok(file)
 }
 
-/// A committed file of step 0.
-pub(crate) fn committed_file(
-    alloc: Global,
-    path: &str,
-    bytes: Vec<u8>,
-) -> Result<MemFile, AllocError> {
-    Ok(MemFile {
-        folder: Bytes::from_vec(Vec::from_slice(alloc, b"time0000")?),
-        path: Bytes::from_vec(Vec::from_slice(alloc, path.as_bytes())?),
-        bytes: Bytes::from_vec(bytes),
-    })
+/// Puts the ten words of a row at the end.
+fn push_row(file: &mut Vec<u8>, [offset, upper, size, flags]: [u32; 4]) -> Result<(), AllocError> {
+    for word in [0, 0, offset, upper, size, flags, 0, 0, 0, 0] {
+        file.extend_from_slice(&word.to_be_bytes())?;
+    }
+    Ok(())
 }
