@@ -7,6 +7,7 @@ ghost use Rattle.std.specs.Prelude.{◌≡◌, IfOk, vec_len};
 mod paths;
 mod plain_words;
 mod report;
+mod shown;
 #[cfg(test)]
 mod tests;
 mod usage;

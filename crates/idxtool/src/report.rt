@@ -5,9 +5,11 @@ ghost use Rattle.idx_commands.specs.Cause.{message_of};
 
 use crate::paths::{dataset_path, raw_path};
 use crate::plain_words::{plain_table_words, plain_words};
-use idx_commands::{Cause, Done};
+use crate::shown::Shown;
+use idx_commands::{Cause, Done, MAX_ANSWER, MAX_VOLUME};
 use idx_header::{Header, HeaderKind};
 use idx_real::Fault;
+use idx_table::TableKind;
 use idx_words::{Command, read_words};
 use std::alloc::Global;
 use std::io::Write;
@@ -43,7 +45,7 @@ fn print_all<W: Write>(
     print_cause(err, cause)?;
     print_help(alloc, err, cause, words)?;
     match fault {
-        Some(fault) => writeln!(err, "  {fault}"),
+        Some(fault) => writeln!(err, "  {}: {}", Shown(fault.path), fault.reason),
         None => Ok(()),
     }
 }
@@ -53,6 +55,13 @@ pub fn print_cause<W: Write>(err: &mut W, cause: Cause) -> io::Result<()>
     ensures { OnOk result (Appends (W.contents err.old) (W.contents err.new) (message_of cause)) }
 {
     writeln!(err, "idxtool: {cause}")
+}
+
+/// A line that helps, alone or behind the path that it speaks of.
+enum Help {
+    Alone(&'static str),
+    OfRaw(&'static str),
+    OfDataset(&'static str),
 }
 
 /// Prints what helps against a cause. These lines, and every other behind the first, begin with two spaces.
@@ -65,70 +74,44 @@ fn print_help<W: Write>(
     match cause {
         Cause::Usage { .. } => print_usage(err, words),
         Cause::Header { line, kind } => print_header(alloc, err, words, line, kind),
-        Cause::RawWrongSize { .. } => {
-            writeln!(
-                err,
-                "  {}: not the bytes that these samples take",
-                raw_path(words)
-            )
-        }
-        Cause::AlreadyPublished { .. } => {
-            writeln!(
-                err,
-                "  {}: the step stands there already",
-                dataset_path(words)
-            )
-        }
-        Cause::OtherHeader => {
-            let path = dataset_path(words);
-            writeln!(
-                err,
-                "  {path}: the header there has other values than these words"
-            )
-        }
-        Cause::NoStep { .. } => writeln!(err, "  the step is none of those that TIME gives"),
         Cause::TooLarge { .. } => print_too_large(err, words),
-        Cause::NotPublished { .. } => {
-            let path = dataset_path(words);
-            writeln!(
-                err,
-                "  {path}: the step has not been written, or is none of its steps"
-            )
-        }
-        Cause::OtherAxes => {
-            let path = dataset_path(words);
-            writeln!(
-                err,
-                "  {path}: its box has another number of axes than REGION; idxtool info says its box"
-            )
-        }
-        Cause::UnknownField => {
-            let path = dataset_path(words);
-            writeln!(
-                err,
-                "  {path}: no field has this name; idxtool info lists its fields"
-            )
-        }
-        Cause::OutsideVolume { .. } => {
-            let path = dataset_path(words);
-            writeln!(
-                err,
-                "  {path}: REGION leaves its box on this axis, counted from 0; idxtool info says its box"
-            )
-        }
-        Cause::BadLevels { .. } => writeln!(
-            err,
-            "  LO is at most HI, and HI at most the finest level, the last number"
-        ),
-        Cause::BadTable { file, kind, .. } => {
-            let path = dataset_path(words);
-            writeln!(
-                err,
-                "  {path}, the file that begins with block {file}: {}",
-                plain_table_words(kind)
-            )
-        }
-        _ => Ok(()),
+        Cause::BadTable { file, kind, .. } => print_bad_table(err, words, file, kind),
+        _ => match help_of(cause) {
+            Some(Help::Alone(text)) => writeln!(err, "  {text}"),
+            Some(Help::OfRaw(text)) => writeln!(err, "  {}: {text}", Shown(raw_path(words))),
+            Some(Help::OfDataset(text)) => {
+                writeln!(err, "  {}: {text}", Shown(dataset_path(words)))
+            }
+            None => Ok(()),
+        },
+    }
+}
+
+/// The one line that helps against a cause, where it is always the same.
+fn help_of(cause: Cause) -> Option<Help> {
+    match cause {
+        Cause::RawWrongSize { .. } => Some(Help::OfRaw("not the bytes that these samples take")),
+        Cause::AlreadyPublished { .. } => Some(Help::OfDataset("the step stands there already")),
+        Cause::OtherHeader => Some(Help::OfDataset(
+            "the header there has other values than these words",
+        )),
+        Cause::NoStep { .. } => Some(Help::Alone("the step is none of those that TIME gives")),
+        Cause::NotPublished { .. } => Some(Help::OfDataset(
+            "the step has not been written, or is none of its steps",
+        )),
+        Cause::OtherAxes => Some(Help::OfDataset(
+            "its box has another number of axes than REGION; idxtool info says its box",
+        )),
+        Cause::UnknownField => Some(Help::OfDataset(
+            "no field has this name; idxtool info lists its fields",
+        )),
+        Cause::OutsideVolume { .. } => Some(Help::OfDataset(
+            "REGION leaves its box on this axis, counted from 0; idxtool info says its box",
+        )),
+        Cause::BadLevels { .. } => Some(Help::Alone(
+            "LO is at most HI, and HI at most the finest level, the last number",
+        )),
+        _ => None,
     }
 }
 
@@ -137,18 +120,33 @@ fn print_too_large<W: Write>(err: &mut W, words: &[String]) -> io::Result<()> {
     if is_command(words, "query") {
         writeln!(
             err,
-            "  an answer has at most 268435456 bytes: ask for a smaller REGION or a coarser HI"
+            "  an answer has at most {MAX_ANSWER} bytes: ask for a smaller REGION or a coarser HI"
         )
     } else {
-        writeln!(err, "  a raw volume has at most 1073741824 bytes")
+        writeln!(err, "  a raw volume has at most {MAX_VOLUME} bytes")
     }
+}
+
+/// Prints which file is damaged, and how.
+fn print_bad_table<W: Write>(
+    err: &mut W,
+    words: &[String],
+    file: u64,
+    kind: TableKind,
+) -> io::Result<()> {
+    let path = Shown(dataset_path(words));
+    writeln!(
+        err,
+        "  {path}, the file that begins with block {file}: {}",
+        plain_table_words(kind)
+    )
 }
 
 /// Prints which word is wrong or missing, and what is expected there.
 fn print_usage<W: Write>(err: &mut W, words: &[String]) -> io::Result<()> {
     if let Err(misread) = read_words(words) {
         match words.get(misread.at as usize) {
-            Some(word) => writeln!(err, "  word {} is `{word}`", misread.at)?,
+            Some(word) => writeln!(err, "  word {} is `{}`", misread.at, Shown(word))?,
             None => writeln!(err, "  word {} is missing", misread.at)?,
         }
         writeln!(err, "  expected {}", misread.expected)?;
@@ -188,7 +186,12 @@ fn print_header<W: Write>(
             plain_words(kind)
         )
     } else {
-        writeln!(err, "  {}: {}", dataset_path(words), plain_words(kind))
+        writeln!(
+            err,
+            "  {}: {}",
+            Shown(dataset_path(words)),
+            plain_words(kind)
+        )
     }
 }
 

@@ -104,6 +104,22 @@ fn a_message_says_what_helps(rt: HostRuntime) -> Result<(), Fail> {
 }
 
 #[test]
+fn a_name_stays_on_its_line(rt: HostRuntime) -> Result<(), Fail> {
+    let line = "info|a\n\x1b[2J\u{85}é.idx";
+    let fault = Fault {
+        path: "b\x07",
+        reason: Reason::NotRegularFile,
+    };
+    let step = Cause::NotPublished { time: 5 };
+    let shown = printed(rt.alloc(), line, step, Some(fault))?;
+    let want = "idxtool: not published 5\n  \
+        a\\n\\x1b[2J\\u{85}é.idx: the step has not been written, or is none of its steps\n  \
+        b\\x07: not a regular file\n";
+    assert_eq!(rt; shown.as_slice(), want.as_bytes());
+    Ok(())
+}
+
+#[test]
 fn help_is_asked_for_alone(rt: HostRuntime) -> Result<(), Fail> {
     let words = words_in(rt.alloc(), "--version")?;
     let text = text_asked_for(&words).expect(&rt, "a text");
