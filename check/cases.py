@@ -556,7 +556,7 @@ def hostile_words(random: Random) -> list[bytes]:
             b"9" * 19, b"9" * 20, b"0" * 20, b"4294967295", b"4294967296", b"0 3 0 3", b"0 3", b"3 0 0 3",
             b"0 3 0 3 0", b"0\n3 0 3", b"0 3 0 1099511627776", b"0 3\t0 3", b" 0 3 0 3 ", b"0 0 " * 6, b"0 0 " * 5,
             b"0 1099511627775 0 0", b"0 1099511627775 0 1", b"a" * 4096, b"a" * 4097, b"a" * 100_000,
-            b" " * 50_000 + b"0 3 0 3", b"a\x01", b"a\nb", b"a\x7f", b"\x1b[31m", b"~", b"\xc3\xa9",
+            b" " * 50_000 + b"0 3 0 3", b"a\x01", b"a\nb", b"a\x7f", b"\x1b[31m", b"~", b"\xc3\xa9", b"\xff", b"a\x80",
             "\u00a00 3 0 3".encode(), "\u0661".encode(), b"cut", b"info", b"1" + random.choice(CONTROLS[1:]),
             b"0 %d 0 %d" % (random.getrandbits(random.randint(1, 42)), random.getrandbits(random.randint(1, 42)))]
 
@@ -675,7 +675,7 @@ def damages(bench: Bench) -> None:
         paths = [path for path in files_below(bench.folder) if not path.endswith(others)]
         for path in random.sample(paths, min(len(paths), random.choice([1, 1, 2]))):
             damage(bench, made.header, path)
-        if paths and chance(random, 20):
+        if paths and chance(random, 20) and not os.path.lexists(paths[0] + b".extra"):
             write(bench, paths[0] + b".extra", b"extra")
         ask(bench, made, random.randint(1, 3))
 

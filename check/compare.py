@@ -87,10 +87,11 @@ def put_tree(folder: bytes, content: Tree) -> None:
 
 
 def quoted(word: bytes) -> str:
-    """A word as a shell reads it."""
+    """A word as bash reads it."""
     if all(0x20 <= byte <= 0x7E for byte in word):
         return shlex.quote(word.decode())
-    return "$'" + "".join(f"\\x{byte:02x}" for byte in word) + "'"
+    plain = [0x20 <= byte <= 0x7E and byte not in b"'\\" for byte in word]
+    return "$'" + "".join(chr(byte) if as_it_is else f"\\x{byte:02x}" for byte, as_it_is in zip(word, plain)) + "'"
 
 
 def short(content: bytes | None) -> str:
@@ -192,21 +193,28 @@ class Case:
     def report(self, words: Sequence[bytes], sink: bytes | None, found: list[str], before: Tree) -> None:
         """Prints a run that differs, and keeps the folder as it was before it."""
         self.differences += found
-        line = shell_line(self.program, words, sink)
         print(f"case {self.number}, run {self.runs}:")
         if self.keep:
             kept = self.at / f"kept-{self.number}-{self.runs}"
-            (kept / "before").mkdir(parents=True)
-            put_tree(os.fsencode(kept / "before"), before)
-            (kept / "run.sh").write_text(f"cd {shlex.quote(str(kept / 'before'))} && {line}\n")
-            print(f"  again: sh {shlex.quote(str(kept / 'run.sh'))}")
+            self.put_again(kept, words, sink, before)
+            print(f"  again: bash {shlex.quote(str(kept / 'run.sh'))}")
+        line = shell_line(self.program, words, sink)
         print(f"  {line if len(line) <= LONGEST_PRINTED else line[:LONGEST_PRINTED] + ' ..'}")
         for each in found:
             print(f"    {each}")
 
+    def put_again(self, kept: Path, words: Sequence[bytes], sink: bytes | None, before: Tree) -> None:
+        """Puts a folder with a script that runs a run again in it."""
+        folder = kept / "before"
+        folder.mkdir(parents=True)
+        put_tree(os.fsencode(folder), before)
+        moved = [word.replace(self.folder, os.fsencode(folder)) for word in words]
+        line = shell_line(self.program, moved, sink)
+        (kept / "run.sh").write_text(f"cd {shlex.quote(str(folder))} && {line}\n")
+
 
 def shell_line(program: str, words: Sequence[bytes], sink: bytes | None) -> str:
-    """The command line of a run, as a shell reads it."""
+    """The command line of a run, as bash reads it."""
     return " ".join([shlex.quote(program), *map(quoted, words)]) + (f" >{quoted(sink)}" if sink else "")
 
 

@@ -325,9 +325,9 @@ def parse_field(text: bytes) -> Field | None:
 def parse_fields(entry: Entry) -> tuple[Field, ...]:
     """The fields, separated by `+`."""
     fields = tuple(parse_field(text) for text in entry.value.split(b"+"))
-    if None in fields or len({field.name for field in fields}) < len(fields):
+    if None in fields or len({each.name for each in fields}) < len(fields):
         raise HeaderFault(entry.line, "BadField")
-    if len(fields) > 64 or any(field.sample_size() > 64 for field in fields):
+    if len(fields) > 64 or any(each.sample_size() > 64 for each in fields):
         raise HeaderFault(entry.line, "OverLimit")
     return fields
 
@@ -337,7 +337,7 @@ def parse_bits_per_block(entry: Entry, mask: Mask, fields: Sequence[Field]) -> i
     bits = entry_number(entry)
     if bits == 0 or bits > 20 or bits > len(mask) or len(mask) - bits > 24:
         raise HeaderFault(entry.line, "OverLimit")
-    if any(field.sample_size() * 2**bits > 2**24 for field in fields):
+    if any(each.sample_size() * 2**bits > 2**24 for each in fields):
         raise HeaderFault(entry.line, "OverLimit")
     return bits
 
@@ -478,12 +478,12 @@ def files_of_step(header: Header) -> list[int]:
 
 def volume_size(header: Header) -> int:
     """The bytes of the raw volume."""
-    return count_of_points(header.box) * sum(field.sample_size() for field in header.fields)
+    return count_of_points(header.box) * sum(each.sample_size() for each in header.fields)
 
 
 def block_bytes(header: Header, which: int, block: int, raw: bytes) -> bytes:
     """The samples of a field in a block, in rising order of addresses; zero bytes where no point has an address."""
-    before = sum(field.sample_size() for field in header.fields[:which]) * count_of_points(header.box)
+    before = sum(each.sample_size() for each in header.fields[:which]) * count_of_points(header.box)
     size = header.fields[which].sample_size()
     places = places_of_addresses(header.box, header.mask)
     samples = []
@@ -498,20 +498,22 @@ def row_number(header: Header, which: int, block: int) -> int:
     return which * header.blocks_per_file + block % header.blocks_per_file
 
 
+def row_bytes(offset: int, size: int) -> bytes:
+    """The row of a present block."""
+    words = [0] * 10
+    words[2], words[3], words[4] = offset % 2**32, offset >> 32, size
+    return struct.pack(">10I", *words)
+
+
 def file_bytes(header: Header, file: int, raw: bytes) -> bytes:
     """A file of a step: its table, and behind it the present blocks, field after field."""
-    table = bytearray(header.table_size())
-    blocks = b""
-    for which in range(len(header.fields)):
-        for block in present_blocks(header):
-            if file_of_block(block, header.blocks_per_file) == file:
-                samples = block_bytes(header, which, block, raw)
-                offset = header.table_size() + len(blocks)
-                row = 0, 0, offset >> 32, offset % 2**32, len(samples), 0, 0, 0, 0, 0
-                # Of the halves of the offset the low one stands first.
-                row = row[:2] + (row[3], row[2]) + row[4:]
-                struct.pack_into(">10I", table, 40 + 40 * row_number(header, which, block), *row)
-                blocks += samples
+    table, blocks = bytearray(header.table_size()), b""
+    inside = [block for block in present_blocks(header) if file_of_block(block, header.blocks_per_file) == file]
+    for which, block in product(range(len(header.fields)), inside):
+        start = 40 + 40 * row_number(header, which, block)
+        samples = block_bytes(header, which, block, raw)
+        table[start:start + 40] = row_bytes(len(table) + len(blocks), len(samples))
+        blocks += samples
     return bytes(table) + blocks
 
 
@@ -653,9 +655,21 @@ RULES: dict[bytes, list[Rule]] = {
 }
 
 
+def is_utf8(text: bytes) -> bool:
+    """Whether a text is UTF-8."""
+    try:
+        text.decode()
+    except UnicodeDecodeError:
+        return False
+    return True
+
+
 def usage_fault(words: Sequence[bytes]) -> int | None:
-    """The least place such that no right list begins with the words up to it; None where the words are right."""
-    if not words or words[0] not in RULES:
+    """The least place such that no right list begins with the words up to it; None where the words are right.
+
+    Where a word is not UTF-8 no word is read.
+    """
+    if not all(map(is_utf8, words)) or not words or words[0] not in RULES:
         return 0
     for place, rule in enumerate(RULES[words[0]], 1):
         if place == len(words) or not rule(words[:place + 1]):
