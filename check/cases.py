@@ -743,19 +743,22 @@ def wrong_words(bench: Bench) -> None:
 
 
 def put_in_place(bench: Bench, path: bytes) -> None:
-    """Puts a folder, a pipe, an empty file or nothing at a path."""
+    """Puts a folder, a pipe, an empty file, a link to the file that stood there or nothing at a path."""
     whole = os.path.join(bench.folder, path)
     os.makedirs(os.path.dirname(whole), exist_ok=True)
-    style = bench.random.randrange(4)
-    if os.path.isfile(whole):
+    style = bench.random.randrange(5)
+    if style == 0 and os.path.isfile(whole):
+        os.rename(whole, whole + b".real")
+        os.symlink(os.path.basename(whole) + b".real", whole)
+    elif os.path.isfile(whole):
         os.remove(whole)
     if os.path.lexists(whole):
         return
-    if style == 0:
+    if style == 1:
         os.mkdir(whole)
-    elif style == 1:
-        os.mkfifo(whole)
     elif style == 2:
+        os.mkfifo(whole)
+    elif style == 3:
         write(bench, path, b"")
 
 
@@ -846,9 +849,42 @@ def draw_wide_region(random: Random, box: Box) -> Box:
     return tuple(region)
 
 
+def large_cuts(bench: Bench) -> None:
+    """Cuts out of a raw volume whose rows lie far apart."""
+    random = bench.random
+    box = tuple((low, low + random.randint(2, 60)) for low in random.choices(range(9), k=2))
+    box = ((3, 3 + random.choice([60, 300, 900])),) + box
+    size, mask = random.choice([1, 8, 17, 64]), draw_mask(random, box)
+    size = min(size, 2**22 // reference.count_of_points(box))
+    write(bench, b"r.raw", random.randbytes(reference.count_of_points(box) * size))
+    for _ in range(3):
+        region = draw_region(random, box)
+        if reference.count_of_points(region) < 40_000:
+            low, high = draw_levels(random, len(mask) - 1)
+            words = [b"cut", b"r.raw", b"%d" % size, box_text(random, box), mask, box_text(random, region)]
+            bench.run([*words, b"%d" % low, b"%d" % high])
+
+
+def large_volumes(bench: Bench) -> None:
+    """A conversion of some megabytes, and questions."""
+    random = bench.random
+    box = tuple((low, low + random.randint(10, 30)) for low in random.choices(range(20), k=3))
+    mask, fields = draw_mask(random, box), [[b"a", b"float64[%d]" % random.randint(1, 8)], [b"b", b"int16"]]
+    bits, blocks_per_file = random.randint(5, 12), random.choice([1, 5, 16, 256])
+    dataset = Dataset(box, fields, mask, bits, blocks_per_file, b"%04x", (0, 1), b"t%01d/")
+    texts = dataset.texts(random)
+    made = Made(b"v.idx", dataset, texts, header_of(texts), 1)
+    if made.header is not None:
+        write(bench, b"r.raw", random.randbytes(reference.volume_size(made.header)))
+    convert(bench, made, 1)
+    ask(bench, made, 3)
+    bench.run([b"query", b"v.idx", b"1", b"a", texts[0], b"0", b"%d" % (len(mask) - 1)])
+
+
 KINDS: list[tuple[int, Callable[[Bench], None]]] = [
     (25, conversions), (12, cuts), (10, second_conversions), (8, standing_headers), (12, damages), (8, odd_files),
     (14, headers), (8, asked_headers), (10, wrong_words), (6, others_in_place), (2, long_names), (3, sinks), (5, large),
+    (3, large_cuts), (2, large_volumes),
 ]
 """The kinds of cases, each with how often it comes."""
 

@@ -45,9 +45,17 @@ class Ended:
     errors: bytes
 
 
-def kind_of(mode: int) -> bytes:
-    """What stands at a path that is no regular file."""
-    return b"<folder>" if stat.S_ISDIR(mode) else b"<no regular file>"
+FOLDER, PIPE, LINK = b"<folder>", b"<pipe>", b"<link>"
+
+
+def what_stands(path: bytes) -> bytes:
+    """The bytes of a regular file, or what else stands at a path."""
+    mode = os.lstat(path).st_mode
+    if stat.S_ISREG(mode):
+        return Path(os.fsdecode(path)).read_bytes()
+    if stat.S_ISLNK(mode):
+        return LINK + os.readlink(path)
+    return FOLDER if stat.S_ISDIR(mode) else PIPE
 
 
 def tree(folder: bytes) -> Tree:
@@ -56,9 +64,7 @@ def tree(folder: bytes) -> Tree:
     for at, folders, files in os.walk(folder):
         for name in folders + files:
             path = os.path.join(at, name)
-            mode = os.lstat(path).st_mode
-            what = Path(os.fsdecode(path)).read_bytes() if stat.S_ISREG(mode) else kind_of(mode)
-            found[os.path.relpath(path, folder)] = what
+            found[os.path.relpath(path, folder)] = what_stands(path)
     return found
 
 
@@ -69,7 +75,7 @@ def with_files(before: Tree, folder: bytes, files: dict[bytes, bytes]) -> Tree:
         place = os.path.relpath(path, folder)
         after[place] = content
         while place := os.path.dirname(place):
-            after[place] = b"<folder>"
+            after[place] = FOLDER
     return after
 
 
@@ -77,10 +83,12 @@ def put_tree(folder: bytes, content: Tree) -> None:
     """Writes a tree into a folder, for a person who wants to see the case."""
     for path, what in sorted(content.items()):
         whole = os.path.join(folder, path)
-        if what == b"<folder>":
+        if what == FOLDER:
             os.makedirs(whole, exist_ok=True)
-        elif what == b"<no regular file>":
+        elif what == PIPE:
             os.mkfifo(whole)
+        elif what.startswith(LINK):
+            os.symlink(what.removeprefix(LINK), whole)
         else:
             os.makedirs(os.path.dirname(whole), exist_ok=True)
             Path(os.fsdecode(whole)).write_bytes(what)

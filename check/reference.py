@@ -75,6 +75,14 @@ def points(box: Box) -> Iterator[Point]:
         yield backward[::-1]
 
 
+def place_in_volume(point: Point, box: Box) -> int:
+    """The place of a point of a box in row-major order, axis 0 fastest."""
+    place = 0
+    for coordinate, (low, high) in zip(reversed(point), reversed(box)):
+        place = place * (high - low + 1) + coordinate - low
+    return place
+
+
 def is_inside(inner: Box, outer: Box) -> bool:
     """Whether a box with as many axes as another lies inside it."""
     return all(low <= start and end <= high for (start, end), (low, high) in zip(inner, outer))
@@ -109,11 +117,16 @@ def guessed_mask(box: Box) -> bytes:
 # The order of samples
 
 
+@lru_cache(maxsize=64)
+def bits_of(mask: Mask) -> list[tuple[int, int]]:
+    """For each digit of a mask its axis and the bit that it names: of an axis the last digit names bit 0."""
+    return [(axis, mask[place + 1:].count(axis)) for place, axis in enumerate(mask)]
+
+
 def z_address(point: Point, mask: Mask) -> int:
     """The number whose binary digits are the bits of the coordinates that the digits of the mask name."""
     address = 0
-    for place, axis in enumerate(mask):
-        bit = mask[place + 1:].count(axis)
+    for axis, bit in bits_of(mask):
         address = 2 * address + (point[axis] >> bit) % 2
     return address
 
@@ -463,7 +476,7 @@ def file_of_block(block: int, blocks_per_file: int) -> int:
 @lru_cache(maxsize=8)
 def places_of_addresses(box: Box, mask: Mask) -> dict[int, int]:
     """For each address of a point of the box the point's place in the raw volume."""
-    return {hierarchical_address(point, mask): place for place, point in enumerate(points(box))}
+    return {hierarchical_address(point, mask): place_in_volume(point, box) for point in points(box)}
 
 
 def present_blocks(header: Header) -> list[int]:
@@ -777,9 +790,9 @@ def cut(words: Sequence[bytes], folder: bytes) -> Outcome:
     """The samples of a region of a raw volume."""
     size, box, mask, region = int(words[2]), box_word(words[3]), mask_word(words[4]), box_word(words[5])
     raw = read_raw(os.path.join(folder, words[1]), count_of_points(box) * size)
-    places = {point: place for place, point in enumerate(points(box))}
-    wanted = [places[point] * size for point in asked_points(region, mask, int(words[6]), int(words[7]))]
-    return Outcome(output=b"".join(raw[start:start + size] for start in wanted))
+    wanted = asked_points(region, mask, int(words[6]), int(words[7]))
+    starts = [place_in_volume(point, box) * size for point in wanted]
+    return Outcome(output=b"".join(raw[start:start + size] for start in starts))
 
 
 def info(words: Sequence[bytes], folder: bytes) -> Outcome:
