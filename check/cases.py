@@ -639,6 +639,8 @@ def second_conversions(bench: Bench) -> None:
             place = random.randrange(7)
             another = draw_dataset(random).texts(random)[place]
             texts[place] = random.choice([another, another, b"./" + texts[place], texts[place] + b" "])
+        if chance(random, 30):
+            texts[0], texts[1] = random.choice([(texts[0] + b" 0 0", texts[1]), (texts[0], texts[1] + b" more")])
         if chance(random, 30) and made.header is not None:
             write(bench, b"r.raw", draw_raw(random, reference.volume_size(made.header)))
         made.step = random.choice([made.step, *made.dataset.steps, made.dataset.steps[1] + 1])

@@ -24,6 +24,7 @@ from collections.abc import Iterator, Sequence
 from dataclasses import dataclass
 from pathlib import Path
 from random import Random
+from typing import BinaryIO
 
 import cases
 import reference
@@ -226,7 +227,7 @@ def shell_line(program: str, words: Sequence[bytes], sink: bytes | None) -> str:
     return " ".join([shlex.quote(program), *map(quoted, words)]) + (f" >{quoted(sink)}" if sink else "")
 
 
-def read_back(file) -> bytes:
+def read_back(file: BinaryIO) -> bytes:
     """What was written to a file."""
     file.seek(0)
     return file.read()
@@ -272,6 +273,7 @@ def main() -> int:
     arguments = parse_arguments()
     sys.stdout.reconfigure(line_buffering=True)
     arguments.program = os.path.abspath(arguments.program)
+    reference.check_example()
     at = Path(tempfile.mkdtemp(prefix="idxtool-check-"))
     failed = 0
     try:

@@ -910,3 +910,21 @@ def run(words: Sequence[bytes], folder: bytes) -> Outcome:
     except Refusal as refusal:
         line = b"idxtool: " + refusal.line.encode()
         return Outcome(refusal.status, line, files=refusal.files or {}, unfinished=refusal.files is not None)
+
+
+# The example of the page
+
+
+def check_example() -> None:
+    """Stops where this model does not give the two files of the page's example."""
+    header = parse_header(header_words([b"0 3 0 3", b"a uint8", b"V0101", b"2", b"2", b"./%01x.bin", b"0 9 time%04d/"]))
+    listed = {
+        b"time0000/0.bin": bytes.fromhex("00 02 08 0a 01 09 03 0b"),
+        b"time0000/2.bin": bytes.fromhex("04 05 0c 0d 06 07 0e 0f"),
+    }
+    raw = bytes(range(16))
+    given = {file_path(header, 0, file): file_bytes(header, file, raw) for file in files_of_step(header)}
+    assert {path: content[120:] for path, content in given.items()} == listed
+    for content in given.values():
+        assert [read_row(content, place) for place in range(2)] == [Row(120, 4, 0), Row(124, 4, 0)]
+        assert content[:40] == bytes(40)
