@@ -4,12 +4,6 @@
 #[cfg(test)]
 mod cache;
 #[cfg(test)]
-mod convert;
-#[cfg(test)]
-mod edition;
-#[cfg(test)]
-mod extract;
-#[cfg(test)]
 mod hall;
 #[cfg(test)]
 mod memory;
@@ -17,9 +11,5 @@ mod memory;
 mod outside;
 #[cfg(test)]
 mod plan;
-#[cfg(test)]
-mod query;
-#[cfg(test)]
-mod raw;
 #[cfg(test)]
 mod turn;
