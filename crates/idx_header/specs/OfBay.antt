@@ -1,5 +1,5 @@
 -- What reading the header of a bay promises, by what is known of the header's text and by the counts of the bay's faults.
-use Rattle.std.specs.Prelude.{◌≡◌, ◌≢◌, ℕ, List, [], Option, Some, None, IfSome, Result, Ok, Err, OnOk}
+use Rattle.std.specs.Prelude.{◌≡◌, ◌≢◌, ℕ, Bool, true, false, List, [], Option, Some, None, IfSome, Result, Ok, Err, OnOk}
 use Rattle.idx_outside.specs.Cause.{AnswersRise, NeverFalls, Rose}
 use Rattle.idx_outside.specs.Files.{StillAdmits}
 use Rattle.idx_outside.specs.declared.mem_file.MemFile.{MemFile}
@@ -44,6 +44,13 @@ abbrev pub IsTextRefusal : List ℕ → HeaderRefusal → Type 0
 IsTextRefusal text (Fault line kind) = (kind ≢ kinds.NoMemory) × IsFaultOf text line kind
 IsTextRefusal text Outage = ⊥
 IsTextRefusal text NoMemory = Unit {0}
+
+-- whether asking the bay counted no fault, by the answer
+abbrev pub asked_quietly : {T : Type 0} → Result T HeaderRefusal → Bool
+asked_quietly (Ok _) = true
+asked_quietly (Err (Fault line kind)) = true
+asked_quietly (Err Outage) = false
+asked_quietly (Err NoMemory) = true
 
 -- What a call that asks a bay for its header, and for nothing else, leaves of the bay, and how it answers a fault of it. The
 -- first four are the ghost members of bays.

@@ -3,10 +3,12 @@ ghost use Rattle.idx_fields.specs.Field.{field_at, sample_bytes};
 ghost use Rattle.idx_fields.specs.FieldType.{canonical_type};
 ghost use Rattle.idx_geom.specs.Region.{points, upper_ends};
 ghost use Rattle.idx_hz.specs.Mask.{HasAddress};
+ghost use Rattle.idx_outside.specs.Calls.{last_failed};
+ghost use Rattle.idx_outside.specs.declared.bay_call.BayCall.{BayCall};
 ghost use Rattle.idx_header.specs.Header.{IsHeader, Agree, HasTime, ends_of, block_count, block_bytes, file_of, sample_bytes_of, volume_bytes};
 ghost use Rattle.idx_header.specs.HeaderOf.{header_of};
 ghost use Rattle.idx_header.specs.Names.{file_name, step_folder};
-ghost use Rattle.idx_header.specs.OfBay.{Gives, GivesStanding, IsFaultOf, IsFaultOfSome, IsRefusal, OnlyAsks};
+ghost use Rattle.idx_header.specs.OfBay.{Gives, GivesStanding, IsFaultOf, IsFaultOfSome, IsRefusal, OnlyAsks, asked_quietly};
 ghost use Rattle.idx_header.specs.Written.{text_of};
 
 use crate::blocks::block_bytes;
@@ -80,6 +82,9 @@ impl Header {
         ensures gives { IfOk result (Gives (B.header bay.old)) }
         ensures refused { IfErr result (IsRefusal IsFaultOf (B.header bay.old) (B.faults bay.old) (B.faults bay.new)) }
         ensures asks { OnlyAsks B.header B.files B.admits B.faults bay.old bay.new result }
+        ensures begun { B.begun bay.new ≡ B.begun bay.old }
+        ensures changes { B.changes bay.new ≡ B.changes bay.old }
+        ensures failed { B.failed bay.new ≡ last_failed BayCall.Header (asked_quietly result) (B.failed bay.old) }
     {
         let text = bay_text(alloc, bay)?;
         read_text(alloc, text.as_slice())
@@ -91,6 +96,9 @@ impl Header {
         ensures refused { IfErr result
             (IsRefusal IsFaultOfSome (B.header bay.old) (B.faults bay.old) (B.faults bay.new)) }
         ensures asks { OnlyAsks B.header B.files B.admits B.faults bay.old bay.new result }
+        ensures begun { B.begun bay.new ≡ B.begun bay.old }
+        ensures changes { B.changes bay.new ≡ B.changes bay.old }
+        ensures failed { B.failed bay.new ≡ last_failed BayCall.Header (asked_quietly result) (B.failed bay.old) }
     {
         let text = bay_text(alloc, bay)?;
         if text.is_empty() {

@@ -1,6 +1,8 @@
 ghost use Rattle.std.specs.Prelude.{◌≡◌, ◌≢◌, ◌⊎◌, IfErr, IfOk, IfSome, Ok};
+ghost use Rattle.idx_outside.specs.Calls.{last_failed};
+ghost use Rattle.idx_outside.specs.declared.bay_call.BayCall.{BayCall};
 ghost use Rattle.idx_header.specs.HeaderOf.{header_of};
-ghost use Rattle.idx_header.specs.OfBay.{IsAskedRefusal, IsTextRefusal, OnlyAsks};
+ghost use Rattle.idx_header.specs.OfBay.{IsAskedRefusal, IsTextRefusal, OnlyAsks, asked_quietly};
 
 use crate::{Header, HeaderFault, HeaderKind, HeaderRefusal};
 use idx_outside::{Bay, BayFault, Bytes};
@@ -11,6 +13,9 @@ pub(crate) fn bay_text<B: Bay>(alloc: Global, bay: &mut B) -> Result<Bytes, Head
     ensures text { IfOk result (λ text. IfSome (B.header bay.old) (λ known. known ≡ text)) }
     ensures refused { IfErr result (IsAskedRefusal (B.faults bay.old) (B.faults bay.new)) }
     ensures asks { OnlyAsks B.header B.files B.admits B.faults bay.old bay.new result }
+    ensures begun { B.begun bay.new ≡ B.begun bay.old }
+    ensures changes { B.changes bay.new ≡ B.changes bay.old }
+    ensures failed { B.failed bay.new ≡ last_failed BayCall.Header (asked_quietly result) (B.failed bay.old) }
 {
     let mut text = Bytes::new(alloc);
     match bay.header(&mut text) {
