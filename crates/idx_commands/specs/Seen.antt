@@ -1,19 +1,25 @@
 -- What is seen of the objects of a run: each object as it was before and as it is after, with the ghost members of its trait.
-use Rattle.std.specs.Prelude.{ℕ, List, Option}
+use Rattle.std.specs.Prelude.{◌≡◌, ℕ, List, Option}
 use Rattle.idx_outside.specs.Objects.{contents_at, faults_at}
+use Rattle.idx_outside.specs.declared.bay_call.BayCall.{BayCall}
 use Rattle.idx_outside.specs.declared.mem_file.MemFile.{MemFile}
 
--- Raw volumes. What they hold is known or not, and their counts of faults are told.
+-- Raw volumes. What they hold is known or not, and how many faults were counted and how many bytes were asked for is told.
 pub record RawsSeen (V : Type 0) : Type 0 where
   pub contents : V → Option (List ℕ)
   pub faults : V → ℕ
+  pub asked : V → ℕ
   pub old : List V
   pub new : List V
 
--- A bay: its header text and its committed files, known or not, and its count of faults.
+-- A bay: its header text, its committed files and the folder last begun, known or not; how many calls changed it, which call
+-- counted the last fault, and how many faults were counted.
 pub record BaySeen (B : Type 0) : Type 0 where
   pub header : B → Option (List ℕ)
   pub files : B → Option (List MemFile)
+  pub begun : B → Option (List ℕ)
+  pub changes : B → ℕ
+  pub failed : B → Option BayCall
   pub faults : B → ℕ
   pub old : B
   pub new : B
@@ -41,6 +47,20 @@ raw_before raws = faults_at raws.faults raws.old 0
 
 abbrev pub raw_after : {V : Type 0} → RawsSeen V → ℕ
 raw_after raws = faults_at raws.faults raws.new 0
+
+-- how many bytes were asked of the first raw volume, before and after
+abbrev pub raw_asked_before : {V : Type 0} → RawsSeen V → ℕ
+raw_asked_before raws = faults_at raws.asked raws.old 0
+
+abbrev pub raw_asked_after : {V : Type 0} → RawsSeen V → ℕ
+raw_asked_after raws = faults_at raws.asked raws.new 0
+
+-- The bay was not changed: its header text and its committed files are as they were, no call changed it, and no step was begun.
+pub record IsUnchanged {B : Type 0} (bay : BaySeen B) : Type 0 where
+  pub header : bay.header bay.new ≡ bay.header bay.old
+  pub files : bay.files bay.new ≡ bay.files bay.old
+  pub begun : bay.begun bay.new ≡ bay.begun bay.old
+  pub changes : bay.changes bay.new ≡ bay.changes bay.old
 
 -- the bay's counts before and after
 abbrev pub bay_before : {B : Type 0} → BaySeen B → ℕ
@@ -81,11 +101,22 @@ abbrev pub sink_after : {K : Type 0} → SinkSeen K → ℕ
 sink_after sink = sink.faults sink.new
 
 -- what is seen of these objects, by the ghost members of their traits
-abbrev pub raws_seen : {V : Type 0} → (V → Option (List ℕ)) → (V → ℕ) → List V → List V → RawsSeen V
-raws_seen contents faults old new = record { contents = contents; faults = faults; old = old; new = new }
+abbrev pub raws_seen : {V : Type 0} → (V → Option (List ℕ)) → (V → ℕ) → (V → ℕ) → List V → List V → RawsSeen V
+raws_seen contents faults asked old new =
+    record { contents = contents; faults = faults; asked = asked; old = old; new = new }
 
-abbrev pub bay_seen : {B : Type 0} → (B → Option (List ℕ)) → (B → Option (List MemFile)) → (B → ℕ) → B → B → BaySeen B
-bay_seen header files faults old new = record { header = header; files = files; faults = faults; old = old; new = new }
+abbrev pub bay_seen : {B : Type 0} → (B → Option (List ℕ)) → (B → Option (List MemFile)) → (B → Option (List ℕ)) → (B → ℕ) → (B → Option BayCall) → (B → ℕ) → B → B → BaySeen B
+bay_seen header files begun changes failed faults old new =
+    record {
+      header = header;
+      files = files;
+      begun = begun;
+      changes = changes;
+      failed = failed;
+      faults = faults;
+      old = old;
+      new = new;
+    }
 
 abbrev pub readers_seen : {R : Type 0} → (R → ℕ) → (R → ℕ) → List R → List R → ReadersSeen R
 readers_seen faults reads old new = record { faults = faults; reads = reads; old = old; new = new }
