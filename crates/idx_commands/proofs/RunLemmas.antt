@@ -2,7 +2,6 @@
 use Rattle.std.proofs.Common.{◌≡◌, ◌≢◌, ◌⊎◌, ℕ, ◌+◌, ◌<◌, ◌≤◌, List, [], ◌∷◌, Option, Result, Ok, inl, inr, refl, sym, ◌∙◌, ap, subst, length, take, drop, codes, arith}
 use Rattle.idx_outside.specs.Cause.{Rose}
 use Rattle.idx_outside.specs.Contents.{appended, AppendsPrefix}
-use Rattle.idx_outside.specs.Files.{StillAdmits}
 use Rattle.idx_outside.specs.Objects.{OthersUntouched, UsesOnly, faults_at}
 use Rattle.idx_words.specs.declared.cut_words.CutWords.{CutWords}
 use Rattle.idx_words.specs.ConvertValue.{ConvertValue}
@@ -19,7 +18,7 @@ use Rattle.idx_commands.specs.InfoRun.{InfoEnds, InfoMeans}
 use Rattle.idx_commands.specs.ConvertRun.{ConvertEnds, ConvertMeans}
 use Rattle.idx_commands.specs.QueryRun.{HasCause, QueryEnds, QueryMeans}
 use Rattle.idx_commands.specs.Known.{Known, known}
-use Rattle.idx_commands.specs.Seen.{raw_after, raw_before, raw_bytes, reader_counts}
+use Rattle.idx_commands.specs.Seen.{BaySeen, IsUnchanged, raw_after, raw_before, raw_bytes, reader_counts}
 use Rattle.idx_commands.specs.Run.{AreNamed, CommandEnds, CountsFaults, LeavesRest, RunSeen, Writes, WroteAnswer, WrotePrefix}
 use Rattle.idx_commands.proofs.CauseLemmas.{done_is, raw_fault_is, sink_fault_is, store_fault_is, usage_is}
 use Rattle.idx_commands.proofs.CutLemmas.{cut_silent}
@@ -69,12 +68,13 @@ uses_none contents count old new same =
     subst (λ xs. UsesOnly contents count 0 old xs) (sym same)
     (record { same = refl; others = others_same old old refl; count = not_less (λ xs. faults_at count xs 0) old old refl })
 
-admits_same : {B : Type 0} (admits : B → List ℕ → Type 0) (old new : B) → new ≡ old → StillAdmits admits old new
-admits_same admits old new same = λ path admitted. subst (λ bay. admits bay path) (sym same) admitted
+not_changed : {B : Type 0} (bay : BaySeen B) → bay.new ≡ bay.old → IsUnchanged bay
+not_changed bay same =
+    record { header = ap bay.header same; files = ap bay.files same; begun = ap bay.begun same; changes = ap bay.changes same }
 
-module _ {V B R K : Type 0} (admits : B → List ℕ → Type 0) (words : List (List ℕ)) (seen : RunSeen V B R K) where
+module _ {V B R K : Type 0} (words : List (List ℕ)) (seen : RunSeen V B R K) where
   abbrev E : Command → Cause → Type 0
-  E command cause = CommandEnds admits seen command cause
+  E command cause = CommandEnds seen command cause
 
   abbrev Only : Command → Type 0
   Only command = (other : Command) → Give words other → other ≡ command
@@ -89,15 +89,15 @@ module _ {V B R K : Type 0} (admits : B → List ℕ → Type 0) (words : List (
   of_cut command only cause e c given = let all : E (Cut c) cause = ended command only cause e (Cut c) given in all.0
 
   pub of_info : (command : Command) → Only command → (cause : Cause) → E command cause → GiveInfo words →
-      InfoEnds admits seen.bay seen.sink cause
+      InfoEnds seen.bay seen.sink cause
   of_info command only cause e given = let all : E Info cause = ended command only cause e Info given in all.0
 
   pub of_convert : (command : Command) → Only command → (cause : Cause) → E command cause → (c : ConvertValue) → Give words (Convert c) →
-      ConvertEnds admits c seen.raws seen.bay cause
+      ConvertEnds c seen.raws seen.bay cause
   of_convert command only cause e c given = let all : E (Convert c) cause = ended command only cause e (Convert c) given in all.0
 
   pub of_query : (command : Command) → Only command → (cause : Cause) → E command cause → (q : QueryValue) → Give words (Query q) →
-      QueryEnds admits q seen.bay seen.readers seen.sink cause
+      QueryEnds q seen.bay seen.readers seen.sink cause
   of_query command only cause e q given = let all : E (Query q) cause = ended command only cause e (Query q) given in all.0
 
   -- ---- what is written
@@ -232,7 +232,7 @@ module _ {V B R K : Type 0} (admits : B → List ℕ → Type 0) (words : List (
   is_query : (command : Command) → Only command → GiveQuery words → IsQuery command
   is_query command only (q, given) = subst IsQuery (only (Query q) given) tt
 
-  pub leaves_rest : (command : Command) → Give words command → Only command → (cause : Cause) → E command cause → LeavesRest admits words seen
+  pub leaves_rest : (command : Command) → Give words command → Only command → (cause : Cause) → E command cause → LeavesRest words seen
   leaves_rest (Cut c) gives only cause e =
       record {
         raws = e.0.raws_kept;
@@ -241,9 +241,7 @@ module _ {V B R K : Type 0} (admits : B → List ℕ → Type 0) (words : List (
         reader_count = not_less reader_count seen.readers.old seen.readers.new e.2;
         bay_count = not_less seen.bay.faults seen.bay.old seen.bay.new e.1;
         sink_count = e.0.sink_count;
-        header = λ never. ap seen.bay.header e.1;
-        files = λ never. ap seen.bay.files e.1;
-        convert_begins = λ never. admits_same admits seen.bay.old seen.bay.new e.1;
+        unchanged = λ never. not_changed seen.bay e.1;
         convert_silent = λ given. absurd (is_convert (Cut c) only given);
         cut_alone = λ given. e.1;
         info_alone = λ given. absurd (is_info (Cut c) only given);
@@ -258,9 +256,7 @@ module _ {V B R K : Type 0} (admits : B → List ℕ → Type 0) (words : List (
         reader_count = not_less reader_count seen.readers.old seen.readers.new e.2;
         bay_count = e.0.bay_count;
         sink_count = e.0.sink_count;
-        header = λ never. e.0.header;
-        files = λ never. e.0.files;
-        convert_begins = λ never. e.0.begins_none;
+        unchanged = λ never. e.0.unchanged;
         convert_silent = λ given. absurd (is_convert Info only given);
         cut_alone = λ given. absurd (is_cut Info only given);
         info_alone = λ given. e.1;
@@ -275,9 +271,7 @@ module _ {V B R K : Type 0} (admits : B → List ℕ → Type 0) (words : List (
         reader_count = not_less reader_count seen.readers.old seen.readers.new e.1;
         bay_count = e.0.bay_count;
         sink_count = not_less seen.sink.faults seen.sink.old seen.sink.new e.2;
-        header = λ never. absurd (never (c, gives));
-        files = λ never. absurd (never (c, gives));
-        convert_begins = λ never. absurd (never (c, gives));
+        unchanged = λ never. absurd (never (c, gives));
         convert_silent = λ given. e.2;
         cut_alone = λ given. absurd (is_cut (Convert c) only given);
         info_alone = λ given. absurd (is_info (Convert c) only given);
@@ -292,9 +286,7 @@ module _ {V B R K : Type 0} (admits : B → List ℕ → Type 0) (words : List (
         reader_count = e.0.reader_count;
         bay_count = e.0.bay_count;
         sink_count = e.0.sink_count;
-        header = λ never. e.0.header;
-        files = λ never. e.0.files;
-        convert_begins = λ never. e.0.begins_none;
+        unchanged = λ never. e.0.unchanged;
         convert_silent = λ given. absurd (is_convert (Query q) only given);
         cut_alone = λ given. absurd (is_cut (Query q) only given);
         info_alone = λ given. absurd (is_info (Query q) only given);

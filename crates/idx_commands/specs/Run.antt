@@ -2,7 +2,6 @@
 use Rattle.std.specs.Prelude.{◌≡◌, ◌⊎◌, ℕ, ◌<◌, List, [], ◌∷◌, length, Option, IfSome}
 use Rattle.idx_outside.specs.Cause.{NeverFalls, Rose}
 use Rattle.idx_outside.specs.Contents.{appended, AppendsPrefix}
-use Rattle.idx_outside.specs.Files.{StillAdmits}
 use Rattle.idx_outside.specs.Objects.{OthersUntouched, UsesOnly, contents_at}
 use Rattle.idx_outside.specs.declared.mem_file.MemFile.{MemFile}
 use Rattle.idx_words.specs.declared.command.Command.{Command}
@@ -19,7 +18,7 @@ use Rattle.idx_commands.specs.InfoRun.{InfoEnds, KnownReads}
 use Rattle.idx_commands.specs.CutRun.{CutEnds}
 use Rattle.idx_commands.specs.ConvertRun.{ConvertEnds}
 use Rattle.idx_commands.specs.QueryRun.{QueryEnds}
-use Rattle.idx_commands.specs.Seen.{BaySeen, RawsSeen, ReadersSeen, SinkSeen, bay_after, bay_before, raw_after, raw_before, reader_after, reader_before, sink_after, sink_before}
+use Rattle.idx_commands.specs.Seen.{BaySeen, IsUnchanged, RawsSeen, ReadersSeen, SinkSeen, bay_after, bay_before, raw_after, raw_before, reader_after, reader_before, sink_after, sink_before}
 
 -- The bytes of no raw volume are known, or those of all, and then they are the same.
 abbrev pub HaveSameContents : {V : Type 0} → (V → Option (List ℕ)) → List V → Type 0
@@ -61,15 +60,15 @@ abbrev pub run_seen : {V B R K : Type 0} → RawsSeen V → BaySeen B → Reader
 run_seen raws bay readers sink = record { raws = raws; bay = bay; readers = readers; sink = sink }
 
 -- How a run of a command ends with this cause: as its record says, and the objects that it does not use are as they were.
-abbrev pub CommandEnds : {V B R K : Type 0} → (B → List ℕ → Type 0) → RunSeen V B R K → Command → Cause → Type 0
-CommandEnds admits seen (Cut c) cause =
+abbrev pub CommandEnds : {V B R K : Type 0} → RunSeen V B R K → Command → Cause → Type 0
+CommandEnds seen (Cut c) cause =
     CutEnds c seen.raws seen.sink cause × (seen.bay.new ≡ seen.bay.old) × (seen.readers.new ≡ seen.readers.old)
-CommandEnds admits seen Info cause =
-    InfoEnds admits seen.bay seen.sink cause × (seen.raws.new ≡ seen.raws.old) × (seen.readers.new ≡ seen.readers.old)
-CommandEnds admits seen (Convert c) cause =
-    ConvertEnds admits c seen.raws seen.bay cause × (seen.readers.new ≡ seen.readers.old) × (seen.sink.new ≡ seen.sink.old)
-CommandEnds admits seen (Query q) cause =
-    QueryEnds admits q seen.bay seen.readers seen.sink cause × (seen.raws.new ≡ seen.raws.old)
+CommandEnds seen Info cause =
+    InfoEnds seen.bay seen.sink cause × (seen.raws.new ≡ seen.raws.old) × (seen.readers.new ≡ seen.readers.old)
+CommandEnds seen (Convert c) cause =
+    ConvertEnds c seen.raws seen.bay cause × (seen.readers.new ≡ seen.readers.old) × (seen.sink.new ≡ seen.sink.old)
+CommandEnds seen (Query q) cause =
+    QueryEnds q seen.bay seen.readers seen.sink cause × (seen.raws.new ≡ seen.raws.old)
 
 -- A fault of an object comes only where it was counted in this call, by a command that uses the object; and one that was counted
 -- is answered.
@@ -85,8 +84,8 @@ pub record CountsFaults {V B R K : Type 0} (words : List (List ℕ)) (seen : Run
   pub reader_answered : reader_before seen.readers < reader_after seen.readers → status_of cause ≡ 5
   pub sink_answered : sink_before seen.sink < sink_after seen.sink → status_of cause ≡ 9
 
--- What a run leaves as it was. `admits` is the ghost member of bays.
-pub record LeavesRest {V B R K : Type 0} (admits : B → List ℕ → Type 0) (words : List (List ℕ)) (seen : RunSeen V B R K) : Type 0 where
+-- What a run leaves as it was.
+pub record LeavesRest {V B R K : Type 0} (words : List (List ℕ)) (seen : RunSeen V B R K) : Type 0 where
   -- what is known of the raw volumes' bytes stays, no raw volume and no reader but the first was touched, and no count fell
   pub raws : UsesOnly seen.raws.contents seen.raws.faults 0 seen.raws.old seen.raws.new
   pub readers : OthersUntouched seen.readers.old seen.readers.new 0
@@ -94,10 +93,9 @@ pub record LeavesRest {V B R K : Type 0} (admits : B → List ℕ → Type 0) (w
   pub reader_count : NeverFalls (reader_before seen.readers) (reader_after seen.readers)
   pub bay_count : NeverFalls (bay_before seen.bay) (bay_after seen.bay)
   pub sink_count : NeverFalls (sink_before seen.sink) (sink_after seen.sink)
-  -- `convert` alone changes the header text and the committed files and begins a step, and it writes nothing to the sink
-  pub header : ¬ GiveConvert words → seen.bay.header seen.bay.new ≡ seen.bay.header seen.bay.old
-  pub files : ¬ GiveConvert words → seen.bay.files seen.bay.new ≡ seen.bay.files seen.bay.old
-  pub convert_begins : ¬ GiveConvert words → StillAdmits admits seen.bay.old seen.bay.new
+  -- `convert` alone changes the bay: its header text, its committed files and the folder last begun, and makes calls that change
+  -- it at all; and it writes nothing to the sink
+  pub unchanged : ¬ GiveConvert words → IsUnchanged seen.bay
   pub convert_silent : GiveConvert words → seen.sink.new ≡ seen.sink.old
   -- `cut` leaves the bay as it was, `info` and `query` the raw volumes, and none but `query` reads a leaf
   pub cut_alone : GiveCut words → seen.bay.new ≡ seen.bay.old

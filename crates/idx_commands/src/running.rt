@@ -50,16 +50,16 @@ pub fn run<V: Source, B: Bay, R: Reader<B::Leaf>, K: Sink>(
 
     // How a run of each command ends.
     ensures cut { (c : CutWords) → Give (map string_bytes words.now) (Command.Cut c) →
-        CutEnds c (raws_seen V.contents V.faults raws.old.items raws.new.items)
+        CutEnds c (raws_seen V.contents V.faults V.asked raws.old.items raws.new.items)
         (sink_seen K.contents K.faults out.old out.new) result.cause }
     ensures info { GiveInfo (map string_bytes words.now) →
-        InfoEnds B.admits (bay_seen B.header B.files B.faults bay.old bay.new)
+        InfoEnds (bay_seen B.header B.files B.begun B.changes B.failed B.faults bay.old bay.new)
         (sink_seen K.contents K.faults out.old out.new) result.cause }
     ensures convert { (c : ConvertValue) → Give (map string_bytes words.now) (Command.Convert c) →
-        ConvertEnds B.admits c (raws_seen V.contents V.faults raws.old.items raws.new.items)
-        (bay_seen B.header B.files B.faults bay.old bay.new) result.cause }
+        ConvertEnds c (raws_seen V.contents V.faults V.asked raws.old.items raws.new.items)
+        (bay_seen B.header B.files B.begun B.changes B.failed B.faults bay.old bay.new) result.cause }
     ensures query { (q : QueryValue) → Give (map string_bytes words.now) (Command.Query q) →
-        QueryEnds B.admits q (bay_seen B.header B.files B.faults bay.old bay.new)
+        QueryEnds q (bay_seen B.header B.files B.begun B.changes B.failed B.faults bay.old bay.new)
         (readers_seen R.faults R.reads readers.old.items readers.new.items)
         (sink_seen K.contents K.faults out.old out.new) result.cause }
 
@@ -69,21 +69,21 @@ pub fn run<V: Source, B: Bay, R: Reader<B::Leaf>, K: Sink>(
     ensures usage { (result.status ≡ 1) ↔ (¬ GiveCommand (map string_bytes words.now)) }
     ensures place { (at : ℕ) → result.cause ≡ Cause.Usage at → IsUsagePlace (map string_bytes words.now) at }
     ensures unasked { result.status ≡ 1 → Unasked (run_seen
-        (raws_seen V.contents V.faults raws.old.items raws.new.items)
-        (bay_seen B.header B.files B.faults bay.old bay.new)
+        (raws_seen V.contents V.faults V.asked raws.old.items raws.new.items)
+        (bay_seen B.header B.files B.begun B.changes B.failed B.faults bay.old bay.new)
         (readers_seen R.faults R.reads readers.old.items readers.new.items)
         (sink_seen K.contents K.faults out.old out.new)) }
     ensures given { result.status ≢ 1 → GiveCommand (map string_bytes words.now) }
 
     // Each fault was counted, and each that was counted is answered; and what a run does not use stays as it was.
     ensures faults { CountsFaults (map string_bytes words.now) (run_seen
-        (raws_seen V.contents V.faults raws.old.items raws.new.items)
-        (bay_seen B.header B.files B.faults bay.old bay.new)
+        (raws_seen V.contents V.faults V.asked raws.old.items raws.new.items)
+        (bay_seen B.header B.files B.begun B.changes B.failed B.faults bay.old bay.new)
         (readers_seen R.faults R.reads readers.old.items readers.new.items)
         (sink_seen K.contents K.faults out.old out.new)) result.cause }
-    ensures rest { LeavesRest B.admits (map string_bytes words.now) (run_seen
-        (raws_seen V.contents V.faults raws.old.items raws.new.items)
-        (bay_seen B.header B.files B.faults bay.old bay.new)
+    ensures rest { LeavesRest (map string_bytes words.now) (run_seen
+        (raws_seen V.contents V.faults V.asked raws.old.items raws.new.items)
+        (bay_seen B.header B.files B.begun B.changes B.failed B.faults bay.old bay.new)
         (readers_seen R.faults R.reads readers.old.items readers.new.items)
         (sink_seen K.contents K.faults out.old out.new)) }
 {
@@ -107,9 +107,9 @@ fn run_command<V: Source, B: Bay, R: Reader<B::Leaf>, K: Sink>(
     requires reader { 0 < vec_len readers.old }
     requires given { Give (map string_bytes words.now) command.now }
     ensures status { result.status ≡ status_of result.cause }
-    ensures ends { CommandEnds B.admits (run_seen
-        (raws_seen V.contents V.faults raws.old.items raws.new.items)
-        (bay_seen B.header B.files B.faults bay.old bay.new)
+    ensures ends { CommandEnds (run_seen
+        (raws_seen V.contents V.faults V.asked raws.old.items raws.new.items)
+        (bay_seen B.header B.files B.begun B.changes B.failed B.faults bay.old bay.new)
         (readers_seen R.faults R.reads readers.old.items readers.new.items)
         (sink_seen K.contents K.faults out.old out.new)) command.now result.cause }
 {
