@@ -3,13 +3,29 @@ use Rattle.std.proofs.Common.{◌≡◌, ◌≢◌, ◌⊎◌, ℕ, ◌<◌, Lis
 use Rattle.idx_outside.specs.Cause.{NeverFalls, Rose}
 use Rattle.idx_outside.specs.Objects.{UsesOnly}
 use Rattle.idx_words.specs.declared.cut_words.CutWords.{CutWords}
-use Rattle.idx_words.specs.CutGrammar.{volume_bytes}
+use Rattle.idx_words.specs.CutGrammar.{IsSound, volume_bytes}
+use Rattle.idx_raw.specs.Cut as cuts
 use Rattle.idx_commands.specs.declared.causes.Cause.{Cause}
 use Rattle.idx_commands.specs.declared.causes.Cause.TheVariants as causes
 use Rattle.idx_commands.specs.Cause.{status_of}
+use Rattle.idx_commands.specs.CutOutput.{cut_of}
 use Rattle.idx_commands.specs.CutRun.{CutEnds, CutMeans, HasOtherSize, HasRightSize}
-use Rattle.idx_commands.specs.Seen.{RawsSeen, SinkSeen, raw_after, raw_before, raw_bytes, sink_after, sink_before}
+use Rattle.idx_commands.specs.Seen.{RawsSeen, SinkSeen, raw_after, raw_asked_after, raw_asked_before, raw_before, raw_bytes, sink_after, sink_before}
 use Rattle.idx_commands.proofs.KnownLemmas.{both_hold}
+
+-- values of words that are sound ask for a sound cut
+pub cut_sound : (c : CutWords) → IsSound c → cuts.IsSound (cut_of c)
+cut_sound c h =
+    record {
+      some = h.some;
+      few = h.few;
+      small = h.small;
+      covered = h.covered;
+      lower = h.lower;
+      upper = h.upper;
+      ordered = h.ordered;
+      deepest = h.deepest;
+    }
 
 module _ {V K : Type 0} (c : CutWords) (raws : RawsSeen V) (sink : SinkSeen K) where
   abbrev Means : Cause → Type 0
@@ -54,13 +70,16 @@ module _ {V K : Type 0} (c : CutWords) (raws : RawsSeen V) (sink : SinkSeen K) w
   cut_silent causes.NoMemory m zero nine = m.1
   cut_silent _ m zero nine = absurd m
 
-  pub cut_ends : (cause : Cause) → Means cause → (raw_before raws < raw_after raws → cause ≡ causes.RawFault) →
+  pub cut_ends : (cause : Cause) → Means cause →
+      ((status_of cause ≡ 3) ⊎ HasOtherSize c (raw_bytes raws) → raw_asked_after raws ≡ raw_asked_before raws) →
+      (raw_before raws < raw_after raws → cause ≡ causes.RawFault) →
       (sink_before sink < sink_after sink → cause ≡ causes.SinkFault) → UsesOnly raws.contents raws.faults 0 raws.old raws.new →
       NeverFalls (sink_before sink) (sink_after sink) → CutEnds c raws sink cause
-  cut_ends cause m raw_answered sink_answered kept count =
+  cut_ends cause m unread raw_answered sink_answered kept count =
       record {
         means = m;
         other_size = other_size cause m;
+        unread = unread;
         complete = complete cause m;
         raw_answered = raw_answered;
         sink_answered = sink_answered;

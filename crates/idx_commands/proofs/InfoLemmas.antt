@@ -2,7 +2,7 @@
 use Rattle.std.proofs.Common.{◌≡◌, ◌≢◌, ◌⊎◌, ℕ, ◌<◌, List, Option, Some, None, Err, IsErr, IsOk, IfSome, inl, inr, refl, subst}
 use Rattle.std.proofs.lemmas.Bool.{false≢true}
 use Rattle.idx_outside.specs.Cause.{NeverFalls, Rose}
-use Rattle.idx_outside.specs.Files.{StillAdmits}
+use Rattle.idx_outside.specs.declared.bay_call.BayCall.TheVariants as calls
 use Rattle.idx_header.specs.declared.header_fault.HeaderFault.{HeaderFault}
 use Rattle.idx_header.specs.Header.{HeaderValue}
 use Rattle.idx_header.specs.HeaderOf.{header_of}
@@ -10,7 +10,7 @@ use Rattle.idx_commands.specs.declared.causes.Cause.{Cause}
 use Rattle.idx_commands.specs.declared.causes.Cause.TheVariants as causes
 use Rattle.idx_commands.specs.Cause.{status_of}
 use Rattle.idx_commands.specs.InfoRun.{HasBadHeader, HasGoodHeader, InfoEnds, InfoMeans, KnownReads}
-use Rattle.idx_commands.specs.Seen.{BaySeen, SinkSeen, bay_after, bay_before, sink_after, sink_before}
+use Rattle.idx_commands.specs.Seen.{BaySeen, IsUnchanged, SinkSeen, bay_after, bay_before, sink_after, sink_before}
 
 -- a header text that reads is not refused, and one that is refused does not read
 not_refused : (header : Option (List ℕ)) (P : HeaderValue → Type 0) → KnownReads header P → HasBadHeader header → ⊥
@@ -49,20 +49,24 @@ module _ {B K : Type 0} (bay : BaySeen B) (sink : SinkSeen K) where
   info_silent causes.NoMemory m zero nine = m.1
   info_silent _ m zero nine = absurd m.0
 
-  pub info_ends : (admits : B → List ℕ → Type 0) (cause : Cause) → InfoMeans bay sink cause →
+  pub info_ends : (cause : Cause) → InfoMeans bay sink cause →
       (bay_before bay < bay_after bay → cause ≡ causes.StoreFault) → (sink_before sink < sink_after sink → cause ≡ causes.SinkFault) →
-      bay.header bay.new ≡ bay.header bay.old → bay.files bay.new ≡ bay.files bay.old → StillAdmits admits bay.old bay.new →
-      NeverFalls (bay_before bay) (bay_after bay) → NeverFalls (sink_before sink) (sink_after sink) → InfoEnds admits bay sink cause
-  info_ends admits cause m store_answered sink_answered header files begins_none bay_count sink_count =
+      (status_of cause ≡ 5 → bay.failed bay.new ≡ Some calls.Header) → (status_of cause ≢ 5 → bay.failed bay.new ≡ bay.failed bay.old) →
+      bay.header bay.new ≡ bay.header bay.old → bay.files bay.new ≡ bay.files bay.old →
+      bay.begun bay.new ≡ bay.begun bay.old → bay.changes bay.new ≡ bay.changes bay.old →
+      NeverFalls (bay_before bay) (bay_after bay) → NeverFalls (sink_before sink) (sink_after sink) → InfoEnds bay sink cause
+  info_ends cause m store_answered sink_answered failed none_failed header files begun changes bay_count sink_count =
       record {
         means = m;
         bad_header = bad_header cause m;
         complete = complete cause m;
         store_answered = store_answered;
         sink_answered = sink_answered;
+        failed = failed;
+        none_failed = none_failed;
         header = header;
         files = files;
-        begins_none = begins_none;
+        unchanged = record { header = header; files = files; begun = begun; changes = changes };
         bay_count = bay_count;
         sink_count = sink_count;
       }

@@ -3,13 +3,21 @@ use Rattle.std.specs.Prelude.{◌≡◌, ◌≢◌, ◌⊎◌, ℕ, ◌<◌, Lis
 use Rattle.idx_outside.specs.Cause.{NeverFalls, Rose}
 use Rattle.idx_outside.specs.Contents.{appended, AppendsPrefix}
 use Rattle.idx_outside.specs.Objects.{UsesOnly}
+use Rattle.idx_raw.specs.declared.cut_fault.CutFault.{CutFault}
+use Rattle.idx_raw.specs.declared.cut_fault.CutFault.TheVariants as faults
 use Rattle.idx_words.specs.declared.cut_words.CutWords.{CutWords}
 use Rattle.idx_words.specs.CutGrammar.{volume_bytes}
 use Rattle.idx_commands.specs.declared.causes.Cause.{Cause}
 use Rattle.idx_commands.specs.declared.causes.Cause.TheVariants as causes
 use Rattle.idx_commands.specs.Cause.{status_of}
 use Rattle.idx_commands.specs.CutOutput.{cut_output}
-use Rattle.idx_commands.specs.Seen.{RawsSeen, SinkSeen, raw_after, raw_before, raw_bytes, sink_after, sink_before}
+use Rattle.idx_commands.specs.Seen.{RawsSeen, SinkSeen, raw_after, raw_asked_after, raw_asked_before, raw_before, raw_bytes, sink_after, sink_before}
+
+-- the cause of a run that ends since nothing was cut
+abbrev pub cause_of_cut : CutFault → Cause
+cause_of_cut (faults.RawWrongSize want found) = causes.RawWrongSize want found
+cause_of_cut faults.RawFault = causes.RawFault
+cause_of_cut faults.NoMemory = causes.NoMemory
 
 -- A raw volume whose bytes are known has as many as the words ask for.
 abbrev pub HasSize : CutWords → Option (List ℕ) → Type 0
@@ -43,6 +51,8 @@ pub record CutEnds {V K : Type 0} (c : CutWords) (raws : RawsSeen V) (sink : Sin
   pub means : CutMeans c (raw_bytes raws) (raw_before raws) (raw_after raws) sink cause
   -- a raw volume of another length is refused, unless a call on it failed
   pub other_size : HasOtherSize c (raw_bytes raws) → (status_of cause ≡ 3) ⊎ (status_of cause ≡ 4)
+  -- where its length is refused, or is known to be another one, no byte was asked of it
+  pub unread : (status_of cause ≡ 3) ⊎ HasOtherSize c (raw_bytes raws) → raw_asked_after raws ≡ raw_asked_before raws
   -- where nothing is wrong and no fault was counted, all is written, unless there is not enough memory
   pub complete : HasRightSize c (raw_bytes raws) → ¬ Rose (raw_before raws) (raw_after raws) →
       ¬ Rose (sink_before sink) (sink_after sink) → (status_of cause ≡ 0) ⊎ (status_of cause ≡ 11)

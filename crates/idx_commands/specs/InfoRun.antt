@@ -1,15 +1,17 @@
 -- How a run of `info` ends, by what is seen of the bay and of the sink.
-use Rattle.std.specs.Prelude.{◌≡◌, ◌≢◌, ◌⊎◌, ℕ, ◌<◌, List, Option, IfSome, IsErr, IsOk, IsSomeAnd, Ok, Err}
+use Rattle.std.specs.Prelude.{◌≡◌, ◌≢◌, ◌⊎◌, ℕ, ◌<◌, List, Option, Some, IfSome, IsErr, IsOk, IsSomeAnd, Ok, Err}
 use Rattle.idx_outside.specs.Cause.{NeverFalls, Rose}
 use Rattle.idx_outside.specs.Contents.{appended, AppendsPrefix}
-use Rattle.idx_outside.specs.Files.{StillAdmits}
+use Rattle.idx_outside.specs.declared.bay_call.BayCall.TheVariants as calls
 use Rattle.idx_header.specs.declared.header_kind.HeaderKind.TheVariants as kinds
+use Rattle.idx_header.specs.declared.header_refusal.HeaderRefusal.{HeaderRefusal}
+use Rattle.idx_header.specs.declared.header_refusal.HeaderRefusal.TheVariants as refusals
 use Rattle.idx_header.specs.Header.{HeaderValue}
 use Rattle.idx_header.specs.HeaderOf.{header_of}
 use Rattle.idx_commands.specs.declared.causes.Cause.{Cause}
 use Rattle.idx_commands.specs.declared.causes.Cause.TheVariants as causes
 use Rattle.idx_commands.specs.Cause.{status_of}
-use Rattle.idx_commands.specs.Seen.{BaySeen, SinkSeen, bay_after, bay_before, sink_after, sink_before}
+use Rattle.idx_commands.specs.Seen.{BaySeen, IsUnchanged, SinkSeen, bay_after, bay_before, sink_after, sink_before}
 use Rattle.idx_commands.specs.Summary.{summary}
 
 -- A header text that is known reads, and this holds of its header.
@@ -23,6 +25,12 @@ HasBadHeader known = IsSomeAnd known (λ text. IsErr (header_of text))
 -- It is known, and reads.
 abbrev pub HasGoodHeader : Option (List ℕ) → Type 0
 HasGoodHeader known = IsSomeAnd known (λ text. IsOk (header_of text))
+
+-- the cause of a run that ends since a bay gives no header
+abbrev pub cause_of_refusal : HeaderRefusal → Cause
+cause_of_refusal (refusals.Fault line kind) = causes.Header line kind
+cause_of_refusal refusals.Outage = causes.StoreFault
+cause_of_refusal refusals.NoMemory = causes.NoMemory
 
 -- Why a bay gives no header: what is known of its header text, and its counts of faults before and after.
 abbrev pub GivesNone : Option (List ℕ) → ℕ → ℕ → Cause → Type 0
@@ -42,8 +50,8 @@ InfoMeans bay sink causes.SinkFault =
 InfoMeans bay sink cause =
     GivesNone (bay.header bay.old) (bay_before bay) (bay_after bay) cause × (sink.new ≡ sink.old)
 
--- How a run ends with this cause. `admits` is the ghost member of bays.
-pub record InfoEnds {B K : Type 0} (admits : B → List ℕ → Type 0) (bay : BaySeen B) (sink : SinkSeen K) (cause : Cause) : Type 0 where
+-- how a run ends with this cause
+pub record InfoEnds {B K : Type 0} (bay : BaySeen B) (sink : SinkSeen K) (cause : Cause) : Type 0 where
   -- what the cause says
   pub means : InfoMeans bay sink cause
   -- a header whose text is refused is refused, unless a call on the bay failed or there is not enough memory
@@ -55,9 +63,12 @@ pub record InfoEnds {B K : Type 0} (admits : B → List ℕ → Type 0) (bay : B
   -- a fault that was counted is answered
   pub store_answered : bay_before bay < bay_after bay → cause ≡ causes.StoreFault
   pub sink_answered : sink_before sink < sink_after sink → cause ≡ causes.SinkFault
-  -- the header text and the committed files stay, no step is begun, and no count fell
+  -- the call for the header is the only one of the bay that may have failed
+  pub failed : status_of cause ≡ 5 → bay.failed bay.new ≡ Some calls.Header
+  pub none_failed : status_of cause ≢ 5 → bay.failed bay.new ≡ bay.failed bay.old
+  -- the header text and the committed files stay, the bay was not changed, and no count fell
   pub header : bay.header bay.new ≡ bay.header bay.old
   pub files : bay.files bay.new ≡ bay.files bay.old
-  pub begins_none : StillAdmits admits bay.old bay.new
+  pub unchanged : IsUnchanged bay
   pub bay_count : NeverFalls (bay_before bay) (bay_after bay)
   pub sink_count : NeverFalls (sink_before sink) (sink_after sink)

@@ -5,7 +5,7 @@ ghost use Rattle.idx_commands.specs.CutOutput.{cut_output};
 ghost use Rattle.idx_commands.specs.Summary.{summary};
 
 /// What the words of `cut` ask for of the bytes 0 to 15.
-#[tactic(auto, unfolding(crate::specs::CutOutput::cut_output))]
+#[tactic(auto, unfolding(idx_raw::specs::Cut::cut_output))]
 pub fn worked_cut()
     ensures output { cut_output (record {
       size = 1;

@@ -1,17 +1,14 @@
-ghost use Rattle.std.specs.Prelude.{◌≡◌, ◌≢◌, ◌↔◌, ℕ, ◌<◌, ◌≤◌, Ok, Err, IfOk, IfErr, IfSome, OnOk, codes, map, string_bytes};
-ghost use Rattle.idx_outside.specs.Cause.{NeverFalls};
-ghost use Rattle.idx_outside.specs.Files.{StillAdmits};
-ghost use Rattle.idx_header.specs.HeaderOf.{header_of};
+ghost use Rattle.std.specs.Prelude.{◌≡◌, ◌↔◌, ℕ, codes, map, string_bytes};
 ghost use Rattle.idx_words.specs.Words.{GiveInfo, IsUsagePlace};
 ghost use Rattle.idx_commands.specs.Cause.{status_of};
-ghost use Rattle.idx_commands.specs.InfoRun.{GivesNone, InfoEnds, InfoMeans};
+ghost use Rattle.idx_commands.specs.InfoRun.{InfoEnds, cause_of_refusal};
 ghost use Rattle.idx_commands.specs.Run.{AreNamed};
 ghost use Rattle.idx_commands.specs.Seen.{bay_seen, sink_seen};
 
 use crate::causes::{Cause, Done};
 use crate::summary::summary_of;
-use idx_header::{Header, HeaderFault, HeaderKind};
-use idx_outside::{Bay, BayFault, Bytes, Sink};
+use idx_header::{Header, HeaderRefusal};
+use idx_outside::{Bay, Sink};
 use idx_words::{Command, read_words};
 use std::alloc::Global;
 
@@ -21,7 +18,7 @@ pub fn run_info<B: Bay, K: Sink>(alloc: Global, words: &[String], bay: &mut B, o
     requires named { AreNamed (map string_bytes words.now) (codes "info") }
     ensures status { result.status ≡ status_of result.cause }
     ensures info { GiveInfo (map string_bytes words.now) →
-        InfoEnds B.admits (bay_seen B.header B.files B.faults bay.old bay.new)
+        InfoEnds (bay_seen B.header B.files B.begun B.changes B.failed B.faults bay.old bay.new)
         (sink_seen K.contents K.faults out.old out.new) result.cause }
 
     // Usage comes exactly where the words are not in the grammar, and then nothing was asked of any object.
@@ -42,12 +39,12 @@ pub fn run_info<B: Bay, K: Sink>(alloc: Global, words: &[String], bay: &mut B, o
 /// Reads the header of a bay, and then writes its summary in one piece.
 #[tactic(auto, using(crate::proofs::InfoLemmas::info_ends))]
 fn info<B: Bay, K: Sink>(alloc: Global, bay: &mut B, out: &mut K) -> Cause
-    ensures { InfoEnds B.admits (bay_seen B.header B.files B.faults bay.old bay.new)
+    ensures { InfoEnds (bay_seen B.header B.files B.begun B.changes B.failed B.faults bay.old bay.new)
         (sink_seen K.contents K.faults out.old out.new) result }
 {
-    let header = match read_header(alloc, bay) {
+    let header = match Header::of_bay(alloc, bay) {
         Ok(header) => header,
-        Err(cause) => return cause,
+        Err(refusal) => return cause_of(refusal),
     };
     let Ok(summary) = summary_of(alloc, &header) else {
         return Cause::NoMemory;
@@ -58,39 +55,13 @@ fn info<B: Bay, K: Sink>(alloc: Global, bay: &mut B, out: &mut K) -> Cause
     }
 }
 
-/// The header of a bay, or why it gives none.
-fn read_header<B: Bay>(alloc: Global, bay: &mut B) -> Result<Header, Cause>
-    ensures read { IfOk result (λ header. IfSome (B.header bay.old) (λ text. header_of text ≡ Ok header)) }
-    ensures none { IfErr result (GivesNone (B.header bay.old) (B.faults bay.old) (B.faults bay.new)) }
-    ensures same { B.header bay.new ≡ B.header bay.old }
-    ensures files { B.files bay.new ≡ B.files bay.old }
-    ensures admits { StillAdmits B.admits bay.old bay.new }
-    ensures count { NeverFalls (B.faults bay.old) (B.faults bay.new) }
-    ensures quiet { OnOk result (B.faults bay.new ≡ B.faults bay.old) }
-    ensures answered { B.faults bay.old < B.faults bay.new → result ≡ Err Cause.StoreFault }
+/// The cause of a run that ends since a bay gives no header.
+fn cause_of(refusal: HeaderRefusal) -> Cause
+    ensures { result ≡ cause_of_refusal refusal }
 {
-    let mut text = Bytes::new(alloc);
-    match bay.header(&mut text) {
-        Ok(()) => {}
-        Err(BayFault::Outage) => return Err(Cause::StoreFault),
-        Err(BayFault::NoMemory) => return Err(Cause::NoMemory),
-    }
-    match Header::read(alloc, text.as_slice()) {
-        Ok(header) => Ok(header),
-        Err(fault) => Err(cause_of(fault)),
-    }
-}
-
-/// The cause of a run that ends since a header is refused.
-fn cause_of(fault: HeaderFault) -> Cause
-    ensures refused { fault.kind ≢ HeaderKind.NoMemory → result ≡ Cause.Header fault.line fault.kind }
-    ensures no_memory { fault.kind ≡ HeaderKind.NoMemory → result ≡ Cause.NoMemory }
-{
-    match fault.kind {
-        HeaderKind::NoMemory => Cause::NoMemory,
-        kind => Cause::Header {
-            line: fault.line,
-            kind,
-        },
+    match refusal {
+        HeaderRefusal::Fault { line, kind } => Cause::Header { line, kind },
+        HeaderRefusal::Outage => Cause::StoreFault,
+        HeaderRefusal::NoMemory => Cause::NoMemory,
     }
 }

@@ -4,15 +4,15 @@ ghost use Rattle.idx_raw.specs.Reads.{AreSamples, LiesIn, span_of};
 ghost use Rattle.idx_stride.specs.Places.{progression};
 ghost use Rattle.idx_stride.specs.Strides.{offsets_of};
 
-use crate::ReadFault;
 use crate::plan::{halves_to_read, span, window_size};
+use crate::read_fault::ReadFault;
 use idx_outside::{Outage, Source};
 use idx_stride::Strides;
 use std::alloc::Global;
 
 /// Reads the samples of a walk, one behind the other, by few reads: samples that are one piece by one read, and others
 /// by way of a window, which is taken before the first read. After a fault nothing is known of the bytes of `out`.
-pub fn read_samples<V: Source>(
+pub(crate) fn read_samples<V: Source>(
     alloc: Global,
     strides: &Strides,
     raw: &mut V,

@@ -1,9 +1,8 @@
-use idx_outside::{NoMemory, Outage};
 use thiserror::Error;
 
 /// Why samples were not read.
 #[derive(Clone, Copy, Debug, PartialEq, Eq, Error)]
-pub enum ReadFault {
+pub(crate) enum ReadFault {
     /// A call on the source failed, and the source has counted it.
     #[error("a read of the raw volume failed")]
     Outage,
