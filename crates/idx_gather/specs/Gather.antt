@@ -1,10 +1,12 @@
 -- What gathering a step promises, by its header, what is known of the raw volume and of the committed files, and the counts
 -- of faults.
-use Rattle.std.specs.Prelude.{◌≡◌, ◌≢◌, ◌⊎◌, ℕ, Bool, List, drop, length, Option, None, IfSome, IsSome}
+use Rattle.std.specs.Prelude.{◌≡◌, ◌≢◌, ◌⊎◌, ℕ, Bool, List, drop, length, Option, Some, None, IfSome, IsSome, IsSomeAnd, Result, Ok, Err}
 use Rattle.std.specs.Option.{ForSome}
-use Rattle.idx_outside.specs.Cause.{Rose}
+use Rattle.idx_outside.specs.Cause.{AskedFor, Rose}
 use Rattle.idx_outside.specs.Files.{added, file_at, files_of}
 use Rattle.idx_outside.specs.Shape.{Shape}
+use Rattle.idx_outside.specs.declared.bay_call.BayCall.{BayCall}
+use Rattle.idx_outside.specs.declared.bay_call.BayCall.TheVariants as calls
 use Rattle.idx_outside.specs.declared.mem_file.MemFile.{MemFile}
 use Rattle.idx_header.specs.Header.{HeaderValue, HasTime, volume_bytes}
 use Rattle.idx_header.specs.Names.{file_name, step_folder}
@@ -52,6 +54,40 @@ IsCaused h raw raw_before raw_after before after NoMemory =
 abbrev pub Leaves : HeaderValue → ℕ → Option (List ℕ) → Option (List MemFile) → Option (List MemFile) → GatherFault → Type 0
 Leaves h step raw old new (StoreFault faults) = (new ≡ old) ⊎ SomeStepAdded h step raw old new
 Leaves h step raw old new fault = new ≡ old
+
+-- The bytes of the raw volume are known, and have another length than the samples of the box take.
+abbrev pub LacksVolume : HeaderValue → Option (List ℕ) → Type 0
+LacksVolume h raw = IsSomeAnd raw (λ bytes. length bytes ≢ volume_bytes h)
+
+-- How many bytes were asked of the raw volume, by the answer: those of a whole volume, once, or none. It is read before
+-- anything is asked of the bay, and not at all where its length is another.
+abbrev pub AsksRaw : {T : Type 0} → HeaderValue → ℕ → ℕ → Result T GatherFault → Type 0
+AsksRaw h before after (Ok _) = AskedFor before after (volume_bytes h)
+AsksRaw h before after (Err (RawWrongSize want found)) = after ≡ before
+AsksRaw h before after (Err (RawFault rank faults)) = (after ≡ before) ⊎ AskedFor before after (volume_bytes h)
+AsksRaw h before after (Err (StoreFault faults)) = AskedFor before after (volume_bytes h)
+AsksRaw h before after (Err NoMemory) = (after ≡ before) ⊎ AskedFor before after (volume_bytes h)
+
+-- The count of the calls that change the bay, before and after: a raw volume that is refused is so before the first of them.
+abbrev pub LeavesChanges : ℕ → ℕ → GatherFault → Type 0
+LeavesChanges before after (RawWrongSize want found) = after ≡ before
+LeavesChanges before after (RawFault rank faults) = after ≡ before
+LeavesChanges before after (StoreFault faults) = Unit {0}
+LeavesChanges before after NoMemory = Unit {0}
+
+-- The call that counted a fault of the bay makes a file, gives up a draft or commits. The committed files are then those from
+-- before, unless it commits.
+abbrev pub IsFailedCall : Option (List MemFile) → Option (List MemFile) → Option BayCall → Type 0
+IsFailedCall old new (Some calls.Create) = new ≡ old
+IsFailedCall old new (Some calls.Retire) = new ≡ old
+IsFailedCall old new (Some calls.Commit) = Unit {0}
+IsFailedCall old new call = ⊥
+
+-- Which call counted the last fault, before and after: at a fault of the store one of this gathering, and else the one from
+-- before.
+abbrev pub LeavesFailed : {T : Type 0} → Option (List MemFile) → Option (List MemFile) → Option BayCall → Option BayCall → Result T GatherFault → Type 0
+LeavesFailed old new before after (Err (StoreFault faults)) = IsFailedCall old new after
+LeavesFailed old new before after result = after ≡ before
 
 -- `shape`, `has` and `stored` are what an edition tells: how many blocks there are and how long, which of them it has, and their
 -- bytes, where these are known. `leaves` are its files, each with what is known of its bytes.

@@ -5,7 +5,7 @@ ghost use Rattle.idx_outside.specs.Files.{HasStep as HasCommitted, LiesIn, shown
 ghost use Rattle.idx_outside.specs.Objects.{contents_at, faults_at, UsesOnly};
 ghost use Rattle.idx_header.specs.Names.{step_folder};
 ghost use Rattle.idx_layout.specs.Shape.{shape_of};
-ghost use Rattle.idx_gather.specs.Gather.{HasBlocksOf, HasFolder, HasPresent, HasVolume, HoldsAdded, IsCaused, Leaves, SomeStepAdded};
+ghost use Rattle.idx_gather.specs.Gather.{AsksRaw, HasBlocksOf, HasFolder, HasPresent, HasVolume, HoldsAdded, IsCaused, LacksVolume, Leaves, LeavesChanges, LeavesFailed, SomeStepAdded};
 
 use crate::GatherFault;
 use crate::step::write_step;
@@ -57,6 +57,16 @@ pub fn gather<V: Source, B: Bay, G: Gate>(
         (B.faults bay.old) (B.faults bay.new)) }
     ensures leaves { IfErr result (Leaves header.now step (contents_at V.contents raws.old.items 0)
         (B.files bay.old) (B.files bay.new)) }
+
+    // One whole volume is asked of the raw volume, or nothing: so of one that is known to have another length.
+    ensures asked { AsksRaw header.now (faults_at V.asked raws.old.items 0) (faults_at V.asked raws.new.items 0) result }
+    ensures unasked { LacksVolume header.now (contents_at V.contents raws.old.items 0) →
+        faults_at V.asked raws.new.items 0 ≡ faults_at V.asked raws.old.items 0 }
+
+    // The raw volume is read before the bay is changed, no step is begun, and the call that failed is one of the last ones.
+    ensures changes { IfErr result (LeavesChanges (B.changes bay.old) (B.changes bay.new)) }
+    ensures begun { B.begun bay.new ≡ B.begun bay.old }
+    ensures failed { LeavesFailed (B.files bay.old) (B.files bay.new) (B.failed bay.old) (B.failed bay.new) result }
 
     // Where all is written, no fault was counted.
     ensures raw_quiet { OnOk result (faults_at V.faults raws.new.items 0 ≡ faults_at V.faults raws.old.items 0) }

@@ -1,4 +1,4 @@
-ghost use Rattle.std.specs.Prelude.{◌≡◌, ◌⊎◌, ◌<◌, ℕ, Err, IfOk, IfSome, List, OnErr, OnOk, length};
+ghost use Rattle.std.specs.Prelude.{◌≡◌, ◌≢◌, ◌⊎◌, ◌<◌, ℕ, Err, IfOk, IfSome, List, OnErr, OnOk, length};
 ghost use Rattle.std.specs.Option.{ForSome};
 ghost use Rattle.idx_outside.specs.Cause.{NeverFalls, Rose};
 ghost use Rattle.idx_outside.specs.Files.{known_with, HasStep as HasCommitted, HoldFiles, LiesIn, StillAdmits, shown};
@@ -8,7 +8,7 @@ ghost use Rattle.idx_layout.specs.Files.{file_bytes};
 ghost use Rattle.idx_layout.specs.OfHeader.{layout_of};
 ghost use Rattle.idx_layout.specs.Shape.{shape_of};
 ghost use Rattle.idx_layout.specs.Step.{step_files, volume_of_raw};
-ghost use Rattle.idx_gather.specs.Gather.{HasBlocksOf, HasFolder, HasPresent, HoldsAdded, StepAdded};
+ghost use Rattle.idx_gather.specs.Gather.{HasBlocksOf, HasFolder, HasPresent, HoldsAdded, IsFailedCall, StepAdded};
 
 use crate::content::write_content;
 use idx_edition::Edition;
@@ -43,7 +43,11 @@ pub(crate) fn write_step<B: Bay>(
     ensures whole { OnErr result ((B.files bay.new ≡ B.files bay.old)
         ⊎ StepAdded header.now step (B.files bay.old) (B.files bay.new) raw.now) }
     ensures none { result ≡ Err BayFault.NoMemory → B.files bay.new ≡ B.files bay.old }
+    ensures failed { result ≡ Err BayFault.Outage →
+        IsFailedCall (B.files bay.old) (B.files bay.new) (B.failed bay.new) }
+    ensures unfailed { result ≢ Err BayFault.Outage → B.failed bay.new ≡ B.failed bay.old }
     ensures header { B.header bay.new ≡ B.header bay.old }
+    ensures begun { B.begun bay.new ≡ B.begun bay.old }
     ensures count { NeverFalls (B.faults bay.old) (B.faults bay.new) }
     ensures quiet { OnOk result (B.faults bay.new ≡ B.faults bay.old) }
     ensures no_memory { result ≡ Err BayFault.NoMemory → B.faults bay.new ≡ B.faults bay.old }
@@ -71,7 +75,11 @@ fn write_files<B: Bay>(
     ensures leaves { IfOk result (λ leaves. HoldFiles B.Leaf.contents (B.files bay.old) leaves.items
         (step_files header.now (volume_of_raw header.now raw.now) step)) }
     ensures files { B.files bay.new ≡ B.files bay.old }
+    ensures failed { result ≡ Err BayFault.Outage →
+        IsFailedCall (B.files bay.old) (B.files bay.new) (B.failed bay.new) }
+    ensures unfailed { result ≢ Err BayFault.Outage → B.failed bay.new ≡ B.failed bay.old }
     ensures header { B.header bay.new ≡ B.header bay.old }
+    ensures begun { B.begun bay.new ≡ B.begun bay.old }
     ensures count { NeverFalls (B.faults bay.old) (B.faults bay.new) }
     ensures quiet { OnOk result (B.faults bay.new ≡ B.faults bay.old) }
     ensures no_memory { result ≡ Err BayFault.NoMemory → B.faults bay.new ≡ B.faults bay.old }
@@ -105,7 +113,11 @@ fn write_file<B: Bay>(
     ensures bytes { IfOk result (λ leaf. B.Leaf.contents leaf.1 ≡ known_with (B.files bay.old)
         (file_bytes (layout_of header.now) (volume_of_raw header.now raw.now) file)) }
     ensures files { B.files bay.new ≡ B.files bay.old }
+    ensures failed { result ≡ Err BayFault.Outage →
+        IsFailedCall (B.files bay.old) (B.files bay.new) (B.failed bay.new) }
+    ensures unfailed { result ≢ Err BayFault.Outage → B.failed bay.new ≡ B.failed bay.old }
     ensures header { B.header bay.new ≡ B.header bay.old }
+    ensures begun { B.begun bay.new ≡ B.begun bay.old }
     ensures still { StillAdmits B.admits bay.old bay.new }
     ensures count { NeverFalls (B.faults bay.old) (B.faults bay.new) }
     ensures quiet { OnOk result (B.faults bay.new ≡ B.faults bay.old) }

@@ -1,7 +1,7 @@
 ghost use Rattle.std.specs.Prelude.{◌≡◌, IfErr, IfOk, IfSome, OnOk, length};
 ghost use Rattle.idx_outside.specs.Cause.{NeverFalls};
 ghost use Rattle.idx_header.specs.Header.{volume_bytes};
-ghost use Rattle.idx_gather.specs.Gather.{HasVolume, IsCaused};
+ghost use Rattle.idx_gather.specs.Gather.{AsksRaw, HasVolume, IsCaused, LacksVolume};
 
 use crate::GatherFault;
 use idx_header::Header;
@@ -19,6 +19,8 @@ pub(crate) fn read_volume<V: Source>(
     ensures right { OnOk result (HasVolume header.now (V.contents raw.old)) }
     ensures cause { IfErr result
         (IsCaused header.now (V.contents raw.old) (V.faults raw.old) (V.faults raw.new) 0 0) }
+    ensures asked { AsksRaw header.now (V.asked raw.old) (V.asked raw.new) result }
+    ensures unasked { LacksVolume header.now (V.contents raw.old) → V.asked raw.new ≡ V.asked raw.old }
     ensures quiet { OnOk result (V.faults raw.new ≡ V.faults raw.old) }
     ensures contents { V.contents raw.new ≡ V.contents raw.old }
     ensures count { NeverFalls (V.faults raw.old) (V.faults raw.new) }

@@ -22,6 +22,8 @@ loop-file-init g c =
       admits = c.requires.admits;
       files = refl;
       header = refl;
+      begun = refl;
+      failed = refl;
       quiet = refl;
     }
 
@@ -42,6 +44,8 @@ loop-file-preserved g c =
       admits = λ file. written.still (file_name h c.args.step file) (before.admits file);
       files = written.files ∙ before.files;
       header = written.header ∙ before.header;
+      begun = written.begun ∙ before.begun;
+      failed = written.unfailed (λ e. cc) ∙ before.failed;
       quiet = written.quiet ∙ before.quiet;
     }
 

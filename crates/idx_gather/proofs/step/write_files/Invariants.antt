@@ -18,5 +18,7 @@ invariant-loop-file g l =
       admits : (file : ℕ) → bay.admits l.bay (file_name l.header l.step file);
       files : bay.files l.bay ≡ bay.files l.fn.bay;
       header : bay.header l.bay ≡ bay.header l.fn.bay;
+      begun : bay.begun l.bay ≡ bay.begun l.fn.bay;
+      failed : bay.failed l.bay ≡ bay.failed l.fn.bay;
       quiet : bay.faults l.bay ≡ bay.faults l.fn.bay;
     }
