@@ -1,5 +1,5 @@
 -- Bytes that were asked for, table after table.
-use Rattle.std.proofs.Common.{◌≡◌, ℕ, ◌+◌, ◌*◌, ◌%◌, ◌^◌, ◌≤◌, refl, arith}
+use Rattle.std.proofs.Common.{ℕ, ◌+◌, ◌*◌, ◌≤◌, arith}
 use Rattle.idx_edition.specs.Asked.{AskedAtMost}
 
 -- none was

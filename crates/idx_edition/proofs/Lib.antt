@@ -11,3 +11,4 @@ pub mod HeldLemmas
 pub mod OwnLemmas
 pub mod StoredLemmas
 pub mod AskedLemmas
+pub mod ReadsLemmas

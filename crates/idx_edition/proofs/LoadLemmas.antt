@@ -17,7 +17,7 @@ use Rattle.idx_layout.specs.Files.{row_count}
 use Rattle.idx_layout.specs.Shape.{block_lengths}
 use Rattle.idx_edition.specs.Stored.{bad_table, fault_of_bytes}
 use Rattle.idx_edition.specs.Tables.{EndWithin, IsTable}
-use Rattle.idx_edition.specs.Loaded.{IsCause}
+use Rattle.idx_edition.specs.Loaded.{IsReadCause}
 use Rattle.idx_edition.specs.declared.load_fault.LoadFault.{LoadFault}
 use Rattle.idx_edition.specs.declared.load_fault.LoadFault.TheVariants.{BadTable, NoMemory}
 use Rattle.idx_edition.proofs.FrontLemmas.{first_fault-front, rows_of-front, rows-right}
@@ -102,16 +102,16 @@ module _ (front : List ℕ) (l : Layout) (rows len m : ℕ) (lengths : List ℕ)
       subst (λ n. EndWithin (rows_of front rows) n) (is.whole ∙ ap length same) (right (Some bytes) is none).1
 
 -- a fault of a table is the file's, or want of memory
-pub cause-table : (IsBad : LoadFault → Type 0) (file : ℕ) (fault : TableFault) (result : LoadFault) (a a' b b' : ℕ) →
+pub cause-table : (IsBad : LoadFault → Type 0) (file : ℕ) (fault : TableFault) (result : LoadFault) (b b' : ℕ) →
     (fault.kind ≡ kinds.NoMemory → result ≡ NoMemory) → (fault.kind ≢ kinds.NoMemory → result ≡ BadTable file fault.row fault.kind) →
-    (fault.kind ≢ kinds.NoMemory → IsBad (BadTable file fault.row fault.kind)) → a' ≡ a → b' ≡ b → IsCause IsBad a a' b b' result
-cause-table IsBad file fault result a a' b b' memory table bad same same' = by_kind fault.kind refl
+    (fault.kind ≢ kinds.NoMemory → IsBad (BadTable file fault.row fault.kind)) → b' ≡ b → IsReadCause IsBad b b' result
+cause-table IsBad file fault result b b' memory table bad same' = by_kind fault.kind refl
   where
-    of_table : fault.kind ≢ kinds.NoMemory → IsCause IsBad a a' b b' result
-    of_table other = subst (IsCause IsBad a a' b b') (sym (table other)) (bad other, same, same')
+    of_table : fault.kind ≢ kinds.NoMemory → IsReadCause IsBad b b' result
+    of_table other = subst (IsReadCause IsBad b b') (sym (table other)) (bad other, same')
 
-    by_kind : (kind : TableKind) → fault.kind ≡ kind → IsCause IsBad a a' b b' result
-    by_kind kinds.NoMemory is = subst (IsCause IsBad a a' b b') (sym (memory is)) (same, same')
+    by_kind : (kind : TableKind) → fault.kind ≡ kind → IsReadCause IsBad b b' result
+    by_kind kinds.NoMemory is = subst (IsReadCause IsBad b b') (sym (memory is)) same'
     by_kind kinds.CutShort is = of_table (λ e. let wrong : kinds.CutShort ≡ kinds.NoMemory = sym is ∙ e in cc)
     by_kind kinds.Compressed is = of_table (λ e. let wrong : kinds.Compressed ≡ kinds.NoMemory = sym is ∙ e in cc)
     by_kind kinds.RowMajor is = of_table (λ e. let wrong : kinds.RowMajor ≡ kinds.NoMemory = sym is ∙ e in cc)

@@ -16,7 +16,7 @@ use Rattle.idx_layout.specs.Files.{row_count}
 use Rattle.idx_layout.specs.OfHeader.{layout_of}
 use Rattle.idx_edition.specs.Stored.{fault_of_file, first_bad}
 use Rattle.idx_edition.specs.Tables.{AreTablesOf, EndWithin, IsTable, RiseFrom}
-use Rattle.idx_edition.specs.Loaded.{Completes, HoldSoFar, IsCause, found_table, leaf_at, number_at, rows_at, table_at}
+use Rattle.idx_edition.specs.Loaded.{Completes, Counts, HoldSoFar, IsCause, found_table, leaf_at, number_at, rows_at, table_at}
 use Rattle.idx_edition.specs.declared.load_fault.LoadFault.{LoadFault}
 use Rattle.idx_edition.specs.declared.load_fault.LoadFault.TheVariants.{BadTable, StoreFault, NoMemory}
 
@@ -214,12 +214,11 @@ module _ (h : HeaderValue) (step : ℕ) where
       ∙ ap (λ o. slice_get (cons_option o (filter_map (fault_of_file h step files) rest)) 0) is
 
 -- a cause by what was known when the loop began
-pub cause_since : (P Q : LoadFault → Type 0) → ((bad : LoadFault) → P bad → Q bad) → (a a' b b' first first' : ℕ) → a ≡ first → b ≡ first' → (fault : LoadFault) →
-    IsCause P a a' b b' fault → IsCause Q first a' first' b' fault
-cause_since P Q more a a' b b' first first' same same' fault is =
-    subst (λ n. IsCause Q n a' first' b' fault) same (subst (λ n. IsCause Q a a' n b' fault) same' (by_fault fault is))
+pub cause_since : (P Q : LoadFault → Type 0) → ((bad : LoadFault) → P bad → Q bad) → (c d : Counts) → c ≡ d → (fault : LoadFault) →
+    IsCause P c fault → IsCause Q d fault
+cause_since P Q more c d same fault is = subst (λ (k : Counts). IsCause Q k fault) same (by_fault fault is)
   where
-    by_fault : (fault : LoadFault) → IsCause P a a' b b' fault → IsCause Q a a' b b' fault
+    by_fault : (fault : LoadFault) → IsCause P c fault → IsCause Q c fault
     by_fault (BadTable file row kind) is = (more (BadTable file row kind) is.0, is.1, is.2)
     by_fault (StoreFault faults) is = is
     by_fault NoMemory is = is

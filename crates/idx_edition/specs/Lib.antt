@@ -3,3 +3,4 @@ pub mod Tables
 pub mod Loaded
 pub mod Worked
 pub mod Asked
+pub mod Reads

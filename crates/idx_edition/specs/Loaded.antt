@@ -7,6 +7,8 @@ use Rattle.idx_geom.specs.Volume.{IsVolume}
 use Rattle.idx_outside.specs.Cause.{Rose}
 use Rattle.idx_outside.specs.Files.{known_files, file_at}
 use Rattle.idx_outside.specs.Shape.{Shape}
+use Rattle.idx_outside.specs.declared.bay_call.BayCall.{BayCall}
+use Rattle.idx_outside.specs.declared.bay_call.BayCall.TheVariants.{HasStep, Leaf}
 use Rattle.idx_outside.specs.declared.mem_file.MemFile.{MemFile}
 use Rattle.idx_table.specs.Table.{rows_of}
 use Rattle.idx_table.specs.declared.row.Row.{Row}
@@ -47,26 +49,69 @@ IsWrittenBlock h volume field block bytes =
     (samples : List (List ℕ)) → slice_get volume field ≡ Some samples →
     bytes ≡ block_of_samples (layout_of h) (slice_index (layout_of h).sizes field) samples block
 
--- What each fault of opening files says, where a faulty table means this, of the counts of the bay and of the reader before
--- and after.
-abbrev pub IsCause : (LoadFault → Type 0) → ℕ → ℕ → ℕ → ℕ → LoadFault → Type 0
-IsCause IsBad bay_before bay_after before after (BadTable file row kind) =
-    IsBad (BadTable file row kind) × (bay_after ≡ bay_before) × (after ≡ before)
-IsCause IsBad bay_before bay_after before after (StoreFault faults) =
-    (Rose bay_before bay_after × (faults ≡ bay_after) × (after ≡ before))
-    ⊎ (Rose before after × (faults ≡ after) × (bay_after ≡ bay_before))
-IsCause IsBad bay_before bay_after before after NoMemory = (bay_after ≡ bay_before) × (after ≡ before)
+-- What a bay and a reader counted, before and after: their faults, and which call of the bay counted the last one.
+pub record Counts : Type 0 where
+  pub bay_before : ℕ
+  pub bay_after : ℕ
+  pub failed_before : Option BayCall
+  pub failed_after : Option BayCall
+  pub reader_before : ℕ
+  pub reader_after : ℕ
+
+-- the same of a bay and a reader, by the ghost members of their traits
+abbrev pub counts : {B R : Type 0} → (B → ℕ) → (B → Option BayCall) → (R → ℕ) → B → B → R → R → Counts
+counts bay_faults failed reader_faults bay_old bay_new reader_old reader_new =
+    record {
+      bay_before = bay_faults bay_old;
+      bay_after = bay_faults bay_new;
+      failed_before = failed bay_old;
+      failed_after = failed bay_new;
+      reader_before = reader_faults reader_old;
+      reader_after = reader_faults reader_new;
+    }
+
+-- the call asks for a step, or for a file of one
+abbrev pub AsksStep : Option BayCall → Type 0
+AsksStep call = (call ≡ Some HasStep) ⊎ (call ≡ Some Leaf)
+
+-- no call of the bay counted a fault
+pub record IsBayQuiet (c : Counts) : Type 0 where
+  pub count : c.bay_after ≡ c.bay_before
+  pub failed : c.failed_after ≡ c.failed_before
+
+-- the bay counted a fault when it was asked for the step or for a file of it, and the reader none
+pub record IsBayFault (c : Counts) : Type 0 where
+  pub rose : Rose c.bay_before c.bay_after
+  pub call : AsksStep c.failed_after
+  pub reader : c.reader_after ≡ c.reader_before
+
+-- the reader counted a fault, and the bay none
+pub record IsReaderFault (c : Counts) : Type 0 where
+  pub rose : Rose c.reader_before c.reader_after
+  pub bay : IsBayQuiet c
+
+-- What each fault of opening files says, where a faulty table means this, of what the bay and the reader counted.
+abbrev pub IsCause : (LoadFault → Type 0) → Counts → LoadFault → Type 0
+IsCause IsBad c (BadTable file row kind) =
+    IsBad (BadTable file row kind) × IsBayQuiet c × (c.reader_after ≡ c.reader_before)
+IsCause IsBad c (StoreFault faults) =
+    (IsBayFault c × (faults ≡ c.bay_after)) ⊎ (IsReaderFault c × (faults ≡ c.reader_after))
+IsCause IsBad c NoMemory = IsBayQuiet c × (c.reader_after ≡ c.reader_before)
+
+-- The same of reading the table of a file, which asks nothing of the bay: by the reader's counts.
+abbrev pub IsReadCause : (LoadFault → Type 0) → ℕ → ℕ → LoadFault → Type 0
+IsReadCause IsBad before after (BadTable file row kind) = IsBad (BadTable file row kind) × (after ≡ before)
+IsReadCause IsBad before after (StoreFault faults) = Rose before after × (faults ≡ after)
+IsReadCause IsBad before after NoMemory = after ≡ before
 
 -- The same of opening the files of a step, where this is known of the committed files: a faulty table is the first of the step.
-abbrev pub IsOpenCause : HeaderValue → ℕ → Option (List MemFile) → ℕ → ℕ → ℕ → ℕ → LoadFault → Type 0
-IsOpenCause h step known bay_before bay_after before after fault =
-    IsCause (λ bad. IfSome known (λ files. first_bad h step files ≡ Some bad)) bay_before bay_after before after fault
+abbrev pub IsOpenCause : HeaderValue → ℕ → Option (List MemFile) → Counts → LoadFault → Type 0
+IsOpenCause h step known c fault = IsCause (λ bad. IfSome known (λ files. first_bad h step files ≡ Some bad)) c fault
 
 -- The same of loading the step: it stands.
-abbrev pub IsLoadCause : HeaderValue → ℕ → Option (List MemFile) → ℕ → ℕ → ℕ → ℕ → LoadFault → Type 0
-IsLoadCause h step known bay_before bay_after before after fault =
-    IsCause (λ bad. IfSome known (λ files. Stands h step files × (first_bad h step files ≡ Some bad)))
-    bay_before bay_after before after fault
+abbrev pub IsLoadCause : HeaderValue → ℕ → Option (List MemFile) → Counts → LoadFault → Type 0
+IsLoadCause h step known c fault =
+    IsCause (λ bad. IfSome known (λ files. Stands h step files × (first_bad h step files ≡ Some bad))) c fault
 
 -- the rows, the path and the bytes of a file of the step
 abbrev pub found_table : HeaderValue → ℕ → ℕ → List ℕ → List Row × (List ℕ × Option (List ℕ))

@@ -1,4 +1,4 @@
-ghost use Rattle.std.specs.Prelude.{◌≡◌, ◌≢◌, ◌↔◌, ℕ, ◌+◌, ◌*◌, ◌<◌, List, None, Ok, Some, IfErr, IfOk, IfSome, OnOk, length};
+ghost use Rattle.std.specs.Prelude.{◌≡◌, ◌≢◌, ◌↔◌, ℕ, ◌+◌, ◌*◌, ◌<◌, ◌≤◌, List, None, Ok, Some, IfErr, IfOk, IfSome, OnErr, OnOk, length};
 ghost use Rattle.std.specs.Option.{ForSome};
 ghost use Rattle.idx_outside.specs.Cause.{MadeReads, NeverFalls};
 ghost use Rattle.idx_geom.specs.Region.{points};
@@ -16,7 +16,8 @@ ghost use Rattle.idx_layout.specs.Step.{step_files};
 ghost use Rattle.idx_edition.specs.Asked.{AskedAtMost};
 ghost use Rattle.idx_edition.specs.Stored.{HasFiles, Stands};
 ghost use Rattle.idx_edition.specs.Tables.{AreTablesOf, has_in_tables, shape_in, stored_in};
-ghost use Rattle.idx_edition.specs.Loaded.{AreWritten, HoldsStored, IsLoadCause, IsOpenCause, IsWrittenBlock, OfBlocks};
+ghost use Rattle.idx_edition.specs.Loaded.{AreWritten, HoldsStored, IsLoadCause, IsOpenCause, IsWrittenBlock, OfBlocks, counts};
+ghost use Rattle.idx_edition.specs.Reads.{ReadsFiles, most_reads};
 
 use crate::LoadFault;
 use crate::lengths::block_lengths;
@@ -46,7 +47,6 @@ impl<L: Leaf> Edition<L> {
         time: u64,
         leaves: Vec<(Bytes, L)>,
     ) -> Result<Edition<L>, NoMemory>
-        requires time { HasTime header.now time }
         requires written { (volume : _) × AreWritten header.now time volume (shown L.contents leaves.items) }
         ensures time { IfOk result (λ edition. edition.time ≡ time) }
         ensures shape { IfOk result (λ edition. shape_in edition.tables ≡ shape_of header.now) }
@@ -101,9 +101,13 @@ impl<L: Leaf> Edition<L> {
         ensures untimed { IfOk result (λ loaded.
             HasTime header.now time → step_folder header.now time ≡ None → loaded ≢ None) }
         ensures cause { IfErr result (IsLoadCause header.now time (B.files bay.old)
-            (B.faults bay.old) (B.faults bay.new) (R.faults reader.old) (R.faults reader.new)) }
+            (counts B.faults B.failed R.faults bay.old bay.new reader.old reader.new)) }
+        ensures few_reads { OnErr result
+            (ReadsFiles header.now time (B.files bay.old) (R.reads reader.old) (R.reads reader.new)) }
         ensures reads { IfOk result (λ loaded. IfSome loaded (λ edition.
             MadeReads (R.reads reader.old) (R.reads reader.new) (length edition.leaves.items))) }
+        ensures few { IfOk result (λ loaded. IfSome loaded (λ edition.
+            length edition.leaves.items ≤ most_reads header.now time (B.files bay.old))) }
         ensures asked { IfOk result (λ loaded. IfSome loaded (λ edition.
             AskedAtMost (R.asked reader.old) (R.asked reader.new)
             (length edition.leaves.items * table_bytes (row_count (layout_of header.now))))) }
@@ -115,7 +119,9 @@ impl<L: Leaf> Edition<L> {
         ensures header { B.header bay.new ≡ B.header bay.old }
         ensures files { B.files bay.new ≡ B.files bay.old }
         ensures admits { StillAdmits B.admits bay.old bay.new }
+        ensures begun { B.begun bay.new ≡ B.begun bay.old }
         ensures changes { B.changes bay.new ≡ B.changes bay.old }
+        ensures failed { OnOk result (B.failed bay.new ≡ B.failed bay.old) }
     {
         if !header.has_time(time) {
             return Ok(None);
@@ -141,9 +147,13 @@ impl<L: Leaf> Edition<L> {
             (stored_in edition.tables (shown L.contents edition.leaves.items))
             (shown L.contents edition.leaves.items))) }
         ensures cause { IfErr result (IsOpenCause header.now time (B.files bay.old)
-            (B.faults bay.old) (B.faults bay.new) (R.faults reader.old) (R.faults reader.new)) }
+            (counts B.faults B.failed R.faults bay.old bay.new reader.old reader.new)) }
+        ensures few_reads { OnErr result
+            (ReadsFiles header.now time (B.files bay.old) (R.reads reader.old) (R.reads reader.new)) }
         ensures reads { IfOk result (λ edition.
             MadeReads (R.reads reader.old) (R.reads reader.new) (length edition.leaves.items)) }
+        ensures few { IfOk result (λ edition.
+            length edition.leaves.items ≤ most_reads header.now time (B.files bay.old)) }
         ensures asked { IfOk result (λ edition. AskedAtMost (R.asked reader.old) (R.asked reader.new)
             (length edition.leaves.items * table_bytes (row_count (layout_of header.now)))) }
         ensures quiet { OnOk result (B.faults bay.new ≡ B.faults bay.old) }
@@ -153,7 +163,9 @@ impl<L: Leaf> Edition<L> {
         ensures header { B.header bay.new ≡ B.header bay.old }
         ensures files { B.files bay.new ≡ B.files bay.old }
         ensures admits { StillAdmits B.admits bay.old bay.new }
+        ensures begun { B.begun bay.new ≡ B.begun bay.old }
         ensures changes { B.changes bay.new ≡ B.changes bay.old }
+        ensures failed { OnOk result (B.failed bay.new ≡ B.failed bay.old) }
     {
         let lengths = block_lengths(alloc, header)?;
         let mut front = Vec::new(alloc);

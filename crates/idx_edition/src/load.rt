@@ -2,6 +2,7 @@ ghost use Rattle.std.specs.Prelude.{◌≡◌, ◌≢◌, ◌↔◌, ◌⊎◌, 
 ghost use Rattle.std.specs.Option.{ForSome, option_map};
 ghost use Rattle.idx_outside.specs.Cause.{AskedFor, MadeReads, NeverFalls, Rose};
 ghost use Rattle.idx_outside.specs.Files.{HasStep as HasCommitted, StillAdmits, entry_shown, file_at, stored_at};
+ghost use Rattle.idx_outside.specs.declared.bay_call.BayCall.{BayCall};
 ghost use Rattle.idx_table.specs.Table.{first_fault, rows_of, table_bytes};
 ghost use Rattle.idx_header.specs.Header.{IsHeader};
 ghost use Rattle.idx_header.specs.Names.{file_name, step_folder};
@@ -11,7 +12,8 @@ ghost use Rattle.idx_layout.specs.Shape.{block_lengths};
 ghost use Rattle.idx_edition.specs.Asked.{AskedAtMost};
 ghost use Rattle.idx_edition.specs.Stored.{fault_of_bytes, fault_of_file};
 ghost use Rattle.idx_edition.specs.Tables.{EndWithin, IsTable};
-ghost use Rattle.idx_edition.specs.Loaded.{IsCause, table_at};
+ghost use Rattle.idx_edition.specs.Loaded.{IsCause, IsReadCause, counts, table_at};
+ghost use Rattle.idx_edition.specs.Reads.{ReadsOne};
 
 use crate::LoadFault;
 use crate::lengths::row_count;
@@ -35,11 +37,15 @@ pub(crate) fn folder_stands<B: Bay>(
     ensures outage { IfErr result (λ fault. fault ≢ LoadFault.NoMemory →
         (fault ≡ LoadFault.StoreFault (B.faults bay.new)) × Rose (B.faults bay.old) (B.faults bay.new)) }
     ensures no_memory { result ≡ Err LoadFault.NoMemory → B.faults bay.new ≡ B.faults bay.old }
+    ensures failed { IfErr result (λ fault. fault ≢ LoadFault.NoMemory → B.failed bay.new ≡ Some BayCall.HasStep) }
+    ensures unfailed { result ≡ Err LoadFault.NoMemory → B.failed bay.new ≡ B.failed bay.old }
+    ensures kept { OnOk result (B.failed bay.new ≡ B.failed bay.old) }
     ensures quiet { OnOk result (B.faults bay.new ≡ B.faults bay.old) }
     ensures count { NeverFalls (B.faults bay.old) (B.faults bay.new) }
     ensures header { B.header bay.new ≡ B.header bay.old }
     ensures files { B.files bay.new ≡ B.files bay.old }
     ensures admits { StillAdmits B.admits bay.old bay.new }
+    ensures begun { B.begun bay.new ≡ B.begun bay.old }
     ensures changes { B.changes bay.new ≡ B.changes bay.old }
 {
     let Some(folder) = header.step_folder(alloc, time)? else {
@@ -76,7 +82,10 @@ pub(crate) fn open_file<B: Bay, R: Reader<B::Leaf>>(
         ForSome (B.Leaf.contents found.1.1) (λ bytes. EndWithin found.0 (length bytes)))) }
     ensures cause { IfErr result (IsCause (λ bad. IfSome (B.files bay.old) (λ files.
         fault_of_file header.now time files file ≡ Some bad))
-        (B.faults bay.old) (B.faults bay.new) (R.faults reader.old) (R.faults reader.new)) }
+        (counts B.faults B.failed R.faults bay.old bay.new reader.old reader.new)) }
+    ensures kept { OnOk result (B.failed bay.new ≡ B.failed bay.old) }
+    ensures few_reads { OnErr result
+        (ReadsOne header.now time (B.files bay.old) file (R.reads reader.old) (R.reads reader.new)) }
     ensures no_read { IfOk result (λ found. found ≡ None → reader.new ≡ reader.old) }
     ensures one_read { IfOk result (λ found. IfSome found (λ _.
         R.reads reader.new ≡ (R.reads reader.old + 1) % 2 ^ 64)) }
@@ -89,6 +98,7 @@ pub(crate) fn open_file<B: Bay, R: Reader<B::Leaf>>(
     ensures header { B.header bay.new ≡ B.header bay.old }
     ensures files { B.files bay.new ≡ B.files bay.old }
     ensures admits { StillAdmits B.admits bay.old bay.new }
+    ensures begun { B.begun bay.new ≡ B.begun bay.old }
     ensures changes { B.changes bay.new ≡ B.changes bay.old }
 {
     let path = header.file_name(alloc, time, file)?;
@@ -108,11 +118,15 @@ fn find_leaf<B: Bay>(path: &[u8], bay: &mut B) -> Result<Option<B::Leaf>, LoadFa
     ensures outage { IfErr result (λ fault. fault ≢ LoadFault.NoMemory →
         (fault ≡ LoadFault.StoreFault (B.faults bay.new)) × Rose (B.faults bay.old) (B.faults bay.new)) }
     ensures no_memory { result ≡ Err LoadFault.NoMemory → B.faults bay.new ≡ B.faults bay.old }
+    ensures failed { IfErr result (λ fault. fault ≢ LoadFault.NoMemory → B.failed bay.new ≡ Some BayCall.Leaf) }
+    ensures unfailed { result ≡ Err LoadFault.NoMemory → B.failed bay.new ≡ B.failed bay.old }
+    ensures kept { OnOk result (B.failed bay.new ≡ B.failed bay.old) }
     ensures quiet { OnOk result (B.faults bay.new ≡ B.faults bay.old) }
     ensures count { NeverFalls (B.faults bay.old) (B.faults bay.new) }
     ensures header { B.header bay.new ≡ B.header bay.old }
     ensures files { B.files bay.new ≡ B.files bay.old }
     ensures admits { StillAdmits B.admits bay.old bay.new }
+    ensures begun { B.begun bay.new ≡ B.begun bay.old }
     ensures changes { B.changes bay.new ≡ B.changes bay.old }
 {
     match bay.leaf(path) {
@@ -141,9 +155,11 @@ fn read_rows<L: Leaf, R: Reader<L>>(
         fault_of_bytes (layout_of header.now) file (Some bytes) ≡ None)) }
     ensures table { IfOk result (IsTable lengths.now.items header.now.blocks_per_file) }
     ensures ends { IfOk result (λ rows. ForSome (L.contents leaf.now) (λ bytes. EndWithin rows (length bytes))) }
-    ensures cause { IfErr result (IsCause (λ bad. IfSome (L.contents leaf.now) (λ bytes.
+    ensures cause { IfErr result (IsReadCause (λ bad. IfSome (L.contents leaf.now) (λ bytes.
         fault_of_bytes (layout_of header.now) file (Some bytes) ≡ Some bad))
-        0 0 (R.faults reader.old) (R.faults reader.new)) }
+        (R.faults reader.old) (R.faults reader.new)) }
+    ensures few_reads { OnErr result ((R.reads reader.new ≡ R.reads reader.old)
+        ⊎ (R.reads reader.new ≡ (R.reads reader.old + 1) % 2 ^ 64)) }
     ensures one_read { OnOk result (R.reads reader.new ≡ (R.reads reader.old + 1) % 2 ^ 64) }
     ensures asked { OnOk result (AskedAtMost (R.asked reader.old) (R.asked reader.new)
         (table_bytes (row_count (layout_of header.now)))) }
@@ -171,6 +187,8 @@ fn read_front<L: Leaf, R: Reader<L>>(
     ensures outage { IfErr result (λ fault. fault ≢ LoadFault.NoMemory →
         (fault ≡ LoadFault.StoreFault (R.faults reader.new)) × Rose (R.faults reader.old) (R.faults reader.new)) }
     ensures no_memory { result ≡ Err LoadFault.NoMemory → R.faults reader.new ≡ R.faults reader.old }
+    ensures few_reads { OnErr result ((R.reads reader.new ≡ R.reads reader.old)
+        ⊎ (R.reads reader.new ≡ (R.reads reader.old + 1) % 2 ^ 64)) }
     ensures one_read { OnOk result (R.reads reader.new ≡ (R.reads reader.old + 1) % 2 ^ 64) }
     ensures asked { OnOk result (AskedFor (R.asked reader.old) (R.asked reader.new) count) }
     ensures quiet { OnOk result (R.faults reader.new ≡ R.faults reader.old) }

@@ -3,3 +3,4 @@ pub mod Answer
 pub mod Answerable
 pub mod Plan
 pub mod Worked
+pub mod QuestionValue

@@ -10,6 +10,7 @@ mod outside;
 mod plan_fault;
 mod planning;
 mod query_plan;
+mod question;
 
 pub use ask::Ask;
 pub use examples::{worked_blocks, worked_faults};
@@ -17,3 +18,4 @@ pub use laws::{all_levels_are_all_samples, copied_blocks_are_the_answer};
 pub use plan_fault::PlanFault;
 pub use planning::{MAX_ANSWER, count_samples, plan};
 pub use query_plan::Plan;
+pub use question::Question;

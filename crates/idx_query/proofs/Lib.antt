@@ -7,3 +7,4 @@ pub mod MissLemmas
 pub mod PostLemmas
 pub mod FillLemmas
 pub mod RoundLemmas
+pub mod ReadsLemmas

@@ -3,3 +3,4 @@ pub mod Rounds
 pub mod Steps
 pub mod Fault
 pub mod Answered
+pub mod Reads

@@ -5,9 +5,10 @@ ghost use Rattle.idx_layout.specs.Shape.{shape_of};
 ghost use Rattle.idx_hall.specs.Posts.{Lacks};
 ghost use Rattle.idx_hall.specs.Looked.{not_looked};
 ghost use Rattle.idx_turn.specs.Stands.{Begins};
-ghost use Rattle.idx_plan.specs.Needed.{plan_fault};
+ghost use Rattle.idx_plan.specs.Needed.{needed, plan_fault};
 ghost use Rattle.idx_plan.specs.declared.plan_fault.PlanFault.{PlanFault};
 ghost use Rattle.idx_query.specs.Blocks.{IsPlanOf};
+ghost use Rattle.idx_query.specs.Reads.{ReadsAtMost};
 ghost use Rattle.idx_query.specs.Steps.{load_state};
 ghost use Rattle.idx_query.specs.Answered.{IsAnswered, IsDone, IsLeft};
 ghost use Rattle.idx_query.specs.Fault.{IsCaused, IsUnread};
@@ -29,7 +30,8 @@ use std::mem::replace;
 /// order, and put into the cache. The hall is taken to see what room its cache has, for a look, and once more where
 /// something was fetched. All vectors are made before the look.
 ///
-/// After a refusal the bytes are as they were.
+/// After a refusal the bytes are as they were, and no more reads were made than blocks are needed.
+#[tactic(auto, using(crate::proofs::ReadsLemmas::no_reads, crate::proofs::ReadsLemmas::reads_needed))]
 pub fn answer<E: Blocks + Drop, T: Turn<Hall<E>>, R: Reader<E::Leaf>>(
     alloc: Global,
     header: &Header,
@@ -52,6 +54,8 @@ pub fn answer<E: Blocks + Drop, T: Turn<Hall<E>>, R: Reader<E::Leaf>>(
     // Each refusal has its cause, and leaves the bytes as they were.
     ensures cause { IfErr result (IsCaused header.now ask.now (T.seen turn.new)
         (R.faults reader.old) (R.faults reader.new)) }
+    ensures few_reads { OnErr result
+        (ReadsAtMost (R.reads reader.old) (R.reads reader.new) (length (needed header.now ask.now))) }
     ensures refused { (fault : PlanFault) → plan_fault header.now ask.now ≡ Some fault →
         (result ≡ Err (QueryFault.Plan fault)) × (turn.new ≡ turn.old) }
     ensures unpublished { T.may_add turn.old ≡ true → plan_fault header.now ask.now ≡ None →
@@ -82,6 +86,7 @@ pub fn answer<E: Blocks + Drop, T: Turn<Hall<E>>, R: Reader<E::Leaf>>(
 }
 
 /// Appends the answer of a plan out of a hall whose cache has room for so many blocks.
+#[tactic(auto, using(crate::proofs::ReadsLemmas::no_reads))]
 fn answer_plan<E: Blocks + Drop, T: Turn<Hall<E>>, R: Reader<E::Leaf>>(
     alloc: Global,
     header: &Header,
@@ -103,6 +108,8 @@ fn answer_plan<E: Blocks + Drop, T: Turn<Hall<E>>, R: Reader<E::Leaf>>(
     ensures reads { IfOk result (λ report. MadeReads (R.reads reader.old) (R.reads reader.new) report.reads) }
     ensures cause { IfErr result (IsCaused header.now ask.now (T.seen turn.new)
         (R.faults reader.old) (R.faults reader.new)) }
+    ensures few_reads { OnErr result
+        (ReadsAtMost (R.reads reader.old) (R.reads reader.new) (length plan.now.keys)) }
     ensures unpublished { T.may_add turn.old ≡ true → Lacks ask.now.time (T.seen turn.old) →
         (result ≡ Err (QueryFault.NotPublished (length (T.seen turn.old)))) ⊎ (result ≡ Err QueryFault.NoMemory) }
     ensures unread { IfErr result (λ fault. IsUnread fault → reader.new ≡ reader.old) }
@@ -140,6 +147,7 @@ fn answer_plan<E: Blocks + Drop, T: Turn<Hall<E>>, R: Reader<E::Leaf>>(
 }
 
 /// Appends the answer of a plan, with what its round needs in memory.
+#[tactic(auto, using(crate::proofs::ReadsLemmas::no_reads))]
 fn append_answer<E: Blocks + Drop, T: Turn<Hall<E>>, R: Reader<E::Leaf>>(
     header: &Header,
     ask: &Ask,
@@ -164,6 +172,8 @@ fn append_answer<E: Blocks + Drop, T: Turn<Hall<E>>, R: Reader<E::Leaf>>(
     ensures reads { IfOk result (λ report. MadeReads (R.reads reader.old) (R.reads reader.new) report.reads) }
     ensures cause { IfErr result (IsCaused header.now ask.now (T.seen turn.new)
         (R.faults reader.old) (R.faults reader.new)) }
+    ensures few_reads { OnErr result
+        (ReadsAtMost (R.reads reader.old) (R.reads reader.new) (length plan.now.keys)) }
     ensures unpublished { T.may_add turn.old ≡ true → Lacks ask.now.time (T.seen turn.old) →
         (result ≡ Err (QueryFault.NotPublished (length (T.seen turn.old)))) ⊎ (result ≡ Err QueryFault.NoMemory) }
     ensures unread { IfErr result (λ fault. IsUnread fault → reader.new ≡ reader.old) }

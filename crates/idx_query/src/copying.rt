@@ -1,6 +1,7 @@
-ghost use Rattle.std.specs.Prelude.{◌≡◌, ◌↔◌, ◌+◌, ◌*◌, ◌^◌, ◌<◌, All, IfErr, IfOk, OnOk, Some, false, length, slice_get, slice_index};
+ghost use Rattle.std.specs.Prelude.{◌≡◌, ◌↔◌, ◌+◌, ◌*◌, ◌^◌, ◌<◌, All, IfErr, IfOk, OnErr, OnOk, Some, false, length, slice_get, slice_index};
 ghost use Rattle.idx_outside.specs.Cause.{MadeReads, NeverFalls};
 ghost use Rattle.idx_scatter.specs.Scatter.{IsScattered};
+ghost use Rattle.idx_query.specs.Reads.{ReadsAtMost, ReadsOnce};
 ghost use Rattle.idx_query.specs.Steps.{AreDone, AreFound, IsBlock, IsCameBy, IsStoreFault, with_block};
 
 use crate::loading::Loading;
@@ -36,6 +37,8 @@ pub(crate) fn copy_blocks<E: Blocks + Drop, R: Reader<E::Leaf>>(
     ensures count { NeverFalls (R.faults reader.old) (R.faults reader.new) }
     ensures quiet { OnOk result (R.faults reader.new ≡ R.faults reader.old) }
     ensures cause { IfErr result (IsStoreFault (R.faults reader.old) (R.faults reader.new)) }
+    ensures few_reads { OnErr result
+        (ReadsAtMost (R.reads reader.old) (R.reads reader.new) (length plan.now.keys)) }
 {
     let mut report = Report::new(post);
     for i in 0..plan.keys().len() {
@@ -75,6 +78,7 @@ fn copy_key<E: Blocks + Drop, R: Reader<E::Leaf>>(
     ensures count { NeverFalls (R.faults reader.old) (R.faults reader.new) }
     ensures quiet { OnOk result (R.faults reader.new ≡ R.faults reader.old) }
     ensures cause { IfErr result (IsStoreFault (R.faults reader.old) (R.faults reader.new)) }
+    ensures few_reads { OnErr result (ReadsOnce (R.reads reader.old) (R.reads reader.new)) }
 {
     if let Some(block) = looked.found(i) {
         plan.copy(i, block.as_slice(), out);
@@ -112,6 +116,7 @@ fn load_block<E: Blocks, R: Reader<E::Leaf>>(
     ensures count { NeverFalls (R.faults reader.old) (R.faults reader.new) }
     ensures quiet { OnOk result (R.faults reader.new ≡ R.faults reader.old) }
     ensures cause { IfErr result (IsStoreFault (R.faults reader.old) (R.faults reader.new)) }
+    ensures few_reads { OnErr result (ReadsOnce (R.reads reader.old) (R.reads reader.new)) }
 {
     let key = plan.keys()[i as usize];
     let mut block = loading.buffer()?;

@@ -1,5 +1,5 @@
 //! A round of an answer: a look, the blocks, and a fill.
-ghost use Rattle.std.specs.Prelude.{◌≡◌, ◌+◌, ◌<◌, ◌≤◌, [], Err, IfErr, IfOk, IfSome, None, OnOk, Some, List, length, true};
+ghost use Rattle.std.specs.Prelude.{◌≡◌, ◌+◌, ◌<◌, ◌≤◌, [], Err, IfErr, IfOk, IfSome, None, OnErr, OnOk, Some, List, length, true};
 ghost use Rattle.idx_outside.specs.Cause.{MadeReads, NeverFalls};
 ghost use Rattle.idx_header.specs.Header.{block_bytes};
 ghost use Rattle.idx_layout.specs.Shape.{shape_of};
@@ -10,6 +10,7 @@ ghost use Rattle.idx_turn.specs.Stands.{Begins};
 ghost use Rattle.idx_plan.specs.Needed.{plan_fault};
 ghost use Rattle.idx_plan.specs.Plan.{IsPlan};
 ghost use Rattle.idx_query.specs.Blocks.{IsPlanOf};
+ghost use Rattle.idx_query.specs.Reads.{ReadsAtMost};
 ghost use Rattle.idx_query.specs.Rounds.{missed};
 ghost use Rattle.idx_query.specs.Steps.{AreDone, CanCopy, IsStoreFault, kept_last, load_state};
 ghost use Rattle.idx_query.specs.Answered.{IsAnswered, IsDone, IsLeft};
@@ -26,6 +27,7 @@ use idx_plan::{Ask, Plan};
 use idx_turn::Turn;
 
 /// Fills the place of an answer out of the published step of its time, in one round.
+#[tactic(auto, using(crate::proofs::ReadsLemmas::no_reads))]
 pub(crate) fn answer_round<E: Blocks + Drop, T: Turn<Hall<E>>, R: Reader<E::Leaf>>(
     header: &Header,
     ask: &Ask,
@@ -51,6 +53,8 @@ pub(crate) fn answer_round<E: Blocks + Drop, T: Turn<Hall<E>>, R: Reader<E::Leaf
     ensures reads { IfOk result (λ report. MadeReads (R.reads reader.old) (R.reads reader.new) report.reads) }
     ensures cause { IfErr result (IsCaused header.now ask.now (T.seen turn.new)
         (R.faults reader.old) (R.faults reader.new)) }
+    ensures few_reads { OnErr result
+        (ReadsAtMost (R.reads reader.old) (R.reads reader.new) (length plan.now.keys)) }
     ensures unpublished { T.may_add turn.old ≡ true → Lacks ask.now.time (T.seen turn.old) →
         result ≡ Err (QueryFault.NotPublished (length (T.seen turn.old))) }
     ensures unread { IfErr result (λ fault. IsUnread fault → reader.new ≡ reader.old) }
@@ -100,6 +104,8 @@ fn copy_round<E: Blocks + Drop, R: Reader<E::Leaf>>(
     ensures count { NeverFalls (R.faults reader.old) (R.faults reader.new) }
     ensures quiet { OnOk result (R.faults reader.new ≡ R.faults reader.old) }
     ensures cause { IfErr result (IsStoreFault (R.faults reader.old) (R.faults reader.new)) }
+    ensures few_reads { OnErr result
+        (ReadsAtMost (R.reads reader.old) (R.reads reader.new) (length plan.now.keys)) }
 {
     let Some(edition) = looked.edition() else {
         unreachable!()

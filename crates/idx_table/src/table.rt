@@ -1,5 +1,6 @@
-ghost use Rattle.std.specs.Prelude.{◌≡◌, ◌≢◌, ◌↔◌, ℕ, ◌+◌, ◌*◌, ◌/◌, ◌%◌, ◌^◌, ◌<◌, ◌≤◌, min, length, slice_index, slice_get, Some, None, IfOk, IfErr};
+ghost use Rattle.std.specs.Prelude.{◌≡◌, ◌≢◌, ◌↔◌, ℕ, ◌+◌, ◌*◌, ◌/◌, ◌%◌, ◌^◌, ◌<◌, ◌≤◌, min, length, slice_index, slice_get, Some, None, Err, IfOk, IfErr};
 ghost use Rattle.idx_table.specs.Table.{table_bytes, row_at, rows_of, field_of, is_outside, fault_in, kind_of_row, first_fault};
+ghost use Rattle.idx_table.specs.declared.table_fault.TableFault.{TableFault};
 
 use crate::row::{RAW, ROW_BYTES, ROW_MAJOR, Row, row_in};
 use crate::table_fault::{TableFault, TableKind};
@@ -28,7 +29,7 @@ impl Model for Table {
 impl Table {
     /// The table of so many rows, from the first bytes of a file: `front` goes to the table's end or to the file's end.
     /// `block` has the bytes of a block of each field, and `len` is the file's length in bytes. The first faulty row is
-    /// answered, with the first of the kinds that applies to it.
+    /// answered, with the first of the kinds that applies to it. Memory is taken only for a table without a faulty row.
     pub fn read(
         alloc: Global,
         front: &[u8],
@@ -43,6 +44,8 @@ impl Table {
             × (first_fault front.now rows block.now.items len ≡ None)) }
         ensures fault { IfErr result (λ fault. fault.kind ≢ TableKind.NoMemory →
             first_fault front.now rows block.now.items len ≡ Some fault) }
+        ensures refused { (fault : TableFault) →
+            first_fault front.now rows block.now.items len ≡ Some fault → result ≡ Err fault }
     {
         if let Some(fault) = first_fault(front, rows, block, len) {
             return Err(fault);

@@ -1,4 +1,4 @@
-use Rattle.std.proofs.Common.{◌≡◌, ◌*◌, ◌%◌, List, length, Some, sym, ap, subst, refl, ◌∙◌, arith}
+use Rattle.std.proofs.Common.{◌≡◌, ◌*◌, ◌%◌, List, length, Some, sym, ap, subst, ◌∙◌, arith}
 use Rattle.std.specs.Prelude.{IfSome}
 use Rattle.std.specs.Option.{ForSome}
 use Rattle.std.proofs.Math.Nat.{mul-mod_right}
@@ -64,10 +64,10 @@ returns-in-Err-clause-cause g c =
     let is : IsFront (g.L.Leaf.contents c.args.leaf.now) c.deref.result.now l c.row_count.result c.len-len.result c.min.result c.args.lengths.now.items =
     front_of c.args.header.now (g.L.Leaf.contents c.args.leaf.now) c.deref.result.now c.read_front.new.front.items c.row_count.result c.len-len.result c.min.result c.table_len.result c.args.lengths.now.items
     c.row_count.ensures.value c.row_count.ensures.fields c.row_count.ensures.places c.requires c.table_len.ensures.value c.min.ensures c.len-len.ensures c.in_ok-read_front.ensures.bytes c.deref.ensures.value in
-    cause-table (λ bad. IfSome (g.L.Leaf.contents c.args.leaf.now) (λ bytes. fault_of_bytes l c.args.file (Some bytes) ≡ Some bad)) c.args.file c.in-Err.fault c.of_table-in-Err.result 0 0
+    cause-table (λ bad. IfSome (g.L.Leaf.contents c.args.leaf.now) (λ bytes. fault_of_bytes l c.args.file (Some bytes) ≡ Some bad)) c.args.file c.in-Err.fault c.of_table-in-Err.result
     (g.R.Reader.faults c.args.reader.now) (g.R.Reader.faults c.read_front.new.reader) c.of_table-in-Err.ensures.memory c.of_table-in-Err.ensures.table
     (λ other. front-bad c.deref.result.now l c.row_count.result c.len-len.result c.min.result c.args.lengths.now.items (g.L.Leaf.contents c.args.leaf.now) c.args.file c.in-Err.fault is (c.in-Err.ensures.fault other))
-    refl c.in_ok-read_front.ensures.quiet
+    c.in_ok-read_front.ensures.quiet
 
 pub returns-in_ok-of_table-in-Ok-clause-asked : goal.returns-in_ok-of_table-in-Ok-clause-asked
 returns-in_ok-of_table-in-Ok-clause-asked g c = record {

@@ -1,7 +1,9 @@
-use Rattle.std.proofs.Common.{refl, ap, sym, ◌∙◌, subst, arith, rules}
+use Rattle.std.proofs.Common.{refl, ap, sym, ◌∙◌, subst, arith, length, rules}
 use Rattle.idx_query.specs.declared.report.Report.{Report}
+use Rattle.idx_query.specs.Reads.{ReadsAtMost}
 use Rattle.idx_query.specs.Steps.{AreFound}
 use Rattle.idx_query.proofs.DoneLemmas.{came-post, done-bytes, done-first, done-more}
+use Rattle.idx_query.proofs.ReadsLemmas.{on_err, reads_till}
 use Rattle.idx_query.proofs.copying.copy_blocks.Goals as goal
 
 pub loop-i-init : goal.loop-i-init
@@ -33,3 +35,12 @@ loop-i-preserved g c =
           (g.R.Reader.reads c.args.reader.now) (g.R.Reader.reads c.loop-i.reader) (g.R.Reader.reads c.copy_key.new.reader) c.args.loading.now c.loop-i.loading c.copy_key.new.loading
           c.loop-i.report c.in_ok-report.report c.loop-i.out c.copy_key.new.out before.done came.came;
     }
+
+pub returns-in_err-report-clause-few_reads : goal.returns-in_err-report-clause-few_reads
+returns-in_err-report-clause-few_reads g c =
+    let start = g.R.Reader.reads c.args.reader.now in
+    let now = g.R.Reader.reads c.loop-i.reader in
+    let after = g.R.Reader.reads c.copy_key.new.reader in
+    on_err c.from_residual.result (ReadsAtMost start after (length c.args.plan.now.keys))
+    (reads_till c.args.plan.now c.args.field (g.E.Blocks.has c.args.edition.now c.args.field) (g.E.Blocks.stored c.args.edition.now) c.args.looked.now.found c.loop-i.i
+    start now after c.args.loading.now c.loop-i.loading c.loop-i.report c.loop-i.out c.loop-i.invariant.done (search rules) c.in_err-report.ensures.few_reads)

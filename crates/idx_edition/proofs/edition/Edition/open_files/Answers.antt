@@ -1,4 +1,4 @@
-use Rattle.std.proofs.Common.{◌≡◌, ℕ, ◌+◌, ◌*◌, ◌%◌, ◌^◌, ◌++◌, ◌∷◌, [], List, Some, length, length-append, refl, sym, ap, subst, ◌∙◌, arith}
+use Rattle.std.proofs.Common.{◌≡◌, ℕ, ◌+◌, ◌*◌, ◌%◌, ◌^◌, ◌≤◌, ◌++◌, ◌∷◌, [], List, Some, length, length-append, refl, sym, ap, subst, ◌∙◌, arith}
 use Rattle.std.specs.Prelude.{IfSome, Option, slice_get}
 use Rattle.std.specs.Option.{ForSome}
 use Rattle.std.proofs.lemmas.List.{map-append}
@@ -10,8 +10,10 @@ use Rattle.idx_layout.specs.OfHeader.{layout_of}
 use Rattle.idx_edition.specs.Asked.{AskedAtMost}
 use Rattle.idx_edition.specs.Tables.{AreTablesOf, EndWithin, IsTable, RiseFrom, TablesValue, has_in_tables, shape_in, stored_in}
 use Rattle.idx_edition.specs.Loaded.{HoldSoFar, HoldsStored}
+use Rattle.idx_edition.specs.Reads.{ReadsFiles, ReadsOne, count_there, most_reads}
 use Rattle.idx_edition.proofs.AskedLemmas.{asked_more, asked_none}
 use Rattle.idx_edition.proofs.SoFarLemmas.{files_rise, no_tables, no_leaves, hold_none, hold_skip, hold_more, numbers_skip, numbers_more, tables_more, leaves_more, found_none, found_some, sound_since, reads_more}
+use Rattle.idx_edition.proofs.ReadsLemmas.{few_more, few_none, few_skip, is_there, on_err, reads_pushed, reads_with}
 use Rattle.idx_edition.proofs.HeldLemmas.{holds_stored}
 use Rattle.idx_edition.proofs.edition.Edition.open_files.Goals as goal
 
@@ -30,9 +32,12 @@ loop-file-init g c =
       files = refl;
       header = refl;
       admits = λ path admitted. admitted;
+      begun = refl;
       changes = refl;
+      failed = refl;
       quiet = refl;
       reader_quiet = refl;
+      few = few_none h c.args.time (g.B.Bay.files c.args.bay.now) c.into_iter-file-iterator.result (length c.new-leaves.result.items) all (ap length c.new-leaves.ensures.items);
       reads = omega (arith, ap length c.new-leaves.ensures.items);
       asked = subst (λ (n : ℕ). AskedAtMost (g.R.Reader.asked c.args.reader.now) (g.R.Reader.asked c.args.reader.now) (n * table_bytes (row_count (layout_of h)))) (sym (ap length c.new-leaves.ensures.items)) (asked_none (g.R.Reader.asked c.args.reader.now) (table_bytes (row_count (layout_of h))));
     }
@@ -59,9 +64,12 @@ loop-file-preserved-in_default g c =
       files = opened.files ∙ before.files;
       header = opened.header ∙ before.header;
       admits = λ path admitted. opened.admits path (before.admits path admitted);
+      begun = opened.begun ∙ before.begun;
       changes = opened.changes ∙ before.changes;
+      failed = opened.kept ∙ before.failed;
       quiet = opened.quiet ∙ before.quiet;
       reader_quiet = opened.reader_quiet ∙ before.reader_quiet;
+      few = few_skip h c.args.time since c.loop-file.file-iterator c.next.new.self file (length c.loop-file.leaves.items) first before.few;
       reads = ap (λ r. g.R.Reader.reads r % 2 ^ 64) read ∙ before.reads;
       asked = subst (λ r. AskedAtMost (g.R.Reader.asked c.args.reader.now) (g.R.Reader.asked r) (length c.loop-file.leaves.items * table_bytes (row_count (layout_of h)))) (sym read) before.asked;
     }
@@ -103,9 +111,16 @@ loop-file-preserved g c =
       files = opened.files ∙ before.files;
       header = opened.header ∙ before.header;
       admits = λ path admitted. opened.admits path (before.admits path admitted);
+      begun = opened.begun ∙ before.begun;
       changes = opened.changes ∙ before.changes;
+      failed = opened.kept ∙ before.failed;
       quiet = opened.quiet ∙ before.quiet;
       reader_quiet = opened.reader_quiet ∙ before.reader_quiet;
+      few = subst (λ (n : ℕ). n + count_there h c.args.time since c.next.new.self ≤ most_reads h c.args.time since) (sym (ap length leaves ∙ length-append c.loop-file.leaves.items (leaf ∷ [])))
+          (few_more h c.args.time since c.loop-file.file-iterator c.next.new.self file (length c.loop-file.leaves.items) first
+          (is_there h c.args.time since file (rows, entry_shown contents leaf)
+          (found_some h c.args.time file shows c.in_ok-found.found (rows, leaf) (g.B.Bay.files c.loop-file.bay) since is before.files opened.found))
+          before.few);
       reads = reads_more (g.R.Reader.reads c.args.reader.now) (g.R.Reader.reads c.loop-file.reader) (g.R.Reader.reads c.open_file.new.reader) (length c.loop-file.leaves.items) before.reads
           (found (λ _. g.R.Reader.reads c.open_file.new.reader ≡ (g.R.Reader.reads c.loop-file.reader + 1) % 2 ^ 64) opened.one_read)
           ∙ ap (λ n. (g.R.Reader.reads c.args.reader.now + n) % 2 ^ 64) (sym (ap length leaves ∙ length-append c.loop-file.leaves.items (leaf ∷ [])));
@@ -125,3 +140,79 @@ returns-clause-holds g c =
 pub returns-in_err-push-3-clause-admits : goal.returns-in_err-push-3-clause-admits
 returns-in_err-push-3-clause-admits g c = λ path admitted.
     c.in_ok-found.ensures.admits path (c.loop-file.invariant.admits path admitted)
+
+pub returns-in_err-found-clause-few_reads : goal.returns-in_err-found-clause-few_reads
+returns-in_err-found-clause-few_reads g c =
+    let h = c.args.header.now in
+    let since = g.B.Bay.files c.args.bay.now in
+    let before = c.loop-file.invariant in
+    let file = c.in-Some.file in
+    let start = g.R.Reader.reads c.args.reader.now in
+    let now = g.R.Reader.reads c.loop-file.reader in
+    let after = g.R.Reader.reads c.open_file.new.reader in
+    on_err c.from_residual-in_err-found.result (ReadsFiles h c.args.time since start after)
+    (reads_with h c.args.time since c.loop-file.file-iterator c.next.new.self file (length c.loop-file.leaves.items) start now after c.in-Some.ensures.steps before.few before.reads
+    (subst (λ k. ReadsOne h c.args.time k file now after) before.files c.in_err-found.ensures.few_reads))
+
+pub returns-in_err-push-clause-few_reads : goal.returns-in_err-push-clause-few_reads
+returns-in_err-push-clause-few_reads g c =
+    let h = c.args.header.now in
+    let contents = g.L.Leaf.contents in
+    let since = g.B.Bay.files c.args.bay.now in
+    let before = c.loop-file.invariant in
+    let opened = c.in_ok-found.ensures in
+    let file = c.in-Some.file in
+    let rows : List Row = c.in-Some-found.rows in
+    let leaf : List ℕ × g.row.L.Denot = c.in-Some-found.leaf in
+    let is = c.in-Some-found.is in
+    let shows : List Row × (List ℕ × g.row.L.Denot) → List Row × (List ℕ × Option (List ℕ)) = λ f. (f.0, entry_shown contents f.1) in
+    let start = g.R.Reader.reads c.args.reader.now in
+    let now = g.R.Reader.reads c.loop-file.reader in
+    let after = g.R.Reader.reads c.open_file.new.reader in
+    on_err c.from_residual-in_err-push.result (ReadsFiles h c.args.time since start after)
+    (reads_pushed h c.args.time since c.loop-file.file-iterator c.next.new.self file (length c.loop-file.leaves.items) start now after c.in-Some.ensures.steps before.few before.reads
+    (is_there h c.args.time since file (rows, entry_shown contents leaf)
+    (found_some h c.args.time file shows c.in_ok-found.found (rows, leaf) (g.B.Bay.files c.loop-file.bay) since is before.files opened.found))
+    (subst (λ o. IfSome o (λ _. after ≡ (now + 1) % 2 ^ 64)) is opened.one_read))
+
+pub returns-in_err-push-2-clause-few_reads : goal.returns-in_err-push-2-clause-few_reads
+returns-in_err-push-2-clause-few_reads g c =
+    let h = c.args.header.now in
+    let contents = g.L.Leaf.contents in
+    let since = g.B.Bay.files c.args.bay.now in
+    let before = c.loop-file.invariant in
+    let opened = c.in_ok-found.ensures in
+    let file = c.in-Some.file in
+    let rows : List Row = c.in-Some-found.rows in
+    let leaf : List ℕ × g.row.L.Denot = c.in-Some-found.leaf in
+    let is = c.in-Some-found.is in
+    let shows : List Row × (List ℕ × g.row.L.Denot) → List Row × (List ℕ × Option (List ℕ)) = λ f. (f.0, entry_shown contents f.1) in
+    let start = g.R.Reader.reads c.args.reader.now in
+    let now = g.R.Reader.reads c.loop-file.reader in
+    let after = g.R.Reader.reads c.open_file.new.reader in
+    on_err c.from_residual-in_err-push-2.result (ReadsFiles h c.args.time since start after)
+    (reads_pushed h c.args.time since c.loop-file.file-iterator c.next.new.self file (length c.loop-file.leaves.items) start now after c.in-Some.ensures.steps before.few before.reads
+    (is_there h c.args.time since file (rows, entry_shown contents leaf)
+    (found_some h c.args.time file shows c.in_ok-found.found (rows, leaf) (g.B.Bay.files c.loop-file.bay) since is before.files opened.found))
+    (subst (λ o. IfSome o (λ _. after ≡ (now + 1) % 2 ^ 64)) is opened.one_read))
+
+pub returns-in_err-push-3-clause-few_reads : goal.returns-in_err-push-3-clause-few_reads
+returns-in_err-push-3-clause-few_reads g c =
+    let h = c.args.header.now in
+    let contents = g.L.Leaf.contents in
+    let since = g.B.Bay.files c.args.bay.now in
+    let before = c.loop-file.invariant in
+    let opened = c.in_ok-found.ensures in
+    let file = c.in-Some.file in
+    let rows : List Row = c.in-Some-found.rows in
+    let leaf : List ℕ × g.row.L.Denot = c.in-Some-found.leaf in
+    let is = c.in-Some-found.is in
+    let shows : List Row × (List ℕ × g.row.L.Denot) → List Row × (List ℕ × Option (List ℕ)) = λ f. (f.0, entry_shown contents f.1) in
+    let start = g.R.Reader.reads c.args.reader.now in
+    let now = g.R.Reader.reads c.loop-file.reader in
+    let after = g.R.Reader.reads c.open_file.new.reader in
+    on_err c.from_residual-in_err-push-3.result (ReadsFiles h c.args.time since start after)
+    (reads_pushed h c.args.time since c.loop-file.file-iterator c.next.new.self file (length c.loop-file.leaves.items) start now after c.in-Some.ensures.steps before.few before.reads
+    (is_there h c.args.time since file (rows, entry_shown contents leaf)
+    (found_some h c.args.time file shows c.in_ok-found.found (rows, leaf) (g.B.Bay.files c.loop-file.bay) since is before.files opened.found))
+    (subst (λ o. IfSome o (λ _. after ≡ (now + 1) % 2 ^ 64)) is opened.one_read))
