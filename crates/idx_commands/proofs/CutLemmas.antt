@@ -3,7 +3,7 @@ use Rattle.std.proofs.Common.{◌≡◌, ◌≢◌, ◌⊎◌, ℕ, ◌<◌, Lis
 use Rattle.idx_outside.specs.Cause.{NeverFalls, Rose}
 use Rattle.idx_outside.specs.Objects.{UsesOnly}
 use Rattle.idx_words.specs.declared.cut_words.CutWords.{CutWords}
-use Rattle.idx_words.specs.CutGrammar.{IsSound, volume_bytes}
+use Rattle.idx_words.specs.CutGrammar.{IsSound}
 use Rattle.idx_raw.specs.Cut as cuts
 use Rattle.idx_commands.specs.declared.causes.Cause.{Cause}
 use Rattle.idx_commands.specs.declared.causes.Cause.TheVariants as causes
@@ -38,17 +38,17 @@ module _ {V K : Type 0} (c : CutWords) (raws : RawsSeen V) (sink : SinkSeen K) w
   other_size : (cause : Cause) → Means cause → HasOtherSize c (raw_bytes raws) →
       (status_of cause ≡ 3) ⊎ (status_of cause ≡ 4)
   other_size causes.Done m other =
-      absurd (both_hold (raw_bytes raws) _ _ (lengths_differ (volume_bytes c)) m.0 other)
+      absurd (both_hold (raw_bytes raws) _ _ (lengths_differ (cuts.volume_bytes (cut_of c))) m.0 other)
   other_size (causes.RawWrongSize want found) m other = inl refl
   other_size causes.RawFault m other = inr refl
   other_size causes.SinkFault m other =
-      absurd (both_hold (raw_bytes raws) _ _ (lengths_differ (volume_bytes c)) m.0 other)
+      absurd (both_hold (raw_bytes raws) _ _ (lengths_differ (cuts.volume_bytes (cut_of c))) m.0 other)
   other_size causes.NoMemory m other =
-      absurd (both_hold (raw_bytes raws) _ _ (lengths_differ (volume_bytes c)) m.0 other)
+      absurd (both_hold (raw_bytes raws) _ _ (lengths_differ (cuts.volume_bytes (cut_of c))) m.0.0 other)
   other_size _ m other = absurd m
 
-  found_right : (want found : ℕ) → want ≡ volume_bytes c → found ≢ want → (bytes : List ℕ) → found ≡ length bytes →
-      length bytes ≡ volume_bytes c → ⊥
+  found_right : (want found : ℕ) → want ≡ cuts.volume_bytes (cut_of c) → found ≢ want → (bytes : List ℕ) → found ≡ length bytes →
+      length bytes ≡ cuts.volume_bytes (cut_of c) → ⊥
   found_right want found asks other bytes same right = other (same ∙ right ∙ sym asks)
 
   complete : (cause : Cause) → Means cause → HasRightSize c (raw_bytes raws) →
@@ -56,7 +56,7 @@ module _ {V K : Type 0} (c : CutWords) (raws : RawsSeen V) (sink : SinkSeen K) w
       (status_of cause ≡ 0) ⊎ (status_of cause ≡ 11)
   complete causes.Done m right quiet taken = inl refl
   complete (causes.RawWrongSize want found) m right quiet taken =
-      absurd (both_hold (raw_bytes raws) _ _ (found_right want found m.0 m.1) m.2 right)
+      absurd (both_hold (raw_bytes raws) _ _ (found_right want found m.0.0 m.0.1) m.0.2 right)
   complete causes.RawFault m right quiet taken = absurd (quiet m.0)
   complete causes.SinkFault m right quiet taken = absurd (taken m.1)
   complete causes.NoMemory m right quiet taken = inr refl
@@ -64,7 +64,7 @@ module _ {V K : Type 0} (c : CutWords) (raws : RawsSeen V) (sink : SinkSeen K) w
 
   pub cut_silent : (cause : Cause) → Means cause → status_of cause ≢ 0 → status_of cause ≢ 9 → sink.new ≡ sink.old
   cut_silent causes.Done m zero nine = absurd (zero refl)
-  cut_silent (causes.RawWrongSize want found) m zero nine = m.3
+  cut_silent (causes.RawWrongSize want found) m zero nine = m.1
   cut_silent causes.RawFault m zero nine = m.1
   cut_silent causes.SinkFault m zero nine = absurd (nine refl)
   cut_silent causes.NoMemory m zero nine = m.1

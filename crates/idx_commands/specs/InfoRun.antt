@@ -1,13 +1,13 @@
 -- How a run of `info` ends, by what is seen of the bay and of the sink.
-use Rattle.std.specs.Prelude.{◌≡◌, ◌≢◌, ◌⊎◌, ℕ, ◌<◌, List, Option, Some, IfSome, IsErr, IsOk, IsSomeAnd, Ok, Err}
+use Rattle.std.specs.Prelude.{◌≡◌, ◌≢◌, ◌⊎◌, ℕ, ◌<◌, List, Option, Some, IfSome, IsErr, IsOk, IsSomeAnd, Ok}
 use Rattle.idx_outside.specs.Cause.{NeverFalls, Rose}
 use Rattle.idx_outside.specs.Contents.{appended, AppendsPrefix}
 use Rattle.idx_outside.specs.declared.bay_call.BayCall.TheVariants as calls
-use Rattle.idx_header.specs.declared.header_kind.HeaderKind.TheVariants as kinds
 use Rattle.idx_header.specs.declared.header_refusal.HeaderRefusal.{HeaderRefusal}
 use Rattle.idx_header.specs.declared.header_refusal.HeaderRefusal.TheVariants as refusals
 use Rattle.idx_header.specs.Header.{HeaderValue}
 use Rattle.idx_header.specs.HeaderOf.{header_of}
+use Rattle.idx_header.specs.OfBay.{IsFaultOf, IsRefusal}
 use Rattle.idx_commands.specs.declared.causes.Cause.{Cause}
 use Rattle.idx_commands.specs.declared.causes.Cause.TheVariants as causes
 use Rattle.idx_commands.specs.Cause.{status_of}
@@ -32,12 +32,11 @@ cause_of_refusal (refusals.Fault line kind) = causes.Header line kind
 cause_of_refusal refusals.Outage = causes.StoreFault
 cause_of_refusal refusals.NoMemory = causes.NoMemory
 
--- Why a bay gives no header: what is known of its header text, and its counts of faults before and after.
+-- Why a bay gives no header, by the cause: what is known of its header text, and its counts of faults before and after.
 abbrev pub GivesNone : Option (List ℕ) → ℕ → ℕ → Cause → Type 0
-GivesNone known before after (causes.Header line kind) =
-    (kind ≢ kinds.NoMemory) × IfSome known (λ text. header_of text ≡ Err (record { line = line; kind = kind }))
-GivesNone known before after causes.StoreFault = Rose before after
-GivesNone known before after causes.NoMemory = Unit {0}
+GivesNone known before after (causes.Header line kind) = IsRefusal IsFaultOf known before after (refusals.Fault line kind)
+GivesNone known before after causes.StoreFault = IsRefusal IsFaultOf known before after refusals.Outage
+GivesNone known before after causes.NoMemory = IsRefusal IsFaultOf known before after refusals.NoMemory
 GivesNone known before after _ = ⊥
 
 -- what each cause says; no other cause comes
