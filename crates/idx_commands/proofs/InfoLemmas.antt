@@ -64,8 +64,6 @@ module _ {B K : Type 0} (bay : BaySeen B) (sink : SinkSeen K) where
         sink_answered = sink_answered;
         failed = failed;
         none_failed = none_failed;
-        header = header;
-        files = files;
         unchanged = record { header = header; files = files; begun = begun; changes = changes };
         bay_count = bay_count;
         sink_count = sink_count;

@@ -65,9 +65,7 @@ pub record InfoEnds {B K : Type 0} (bay : BaySeen B) (sink : SinkSeen K) (cause 
   -- the call for the header is the only one of the bay that may have failed
   pub failed : status_of cause ≡ 5 → bay.failed bay.new ≡ Some calls.Header
   pub none_failed : status_of cause ≢ 5 → bay.failed bay.new ≡ bay.failed bay.old
-  -- the header text and the committed files stay, the bay was not changed, and no count fell
-  pub header : bay.header bay.new ≡ bay.header bay.old
-  pub files : bay.files bay.new ≡ bay.files bay.old
+  -- the bay was not changed, its header text and its committed files among it, and no count fell
   pub unchanged : IsUnchanged bay
   pub bay_count : NeverFalls (bay_before bay) (bay_after bay)
   pub sink_count : NeverFalls (sink_before sink) (sink_after sink)
