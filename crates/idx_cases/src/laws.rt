@@ -37,6 +37,7 @@ pub fn ask_twice<V: Source, B: Bay, R: Reader<B::Leaf>, K: Sink>(
     ensures raws { SameContents V.contents raws.old.items raws.new.items }
     ensures header { B.header bay.new ≡ B.header bay.old }
     ensures files { B.files bay.new ≡ B.files bay.old }
+    ensures changes { B.changes bay.new ≡ B.changes bay.old }
 {
     let before = run(alloc, words, raws, bay, readers, first);
     let after = run(alloc, words, raws, bay, readers, second);
