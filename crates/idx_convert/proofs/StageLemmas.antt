@@ -1,36 +1,56 @@
--- A cause of a refusal, by other words for the same dataset.
-use Rattle.std.proofs.Common.{◌≡◌, ℕ, List, subst}
-use Rattle.std.specs.Prelude.{Option, Some, None, IfSome}
-use Rattle.idx_outside.specs.declared.mem_file.MemFile.{MemFile}
-use Rattle.idx_header.specs.Header.{HeaderValue}
+-- What the stages of a conversion say, for the whole of it.
+use Rattle.std.proofs.Common.{◌≡◌, ◌≢◌, ℕ, List, Option, Ok, Err, inl, refl, sym, subst, arith}
+use Rattle.std.specs.Prelude.{Result, IfErr}
 use Rattle.idx_convert.specs.declared.convert_fault.ConvertFault.{ConvertFault}
 use Rattle.idx_convert.specs.declared.convert_fault.ConvertFault.TheVariants as faults
-use Rattle.idx_convert.specs.Stages.{IsStop}
+use Rattle.idx_convert.specs.Convert.{Ends, IsCause, IsEarly, LeavesAsked, LeavesFailed, LeavesFiles, LeavesHeader}
+use Rattle.idx_convert.specs.Known.{KeepsBay, Known}
 
--- a cause in a text that stands is one in what is known of it
-pub IsStop-known : (h : HeaderValue) (step : ℕ) (standing : Option (List ℕ)) (text : List ℕ) (files : Option (List MemFile)) (raw : Option (List ℕ)) (raw_before raw_after before after : ℕ) (fault : ConvertFault) →
-    IfSome standing (λ known. text ≡ known) → IsStop h step (Some text) files raw raw_before raw_after before after fault →
-    IsStop h step standing files raw raw_before raw_after before after fault
-IsStop-known h step (Some known) text files raw raw_before raw_after before after fault same stop =
-    subst (λ t. IsStop h step (Some t) files raw raw_before raw_after before after fault) same stop
-IsStop-known h step None text files raw raw_before raw_after before after (faults.Header line kind) same stop = (stop.0, tt)
-IsStop-known h step None text files raw raw_before raw_after before after faults.NoStep same stop = stop
-IsStop-known h step None text files raw raw_before raw_after before after (faults.TooLarge bytes) same stop = stop
-IsStop-known h step None text files raw raw_before raw_after before after faults.OtherHeader same stop = tt
-IsStop-known h step None text files raw raw_before raw_after before after faults.AlreadyPublished same stop = (tt, stop.1)
-IsStop-known h step None text files raw raw_before raw_after before after (faults.RawWrongSize want found) same stop =
-    (record { suits = tt; new = stop.0.new }, stop.1, stop.2, stop.3)
-IsStop-known h step None text files raw raw_before raw_after before after faults.RawFault same stop =
-    (record { suits = tt; new = stop.0.new }, stop.1)
-IsStop-known h step None text files raw raw_before raw_after before after faults.StoreFault same stop = stop
-IsStop-known h step None text files raw raw_before raw_after before after faults.NoMemory same stop = tt
+-- A fault that comes late is none that can be known before the first change.
+pub late_only : {T : Type 0} (P : Type 0) (result : Result T ConvertFault) (raw later : Option (List ℕ)) → later ≡ raw →
+    IfErr result (λ fault. ¬ IsEarly later fault) → IfErr result (λ fault. IsEarly raw fault → P)
+late_only P (Ok done) raw later same late = tt
+late_only P (Err fault) raw later same late = λ early. absurd (late (subst (λ r. IsEarly r fault) (sym same) early))
 
--- the same of equal values
-pub IsStop-along : (h : HeaderValue) (step : ℕ) (standing standing' : Option (List ℕ)) (files files' : Option (List MemFile)) (raw : Option (List ℕ)) (raw_before raw_after before before' after : ℕ) (fault : ConvertFault) →
-    standing ≡ standing' → files ≡ files' → before ≡ before' →
-    IsStop h step standing files raw raw_before raw_after before after fault →
-    IsStop h step standing' files' raw raw_before raw_after before' after fault
-IsStop-along h step standing standing' files files' raw raw_before raw_after before before' after fault by_standing by_files by_before stop =
-    subst (λ b. IsStop h step standing' files' raw raw_before raw_after b after fault) by_before
-    (subst (λ f. IsStop h step standing' f raw raw_before raw_after before after fault) by_files
-    (subst (λ s. IsStop h step s files raw raw_before raw_after before after fault) by_standing stop))
+module _ (text : List ℕ) (step : ℕ) (k : Known) where
+  header_kept : (fault : ConvertFault) → k.header_after ≡ k.header → LeavesHeader text k fault
+  header_kept (faults.RawWrongSize want found) same = inl same
+  header_kept faults.RawFault same = inl same
+  header_kept faults.StoreFault same = inl same
+  header_kept faults.NoMemory same = inl same
+  header_kept fault same = same
+
+  files_kept : (fault : ConvertFault) → k.files_after ≡ k.files → LeavesFiles text step k fault
+  files_kept faults.StoreFault same = inl same
+  files_kept fault same = same
+
+  none_asked : (fault : ConvertFault) → k.asked_after ≡ k.asked_before → LeavesAsked text step k fault
+  none_asked faults.RawFault same = inl same
+  none_asked faults.StoreFault same = inl same
+  none_asked faults.NoMemory same = inl same
+  none_asked fault same = same
+
+  none_failed : (fault : ConvertFault) → ◌≢◌ {A = Result (Unit {0}) ConvertFault} (Err fault) (Err faults.StoreFault) → k.failed_after ≡ k.failed →
+      LeavesFailed {T = Unit {0}} text step k (Err fault)
+  none_failed faults.StoreFault other same = absurd (other refl)
+  none_failed fault other same = same
+
+  -- A refusal before anything is asked of the raw volume or of the bay.
+  pub asked_ends : (fault : ConvertFault) → IsCause text step k fault → ◌≢◌ {A = Result (Unit {0}) ConvertFault} (Err fault) (Err faults.StoreFault) →
+      KeepsBay k → k.asked_after ≡ k.asked_before → k.failed_after ≡ k.failed → k.raw_after ≡ k.raw_before → k.bay_after ≡ k.bay_before →
+      Ends {T = Unit {0}} text step k (Err fault)
+  asked_ends fault cause other keeps unasked unfailed raw_same bay_same =
+      record {
+        converted = tt;
+        cause = cause;
+        header = header_kept fault keeps.header;
+        files = files_kept fault keeps.files;
+        early = λ _. keeps;
+        asked = none_asked fault unasked;
+        unasked = λ _. unasked;
+        begun = inl keeps.begun;
+        failed = none_failed fault other unfailed;
+        raw_answered = λ more. absurd (omega (arith, raw_same, more));
+        store_answered = λ more. absurd (omega (arith, bay_same, more));
+        count = omega (arith, bay_same);
+      }

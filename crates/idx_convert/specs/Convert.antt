@@ -1,17 +1,20 @@
--- What converting a raw volume promises: by the header text that is asked for, the step, what is known of the header text
--- that stands, of the committed files and of the raw volume, and the counts of faults.
-use Rattle.std.specs.Prelude.{◌≡◌, ◌≢◌, ◌⊎◌, ℕ, ◌^◌, ◌<◌, ◌≤◌, List, [], ◌∷◌, length, Option, Some, None, IfSome, IsSomeAnd, Ok, Err}
-use Rattle.idx_outside.specs.Cause.{Rose}
-use Rattle.idx_outside.specs.Files.{HasStep as HasCommitted}
+-- What converting a raw volume promises: by the header text that is asked for, the step, and what is known of the raw volume
+-- and of the bay before and after.
+use Rattle.std.specs.Prelude.{◌≡◌, ◌≢◌, ◌⊎◌, ℕ, ◌^◌, ◌<◌, ◌≤◌, List, [], ◌∷◌, length, Option, Some, None, IfSome, IsSome, IsSomeAnd, Result, Ok, Err, OnOk, IfErr}
+use Rattle.idx_outside.specs.Cause.{AskedFor, NeverFalls, Rose}
+use Rattle.idx_outside.specs.Files.{known_with, HasStep as HasCommitted}
+use Rattle.idx_outside.specs.declared.bay_call.BayCall.{BayCall}
+use Rattle.idx_outside.specs.declared.bay_call.BayCall.TheVariants as calls
 use Rattle.idx_outside.specs.declared.mem_file.MemFile.{MemFile}
-use Rattle.idx_header.specs.declared.header_kind.HeaderKind.{HeaderKind}
 use Rattle.idx_header.specs.declared.header_kind.HeaderKind.TheVariants as kinds
 use Rattle.idx_header.specs.Header.{HeaderValue, Agree, volume_bytes}
 use Rattle.idx_header.specs.HeaderOf.{header_of}
 use Rattle.idx_header.specs.Names.{step_folder}
-use Rattle.idx_gather.specs.Gather.{HasFolder, HasVolume, SomeStepAdded}
+use Rattle.idx_header.specs.OfBay.{IsFaultOf, IsFaultOfSome}
+use Rattle.idx_gather.specs.Gather.{HasFolder, HasVolume, LacksVolume, SomeStepAdded}
 use Rattle.idx_convert.specs.declared.convert_fault.ConvertFault.{ConvertFault}
 use Rattle.idx_convert.specs.declared.convert_fault.ConvertFault.TheVariants as faults
+use Rattle.idx_convert.specs.Known.{KeepsBay, Known}
 
 -- The text is that of this header, which has a time and this step, and whose samples take at most 2^30 bytes.
 pub record AsksFor (text : List ℕ) (step : ℕ) (h : HeaderValue) : Type 0 where
@@ -26,10 +29,6 @@ Suits h standing = (standing ≡ []) ⊎ ((other : HeaderValue) × ((header_of s
 -- A header stands, and its text is that of one that does not agree with this one.
 abbrev pub Differs : HeaderValue → List ℕ → Type 0
 Differs h standing = (standing ≢ []) × ((other : HeaderValue) × ((header_of standing ≡ Ok other) × (¬ Agree other h)))
-
--- A header stands, and its text is refused: on this line stands this fault.
-abbrev pub IsRefused : List ℕ → ℕ → HeaderKind → Type 0
-IsRefused standing line kind = (standing ≢ []) × (header_of standing ≡ Err (record { line = line; kind = kind }))
 
 -- no committed step has the folder of this step
 abbrev pub IsNew : HeaderValue → ℕ → List MemFile → Type 0
@@ -50,16 +49,6 @@ put_where_none text None = None
 put_where_none text (Some []) = Some text
 put_where_none text (Some (byte ∷ bytes)) = Some (byte ∷ bytes)
 
--- The step was written: all was as it has to be, exactly the files of the step were added, and the header text was put where
--- none stood.
-pub record Converted (text : List ℕ) (step : ℕ) (standing now : Option (List ℕ)) (files new : Option (List MemFile)) (raw : Option (List ℕ)) : Type 0 where
-  pub header : HeaderValue
-  pub asked : AsksFor text step header
-  pub taken : Takes header step standing files
-  pub size : HasVolume header raw
-  pub added : SomeStepAdded header step raw files new
-  pub put : now ≡ put_where_none text standing
-
 -- The text asks for a step of a header of which this holds.
 abbrev pub Asks : List ℕ → ℕ → (HeaderValue → Type 0) → Type 0
 Asks text step P = (h : HeaderValue) × (AsksFor text step h × P h)
@@ -68,51 +57,131 @@ Asks text step P = (h : HeaderValue) × (AsksFor text step h × P h)
 abbrev pub Reads : List ℕ → (HeaderValue → Type 0) → Type 0
 Reads text P = (h : HeaderValue) × ((header_of text ≡ Ok h) × P h)
 
--- What each fault says. Behind the text and the step there is what is known of the header text that stands, of the committed
--- files, and of the raw volume; then the counts of the raw volume and of the bay, before and after.
-abbrev pub IsCause : List ℕ → ℕ → Option (List ℕ) → Option (List MemFile) → Option (List ℕ) → ℕ → ℕ → ℕ → ℕ → ConvertFault → Type 0
-IsCause text step standing files raw raw_before raw_after before after (faults.Header line kind) =
+-- The folder that was last begun is that of the step, known where the committed files are.
+abbrev pub Begins : HeaderValue → ℕ → Known → Type 0
+Begins h step k = IsSomeAnd (step_folder h step) (λ folder. k.begun_after ≡ known_with k.files folder)
+
+-- The step was written: all was as it has to be, exactly the files of the step were added, and the header text was put where
+-- none stood. For that the step was begun, and exactly one volume's bytes were asked of the raw volume.
+pub record Converted (text : List ℕ) (step : ℕ) (k : Known) : Type 0 where
+  pub header : HeaderValue
+  pub asked : AsksFor text step header
+  pub taken : Takes header step k.header k.files
+  pub size : HasVolume header k.raw
+  pub added : SomeStepAdded header step k.raw k.files k.files_after
+  pub put : k.header_after ≡ put_where_none text k.header
+  pub begun : Begins header step k
+  pub read : AskedFor k.asked_before k.asked_after (volume_bytes header)
+
+-- What each fault says.
+abbrev pub IsCause : List ℕ → ℕ → Known → ConvertFault → Type 0
+IsCause text step k (faults.Header line kind) =
     (kind ≢ kinds.NoMemory)
-    × ((header_of text ≡ Err (record { line = line; kind = kind }))
-    ⊎ Asks text step (λ h. IfSome standing (λ known. IsRefused known line kind)))
-IsCause text step standing files raw raw_before raw_after before after faults.NoStep =
-    Reads text (λ h. ¬ HasFolder h step)
-IsCause text step standing files raw raw_before raw_after before after (faults.TooLarge bytes) =
+    × (IsFaultOf text line kind
+    ⊎ Asks text step (λ h. IfSome k.header (λ known. IsFaultOfSome known line kind)))
+IsCause text step k faults.NoStep = Reads text (λ h. ¬ HasFolder h step)
+IsCause text step k (faults.TooLarge bytes) =
     Reads text (λ h. HasFolder h step × (bytes ≡ volume_bytes h) × (2 ^ 30 < bytes))
-IsCause text step standing files raw raw_before raw_after before after faults.OtherHeader =
-    Asks text step (λ h. IfSome standing (Differs h))
-IsCause text step standing files raw raw_before raw_after before after faults.AlreadyPublished =
-    Asks text step (λ h. IfSome standing (Suits h) × IfSome files (Stands h step))
-IsCause text step standing files raw raw_before raw_after before after (faults.RawWrongSize want found) =
-    Asks text step (λ h. Takes h step standing files
-    × (want ≡ volume_bytes h) × (found ≢ want) × IfSome raw (λ bytes. found ≡ length bytes))
-IsCause text step standing files raw raw_before raw_after before after faults.RawFault =
-    Asks text step (λ h. Takes h step standing files × Rose raw_before raw_after)
-IsCause text step standing files raw raw_before raw_after before after faults.StoreFault =
-    Asks text step (λ h. Rose before after)
-IsCause text step standing files raw raw_before raw_after before after faults.NoMemory = Unit {0}
+IsCause text step k faults.OtherHeader = Asks text step (λ h. IfSome k.header (Differs h))
+IsCause text step k faults.AlreadyPublished =
+    Asks text step (λ h. IfSome k.header (Suits h) × IfSome k.files (Stands h step))
+IsCause text step k (faults.RawWrongSize want found) =
+    Asks text step (λ h. Takes h step k.header k.files
+    × (want ≡ volume_bytes h) × (found ≢ want) × IfSome k.raw (λ bytes. found ≡ length bytes))
+IsCause text step k faults.RawFault = Asks text step (λ h. Takes h step k.header k.files × Rose k.raw_before k.raw_after)
+IsCause text step k faults.StoreFault = Asks text step (λ h. Rose k.bay_before k.bay_after)
+IsCause text step k faults.NoMemory = Unit {0}
 
 -- What each fault leaves of the header text. What can be known before the header is put leaves it as it was; of a raw volume
 -- whose bytes are not known, the length may be another when it is asked again.
-abbrev pub LeavesHeader : List ℕ → Option (List ℕ) → Option (List ℕ) → Option (List ℕ) → ConvertFault → Type 0
-LeavesHeader text raw old new (faults.RawWrongSize want found) =
-    (new ≡ old) ⊎ ((raw ≡ None) × (new ≡ put_where_none text old))
-LeavesHeader text raw old new faults.RawFault = (new ≡ old) ⊎ (new ≡ put_where_none text old)
-LeavesHeader text raw old new faults.StoreFault = (new ≡ old) ⊎ (new ≡ put_where_none text old)
-LeavesHeader text raw old new faults.NoMemory = (new ≡ old) ⊎ (new ≡ put_where_none text old)
-LeavesHeader text raw old new fault = new ≡ old
+abbrev pub LeavesHeader : List ℕ → Known → ConvertFault → Type 0
+LeavesHeader text k (faults.RawWrongSize want found) =
+    (k.header_after ≡ k.header) ⊎ ((k.raw ≡ None) × (k.header_after ≡ put_where_none text k.header))
+LeavesHeader text k faults.RawFault = (k.header_after ≡ k.header) ⊎ (k.header_after ≡ put_where_none text k.header)
+LeavesHeader text k faults.StoreFault = (k.header_after ≡ k.header) ⊎ (k.header_after ≡ put_where_none text k.header)
+LeavesHeader text k faults.NoMemory = (k.header_after ≡ k.header) ⊎ (k.header_after ≡ put_where_none text k.header)
+LeavesHeader text k fault = k.header_after ≡ k.header
 
 -- What each fault leaves of the committed files: they are those from before. A store's fault may come of the commit itself,
 -- which then may have added the step: whole, where all is as at success.
-abbrev pub LeavesFiles : List ℕ → ℕ → Option (List ℕ) → Option (List ℕ) → Option (List ℕ) → Option (List MemFile) → Option (List MemFile) → ConvertFault → Type 0
-LeavesFiles text step raw standing now old new faults.StoreFault = (new ≡ old) ⊎ Converted text step standing now old new raw
-LeavesFiles text step raw standing now old new fault = new ≡ old
+abbrev pub LeavesFiles : List ℕ → ℕ → Known → ConvertFault → Type 0
+LeavesFiles text step k faults.StoreFault = (k.files_after ≡ k.files) ⊎ Converted text step k
+LeavesFiles text step k fault = k.files_after ≡ k.files
 
--- The fault is one of what is asked for and of what stands: it comes before the raw volume is asked and the step is begun.
-abbrev pub IsEarly : ConvertFault → Type 0
-IsEarly (faults.Header line kind) = Unit {0}
-IsEarly faults.NoStep = Unit {0}
-IsEarly (faults.TooLarge bytes) = Unit {0}
-IsEarly faults.OtherHeader = Unit {0}
-IsEarly faults.AlreadyPublished = Unit {0}
-IsEarly fault = ⊥
+-- The fault can be known before the first change: it is one of what is asked for, of what stands, or of the length of a raw
+-- volume whose bytes are known.
+abbrev pub IsEarly : Option (List ℕ) → ConvertFault → Type 0
+IsEarly raw (faults.Header line kind) = Unit {0}
+IsEarly raw faults.NoStep = Unit {0}
+IsEarly raw (faults.TooLarge bytes) = Unit {0}
+IsEarly raw faults.OtherHeader = Unit {0}
+IsEarly raw faults.AlreadyPublished = Unit {0}
+IsEarly raw (faults.RawWrongSize want found) = IsSome raw
+IsEarly raw fault = ⊥
+
+-- At most one volume's bytes, and no others, were asked of the raw volume.
+abbrev pub AsksOnce : List ℕ → ℕ → Known → Type 0
+AsksOnce text step k =
+    (k.asked_after ≡ k.asked_before) ⊎ Asks text step (λ h. AskedFor k.asked_before k.asked_after (volume_bytes h))
+
+-- How many bytes each fault leaves asked of the raw volume: none, or those of one volume where it may have been read.
+abbrev pub LeavesAsked : List ℕ → ℕ → Known → ConvertFault → Type 0
+LeavesAsked text step k faults.RawFault = AsksOnce text step k
+LeavesAsked text step k faults.StoreFault = AsksOnce text step k
+LeavesAsked text step k faults.NoMemory = AsksOnce text step k
+LeavesAsked text step k fault = k.asked_after ≡ k.asked_before
+
+-- All that can be known before the first change is as it has to be.
+abbrev pub IsRight : HeaderValue → ℕ → Known → Type 0
+IsRight h step k = Takes h step k.header k.files × HasVolume h k.raw
+
+-- The header text stands that was to stand.
+abbrev pub HasPut : List ℕ → Known → Type 0
+HasPut text k = k.header_after ≡ put_where_none text k.header
+
+-- What the call of the bay that failed tells, in the order of the calls: the header that stands and the step are asked for
+-- first, and only then the bay is changed, by putting the header text, beginning the step, making its files and giving up a
+-- draft, and by the commit, which alone may have added the step. No leaf is asked for.
+abbrev pub IsFailedCall : List ℕ → ℕ → Known → Option BayCall → Type 0
+IsFailedCall text step k (Some calls.Header) = KeepsBay k
+IsFailedCall text step k (Some calls.HasStep) = KeepsBay k × Asks text step (λ h. IfSome k.header (Suits h))
+IsFailedCall text step k (Some calls.SetHeader) =
+    (k.files_after ≡ k.files) × (k.begun_after ≡ k.begun) × Asks text step (λ h. IsRight h step k)
+IsFailedCall text step k (Some calls.BeginStep) =
+    (k.files_after ≡ k.files) × (k.begun_after ≡ k.begun) × HasPut text k × Asks text step (λ h. IsRight h step k)
+IsFailedCall text step k (Some calls.Create) =
+    (k.files_after ≡ k.files) × HasPut text k × Asks text step (λ h. IsRight h step k × Begins h step k)
+IsFailedCall text step k (Some calls.Retire) =
+    (k.files_after ≡ k.files) × HasPut text k × Asks text step (λ h. IsRight h step k × Begins h step k)
+IsFailedCall text step k (Some calls.Commit) =
+    ((k.files_after ≡ k.files) ⊎ Converted text step k)
+    × HasPut text k × Asks text step (λ h. IsRight h step k × Begins h step k)
+IsFailedCall text step k (Some calls.Leaf) = ⊥
+IsFailedCall text step k None = ⊥
+
+-- Which call of the bay counted the last fault: at a fault of the store one of this conversion, and else the one from before.
+abbrev pub LeavesFailed : {T : Type 0} → List ℕ → ℕ → Known → Result T ConvertFault → Type 0
+LeavesFailed text step k (Err faults.StoreFault) = IsFailedCall text step k k.failed_after
+LeavesFailed text step k result = k.failed_after ≡ k.failed
+
+-- How a conversion ends with this answer.
+pub record Ends {T : Type 0} (text : List ℕ) (step : ℕ) (k : Known) (result : Result T ConvertFault) : Type 0 where
+  -- the step was added, and the header text put where none stood
+  pub converted : OnOk result (Converted text step k)
+  -- each refusal has its cause, and leaves the header text and the committed files as its definition says
+  pub cause : IfErr result (IsCause text step k)
+  pub header : IfErr result (LeavesHeader text k)
+  pub files : IfErr result (LeavesFiles text step k)
+  -- what can be known before the first change leaves the bay unchanged
+  pub early : IfErr result (λ fault. IsEarly k.raw fault → KeepsBay k)
+  -- a refusal leaves at most one volume's bytes asked of the raw volume, and none where it is known to have another length
+  pub asked : IfErr result (LeavesAsked text step k)
+  pub unasked : Asks text step (λ h. LacksVolume h k.raw) → k.asked_after ≡ k.asked_before
+  -- no step is begun but the one that is asked for
+  pub begun : (k.begun_after ≡ k.begun) ⊎ Asks text step (λ h. Begins h step k)
+  -- the calls of the bay come in their order, as the one that failed tells
+  pub failed : LeavesFailed text step k result
+  -- a fault that was counted is answered, and no count falls
+  pub raw_answered : k.raw_before < k.raw_after → result ≡ Err faults.RawFault
+  pub store_answered : k.bay_before < k.bay_after → result ≡ Err faults.StoreFault
+  pub count : NeverFalls k.bay_before k.bay_after

@@ -1,2 +1,3 @@
 pub mod Convert
+pub mod Known
 pub mod Stages

@@ -1,14 +1,15 @@
-ghost use Rattle.std.specs.Prelude.{◌≡◌, ◌⊎◌, ◌↔◌, ◌<◌, [], IsTrue, OnErr, OnOk, Some, vec_len};
+ghost use Rattle.std.specs.Prelude.{◌≡◌, ◌⊎◌, ◌↔◌, ◌<◌, [], IsTrue, IfErr, OnErr, OnOk, Some, is_ok, vec_len};
 ghost use Rattle.std.specs.Option.{ForSome};
+ghost use Rattle.idx_outside.specs.Calls.{last_failed};
 ghost use Rattle.idx_outside.specs.Cause.{NeverFalls, Rose};
-ghost use Rattle.idx_outside.specs.Objects.{contents_at, faults_at, UsesOnly};
+ghost use Rattle.idx_outside.specs.Objects.{contents_at, UsesOnly};
+ghost use Rattle.idx_outside.specs.declared.bay_call.BayCall.{BayCall};
 ghost use Rattle.idx_header.specs.Names.{step_folder};
 ghost use Rattle.idx_gather.specs.Gather.{HasVolume};
-ghost use Rattle.idx_convert.specs.Convert.{AsksFor, Takes, put_where_none};
-ghost use Rattle.idx_convert.specs.Stages.{Ends};
+ghost use Rattle.idx_convert.specs.Convert.{AsksFor, Ends, IsEarly, Takes, put_where_none};
+ghost use Rattle.idx_convert.specs.Known.{known_of};
 
 use crate::ConvertFault;
-use crate::faults::cause_of_gather;
 use crate::place::Place;
 use idx_gather::gather;
 use idx_header::Header;
@@ -31,10 +32,9 @@ pub(crate) fn add_step<V: Source, B: Bay>(
     requires size { HasVolume header.now (contents_at V.contents raws.old.items 0) }
     requires folder { step_folder header.now step ≡ Some place.now.folder }
     requires none { ForSome (B.header bay.old) (λ text. IsTrue place.now.no_header ↔ (text ≡ [])) }
-    ensures ends { Ends text.now step (B.header bay.old) (B.header bay.new) (B.files bay.old) (B.files bay.new)
-        (contents_at V.contents raws.old.items 0)
-        (faults_at V.faults raws.old.items 0) (faults_at V.faults raws.new.items 0)
-        (B.faults bay.old) (B.faults bay.new) result }
+    ensures ends { Ends text.now step (known_of V.contents V.asked V.faults raws.old.items raws.new.items
+        B.header B.files B.begun B.changes B.failed B.faults bay.old bay.new) result }
+    ensures late { IfErr result (λ fault. ¬ IsEarly (contents_at V.contents raws.old.items 0) fault) }
     ensures raws { UsesOnly V.contents V.faults 0 raws.old.items raws.new.items }
 {
     let Ok(()) = put_header(text, place.no_header, bay) else {
@@ -43,10 +43,8 @@ pub(crate) fn add_step<V: Source, B: Bay>(
     let Ok(()) = bay.begin_step(place.folder.as_slice()) else {
         return Err(ConvertFault::StoreFault);
     };
-    match gather(alloc, header, step, raws, bay, &FreeGate) {
-        Ok(_) => Ok(()),
-        Err(fault) => Err(cause_of_gather(fault)),
-    }
+    gather(alloc, header, step, raws, bay, &FreeGate)?;
+    Ok(())
 }
 
 /// Puts the header's text if none stands.
@@ -56,6 +54,8 @@ fn put_header<B: Bay>(text: &[u8], no_header: bool, bay: &mut B) -> Result<(), O
     ensures refused { OnErr result ((B.header bay.new ≡ B.header bay.old)
         ⊎ (B.header bay.new ≡ put_where_none text.now (B.header bay.old))) }
     ensures files { B.files bay.new ≡ B.files bay.old }
+    ensures begun { B.begun bay.new ≡ B.begun bay.old }
+    ensures failed { B.failed bay.new ≡ last_failed BayCall.SetHeader (is_ok result) (B.failed bay.old) }
     ensures count { NeverFalls (B.faults bay.old) (B.faults bay.new) }
     ensures quiet { OnOk result (B.faults bay.new ≡ B.faults bay.old) }
     ensures cause { OnErr result (Rose (B.faults bay.old) (B.faults bay.new)) }

@@ -1,10 +1,9 @@
-ghost use Rattle.std.specs.Prelude.{◌≡◌, ◌↔◌, IfErr, IfOk, IsTrue, Option, List, ℕ};
-ghost use Rattle.idx_outside.specs.declared.mem_file.MemFile.{MemFile};
+ghost use Rattle.std.specs.Prelude.{◌≢◌, ◌↔◌, Err, IfErr, IfOk, IsTrue};
 ghost use Rattle.idx_gather.specs.Gather.{HasFolder};
 ghost use Rattle.idx_convert.specs.Convert.{AsksFor, IsCause};
+ghost use Rattle.idx_convert.specs.Known.{Known};
 
 use crate::ConvertFault;
-use crate::faults::cause_of_header;
 use idx_header::Header;
 use std::alloc::Global;
 
@@ -15,14 +14,10 @@ pub const MAX_VOLUME: u64 = 1 << 30;
 /// in the cause of a refusal.
 pub(crate) fn asked_header(alloc: Global, text: &[u8], step: u64) -> Result<Header, ConvertFault>
     ensures asked { IfOk result (λ header. AsksFor text.now step header) }
-    ensures cause { (standing : Option (List ℕ)) (files : Option (List MemFile)) (raw : Option (List ℕ))
-        (raw_before raw_after before after : ℕ) →
-        IfErr result (IsCause text.now step standing files raw raw_before raw_after before after) }
+    ensures cause { (k : Known) → IfErr result (IsCause text.now step k) }
+    ensures only { result ≢ Err ConvertFault.StoreFault }
 {
-    let header = match Header::read(alloc, text) {
-        Ok(header) => header,
-        Err(fault) => return Err(cause_of_header(fault)),
-    };
+    let header = Header::read(alloc, text)?;
     if !has_folder(&header, step) {
         return Err(ConvertFault::NoStep);
     }

@@ -1,8 +1,8 @@
-ghost use Rattle.std.specs.Prelude.{◌≡◌, ◌<◌, Err, IfErr, OnOk, vec_len};
-ghost use Rattle.idx_outside.specs.Cause.{NeverFalls};
+ghost use Rattle.std.specs.Prelude.{◌<◌, IfErr, vec_len};
 ghost use Rattle.idx_outside.specs.Files.{StillAdmits};
-ghost use Rattle.idx_outside.specs.Objects.{contents_at, faults_at, UsesOnly};
-ghost use Rattle.idx_convert.specs.Convert.{Converted, IsCause, IsEarly, LeavesFiles, LeavesHeader};
+ghost use Rattle.idx_outside.specs.Objects.{contents_at, UsesOnly};
+ghost use Rattle.idx_convert.specs.Convert.{Ends, IsEarly};
+ghost use Rattle.idx_convert.specs.Known.{known_of};
 
 use crate::ConvertFault;
 use crate::adding::add_step;
@@ -26,38 +26,18 @@ pub fn convert<V: Source, B: Bay>(
 ) -> Result<(), ConvertFault>
     requires some { 0 < vec_len raws.old }
 
-    // The step was added, and the header text put where none stood.
-    ensures converted { OnOk result (Converted text.now step (B.header bay.old) (B.header bay.new)
-        (B.files bay.old) (B.files bay.new) (contents_at V.contents raws.old.items 0)) }
+    // How it ends, by what is known of the first raw volume and of the bay: each promise is a field of the record.
+    ensures ends { Ends text.now step (known_of V.contents V.asked V.faults raws.old.items raws.new.items
+        B.header B.files B.begun B.changes B.failed B.faults bay.old bay.new) result }
 
-    // Each refusal has its cause, and leaves the header text and the committed files as its definition says.
-    ensures cause { IfErr result (IsCause text.now step (B.header bay.old) (B.files bay.old)
-        (contents_at V.contents raws.old.items 0)
-        (faults_at V.faults raws.old.items 0) (faults_at V.faults raws.new.items 0)
-        (B.faults bay.old) (B.faults bay.new)) }
-    ensures header { IfErr result (LeavesHeader text.now (contents_at V.contents raws.old.items 0)
-        (B.header bay.old) (B.header bay.new)) }
-    ensures files { IfErr result (LeavesFiles text.now step (contents_at V.contents raws.old.items 0)
-        (B.header bay.old) (B.header bay.new) (B.files bay.old) (B.files bay.new)) }
+    // Where the fault can be known before the first change, the bay still admits the drafts that it did.
+    ensures admits { IfErr result (λ fault. IsEarly (contents_at V.contents raws.old.items 0) fault →
+        StillAdmits B.admits bay.old bay.new) }
 
-    // What can be known of the header and of what stands is known before a step is begun.
-    ensures begun { IfErr result (λ fault. IsEarly fault → StillAdmits B.admits bay.old bay.new) }
-
-    // A fault that was counted is answered.
-    ensures raw_answered { faults_at V.faults raws.old.items 0 < faults_at V.faults raws.new.items 0 →
-        result ≡ Err ConvertFault.RawFault }
-    ensures store_answered { B.faults bay.old < B.faults bay.new → result ≡ Err ConvertFault.StoreFault }
-
+    // What is known of the raw volumes' bytes stays, and none but the first was touched.
     ensures raws { UsesOnly V.contents V.faults 0 raws.old.items raws.new.items }
-    ensures count { NeverFalls (B.faults bay.old) (B.faults bay.new) }
 {
-    let header = match asked_header(alloc, text, step) {
-        Ok(header) => header,
-        Err(fault) => return Err(fault),
-    };
-    let place = match find_place(alloc, &header, step, raws, bay) {
-        Ok(place) => place,
-        Err(fault) => return Err(fault),
-    };
+    let header = asked_header(alloc, text, step)?;
+    let place = find_place(alloc, &header, step, raws, bay)?;
     add_step(alloc, text, step, &header, &place, raws, bay)
 }

@@ -1,13 +1,11 @@
-ghost use Rattle.std.specs.Prelude.{◌≡◌, ◌↔◌, ◌<◌, [], IfErr, IfOk, IfSome, IsTrue, OnOk, Option, Some, Err, List, ℕ, vec_len};
+ghost use Rattle.std.specs.Prelude.{◌≡◌, ◌≢◌, ◌↔◌, ◌<◌, [], IfErr, IfOk, IfSome, IsTrue, OnOk, Some, Err, ℕ, vec_len};
 ghost use Rattle.std.specs.Option.{ForSome};
-ghost use Rattle.idx_outside.specs.Cause.{NeverFalls};
-ghost use Rattle.idx_outside.specs.Files.{StillAdmits};
 ghost use Rattle.idx_outside.specs.Objects.{contents_at, faults_at, UsesOnly};
-ghost use Rattle.idx_outside.specs.declared.mem_file.MemFile.{MemFile};
 ghost use Rattle.idx_header.specs.Names.{step_folder};
 ghost use Rattle.idx_gather.specs.Gather.{HasFolder, HasVolume};
 ghost use Rattle.idx_convert.specs.Convert.{IsNew, Suits, Takes};
-ghost use Rattle.idx_convert.specs.Stages.{IsStop};
+ghost use Rattle.idx_convert.specs.Known.{Known, known_of};
+ghost use Rattle.idx_convert.specs.Stages.{IsStop, OnlyLooks, with_bay, with_raw};
 
 use crate::ConvertFault;
 use crate::standing::check_standing;
@@ -22,7 +20,7 @@ pub(crate) struct Place {
     pub(crate) no_header: bool,
 }
 
-/// The place of a step that the dataset takes, of a raw volume that has the right length.
+/// The place of a step that the dataset takes, of a raw volume that has the right length. Nothing is changed for it.
 pub(crate) fn find_place<V: Source, B: Bay>(
     alloc: Global,
     header: &Header,
@@ -36,36 +34,23 @@ pub(crate) fn find_place<V: Source, B: Bay>(
     ensures size { OnOk result (HasVolume header.now (contents_at V.contents raws.old.items 0)) }
     ensures folder { IfOk result (λ place. step_folder header.now step ≡ Some place.folder) }
     ensures none { IfOk result (λ place. IfSome (B.header bay.old) (λ text. IsTrue place.no_header ↔ (text ≡ []))) }
-    ensures cause { IfErr result (IsStop header.now step (B.header bay.old) (B.files bay.old)
-        (contents_at V.contents raws.old.items 0)
-        (faults_at V.faults raws.old.items 0) (faults_at V.faults raws.new.items 0)
-        (B.faults bay.old) (B.faults bay.new)) }
+    ensures cause { IfErr result (IsStop header.now step
+        (known_of V.contents V.asked V.faults raws.old.items raws.new.items
+        B.header B.files B.begun B.changes B.failed B.faults bay.old bay.new)) }
+    ensures looks { OnlyLooks B.header B.files B.begun B.changes B.failed B.admits B.faults bay.old bay.new result }
     ensures raw_answered { faults_at V.faults raws.old.items 0 < faults_at V.faults raws.new.items 0 →
         result ≡ Err ConvertFault.RawFault }
-    ensures store_answered { B.faults bay.old < B.faults bay.new → result ≡ Err ConvertFault.StoreFault }
     ensures raw_quiet { OnOk result (faults_at V.faults raws.new.items 0 ≡ faults_at V.faults raws.old.items 0) }
-    ensures quiet { OnOk result (B.faults bay.new ≡ B.faults bay.old) }
+    ensures asked { faults_at V.asked raws.new.items 0 ≡ faults_at V.asked raws.old.items 0 }
     ensures raws { UsesOnly V.contents V.faults 0 raws.old.items raws.new.items }
-    ensures header { B.header bay.new ≡ B.header bay.old }
-    ensures files { B.files bay.new ≡ B.files bay.old }
-    ensures admits { StillAdmits B.admits bay.old bay.new }
-    ensures count { NeverFalls (B.faults bay.old) (B.faults bay.new) }
 {
-    let no_header = match check_standing(alloc, header, bay) {
-        Ok(no_header) => no_header,
-        Err(fault) => return Err(fault),
-    };
-    let folder = match new_folder(alloc, header, step, bay) {
-        Ok(folder) => folder,
-        Err(fault) => return Err(fault),
-    };
-    match check_size(header, raws) {
-        Ok(()) => Ok(Place { folder, no_header }),
-        Err(fault) => Err(fault),
-    }
+    let no_header = check_standing(alloc, header, bay)?;
+    let folder = new_folder(alloc, header, step, bay)?;
+    check_size(header, raws)?;
+    Ok(Place { folder, no_header })
 }
 
-/// The folder of a step that does not stand yet.
+/// The folder of a step that does not stand yet. Nothing else has a part in the cause of a refusal.
 fn new_folder<B: Bay>(
     alloc: Global,
     header: &Header,
@@ -76,15 +61,9 @@ fn new_folder<B: Bay>(
     requires suits { ForSome (B.header bay.old) (Suits header.now) }
     ensures folder { IfOk result (λ folder. step_folder header.now step ≡ Some folder) }
     ensures new { OnOk result (IfSome (B.files bay.old) (IsNew header.now step)) }
-    ensures cause { (raw : Option (List ℕ)) (raw_before raw_after : ℕ) →
-        IfErr result (IsStop header.now step (B.header bay.old) (B.files bay.old) raw raw_before raw_after
-        (B.faults bay.old) (B.faults bay.new)) }
-    ensures answered { B.faults bay.old < B.faults bay.new → result ≡ Err ConvertFault.StoreFault }
-    ensures quiet { OnOk result (B.faults bay.new ≡ B.faults bay.old) }
-    ensures header { B.header bay.new ≡ B.header bay.old }
-    ensures files { B.files bay.new ≡ B.files bay.old }
-    ensures admits { StillAdmits B.admits bay.old bay.new }
-    ensures count { NeverFalls (B.faults bay.old) (B.faults bay.new) }
+    ensures cause { (k : Known) → IfErr result (IsStop header.now step
+        (with_bay (B.header bay.old) (B.files bay.old) (B.failed bay.new) (B.faults bay.old) (B.faults bay.new) k)) }
+    ensures looks { OnlyLooks B.header B.files B.begun B.changes B.failed B.admits B.faults bay.old bay.new result }
 {
     let Ok(folder) = header.step_folder(alloc, step) else {
         return Err(ConvertFault::NoMemory);
@@ -102,13 +81,14 @@ fn new_folder<B: Bay>(
 fn check_size<V: Source>(header: &Header, raws: &mut Vec<V>) -> Result<(), ConvertFault>
     requires { 0 < vec_len raws.old }
     ensures size { OnOk result (HasVolume header.now (contents_at V.contents raws.old.items 0)) }
-    ensures cause { (step : ℕ) (standing : Option (List ℕ)) (files : Option (List MemFile)) (before after : ℕ) →
-        Takes header.now step standing files → IfErr result (IsStop header.now step standing files
-        (contents_at V.contents raws.old.items 0)
-        (faults_at V.faults raws.old.items 0) (faults_at V.faults raws.new.items 0) before after) }
+    ensures cause { (step : ℕ) (k : Known) → Takes header.now step k.header k.files →
+        IfErr result (IsStop header.now step (with_raw (contents_at V.contents raws.old.items 0)
+        (faults_at V.faults raws.old.items 0) (faults_at V.faults raws.new.items 0) k)) }
+    ensures only { result ≢ Err ConvertFault.StoreFault }
     ensures answered { faults_at V.faults raws.old.items 0 < faults_at V.faults raws.new.items 0 →
         result ≡ Err ConvertFault.RawFault }
     ensures quiet { OnOk result (faults_at V.faults raws.new.items 0 ≡ faults_at V.faults raws.old.items 0) }
+    ensures asked { faults_at V.asked raws.new.items 0 ≡ faults_at V.asked raws.old.items 0 }
     ensures raws { UsesOnly V.contents V.faults 0 raws.old.items raws.new.items }
 {
     let want = header.volume_bytes();
