@@ -35,8 +35,8 @@ abbrev pub IsNew : HeaderValue → ℕ → List MemFile → Type 0
 IsNew h step files = IfSome (step_folder h step) (λ folder. ¬ HasCommitted folder files)
 
 -- some committed step has it
-abbrev pub Stands : HeaderValue → ℕ → List MemFile → Type 0
-Stands h step files = IsSomeAnd (step_folder h step) (λ folder. HasCommitted folder files)
+abbrev pub IsTaken : HeaderValue → ℕ → List MemFile → Type 0
+IsTaken h step files = IsSomeAnd (step_folder h step) (λ folder. HasCommitted folder files)
 
 -- The dataset, as far as it is known, takes the step: what stands suits the header, and the step is new.
 pub record Takes (h : HeaderValue) (step : ℕ) (standing : Option (List ℕ)) (files : Option (List MemFile)) : Type 0 where
@@ -84,7 +84,7 @@ IsCause text step k (faults.TooLarge bytes) =
     Reads text (λ h. HasFolder h step × (bytes ≡ volume_bytes h) × (2 ^ 30 < bytes))
 IsCause text step k faults.OtherHeader = Asks text step (λ h. IfSome k.header (Differs h))
 IsCause text step k faults.AlreadyPublished =
-    Asks text step (λ h. IfSome k.header (Suits h) × IfSome k.files (Stands h step))
+    Asks text step (λ h. IfSome k.header (Suits h) × IfSome k.files (IsTaken h step))
 IsCause text step k (faults.RawWrongSize want found) =
     Asks text step (λ h. Takes h step k.header k.files
     × (want ≡ volume_bytes h) × (found ≢ want) × IfSome k.raw (λ bytes. found ≡ length bytes))

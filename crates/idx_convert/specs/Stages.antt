@@ -14,7 +14,7 @@ use Rattle.idx_gather.specs.declared.gather_fault.GatherFault.{GatherFault}
 use Rattle.idx_gather.specs.declared.gather_fault.GatherFault.TheVariants as gather_faults
 use Rattle.idx_convert.specs.declared.convert_fault.ConvertFault.{ConvertFault}
 use Rattle.idx_convert.specs.declared.convert_fault.ConvertFault.TheVariants as faults
-use Rattle.idx_convert.specs.Convert.{Suits, Differs, Stands, Takes}
+use Rattle.idx_convert.specs.Convert.{Suits, Differs, IsTaken, Takes}
 use Rattle.idx_convert.specs.Known.{Known}
 
 -- the fault that is answered where a bay gives no header
@@ -44,7 +44,7 @@ IsStop h step k (faults.Header line kind) =
 IsStop h step k faults.NoStep = ⊥
 IsStop h step k (faults.TooLarge bytes) = ⊥
 IsStop h step k faults.OtherHeader = IfSome k.header (Differs h)
-IsStop h step k faults.AlreadyPublished = IfSome k.header (Suits h) × IfSome k.files (Stands h step)
+IsStop h step k faults.AlreadyPublished = IfSome k.header (Suits h) × IfSome k.files (IsTaken h step)
 IsStop h step k (faults.RawWrongSize want found) =
     Takes h step k.header k.files × (want ≡ volume_bytes h) × (found ≢ want) × IfSome k.raw (λ bytes. found ≡ length bytes)
 IsStop h step k faults.RawFault = Takes h step k.header k.files × Rose k.raw_before k.raw_after
