@@ -18,9 +18,9 @@ use Rattle.idx_layout.specs.OfHeader.{layout_of}
 use Rattle.idx_layout.specs.Shape.{block_lengths}
 use Rattle.idx_edition.specs.Stored.{block_in, fault_of_file, file_of_block, first_bad, found_file, has_block, has_in, row_in, stored_block}
 use Rattle.idx_edition.specs.Tables.{TablesValue, all_known, bytes_by, bytes_in, has_in_tables, is_there, row_among, row_for, shape_in, stored_in, tables_of, value_at, with_known}
-use Rattle.idx_edition.specs.Loaded.{HoldSoFar, HoldsStored, leaf_at, number_at, rows_at}
+use Rattle.idx_edition.specs.Loaded.{HoldsStored, leaf_at, number_at, rows_at}
 use Rattle.idx_edition.proofs.LookupLemmas.{place_in_file, place_within}
-use Rattle.idx_edition.proofs.SoFarLemmas.{completed}
+use Rattle.idx_edition.proofs.SoFarLemmas.{HoldSoFar, completed}
 
 -- ---- what stands at a number
 -- the number is one of these

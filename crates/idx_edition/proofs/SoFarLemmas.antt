@@ -16,9 +16,22 @@ use Rattle.idx_layout.specs.Files.{row_count}
 use Rattle.idx_layout.specs.OfHeader.{layout_of}
 use Rattle.idx_edition.specs.Stored.{fault_of_file, first_bad}
 use Rattle.idx_edition.specs.Tables.{AreTablesOf, EndWithin, IsTable, RiseFrom}
-use Rattle.idx_edition.specs.Loaded.{Completes, Counts, HoldSoFar, IsCause, found_table, leaf_at, number_at, rows_at, table_at}
+use Rattle.idx_edition.specs.Loaded.{Counts, IsCause, found_table, leaf_at, number_at, rows_at, table_at}
 use Rattle.idx_edition.specs.declared.load_fault.LoadFault.{LoadFault}
 use Rattle.idx_edition.specs.declared.load_fault.LoadFault.TheVariants.{BadTable, StoreFault, NoMemory}
+
+-- what a function gives of the items that are left completes the list to what it gives of all
+abbrev pub Completes : {X : Type 0} → (ℕ → Option X) → List ℕ → List ℕ → List X → Type 0
+Completes f all left done = done ++ filter_map f left ≡ filter_map f all
+
+-- The numbers, tables and files so far are those of the files of the step before the ones that are left, and none of these
+-- had a faulty row.
+pub record HoldSoFar (h : HeaderValue) (step : ℕ) (files : List MemFile) (left : List ℕ) (numbers : List ℕ)
+    (tables : List (List Row)) (leaves : List (List ℕ × Option (List ℕ))) : Type 0 where
+  pub number : Completes (number_at h step files) (file_numbers (layout_of h)) left numbers
+  pub table : Completes (rows_at h step files) (file_numbers (layout_of h)) left tables
+  pub leaf : Completes (leaf_at h step files) (file_numbers (layout_of h)) left leaves
+  pub sound : slice_get (filter_map (fault_of_file h step files) left) 0 ≡ first_bad h step files
 
 -- ---- numbers that rise
 rise_lower : (a b : ℕ) (xs : List ℕ) → b ≤ a → RiseFrom a xs → RiseFrom b xs

@@ -1,7 +1,6 @@
 -- What an edition is, and what loading one promises.
 use Rattle.std.specs.Prelude.{◌≡◌, ◌≢◌, ◌⊎◌, ℕ, Bool, ◌<◌, List, ◌++◌, length, map, slice_get, slice_index, Option, Some, None, IfSome}
 use Rattle.std.specs.Option.{option_map, ForSome}
-use Rattle.std.specs.List.{filter_map}
 use Rattle.idx_geom.specs.Region.{points}
 use Rattle.idx_geom.specs.Volume.{IsVolume}
 use Rattle.idx_outside.specs.Cause.{Rose}
@@ -14,10 +13,10 @@ use Rattle.idx_table.specs.Table.{rows_of}
 use Rattle.idx_table.specs.declared.row.Row.{Row}
 use Rattle.idx_header.specs.Header.{HeaderValue}
 use Rattle.idx_header.specs.Names.{file_name}
-use Rattle.idx_layout.specs.Layout.{block_of_samples, file_numbers}
+use Rattle.idx_layout.specs.Layout.{block_of_samples}
 use Rattle.idx_layout.specs.Files.{file_bytes, row_count}
 use Rattle.idx_layout.specs.OfHeader.{layout_of}
-use Rattle.idx_edition.specs.Stored.{Stands, fault_of_file, first_bad, found_files, has_block, stored_block}
+use Rattle.idx_edition.specs.Stored.{Stands, first_bad, found_files, has_block, stored_block}
 use Rattle.idx_edition.specs.declared.load_fault.LoadFault.{LoadFault}
 use Rattle.idx_edition.specs.declared.load_fault.LoadFault.TheVariants.{BadTable, StoreFault, NoMemory}
 
@@ -129,16 +128,3 @@ rows_at h step files file = option_map (λ bytes. rows_of bytes (row_count (layo
 
 abbrev pub leaf_at : HeaderValue → ℕ → List MemFile → ℕ → Option (List ℕ × Option (List ℕ))
 leaf_at h step files file = option_map (λ bytes. (file_name h step file, Some bytes)) (file_at (file_name h step file) files)
-
--- what a function gives of the items that are left completes the list to what it gives of all
-abbrev pub Completes : {X : Type 0} → (ℕ → Option X) → List ℕ → List ℕ → List X → Type 0
-Completes f all left done = done ++ filter_map f left ≡ filter_map f all
-
--- The numbers, tables and files so far are those of the files of the step before the ones that are left, and none of these
--- had a faulty row.
-pub record HoldSoFar (h : HeaderValue) (step : ℕ) (files : List MemFile) (left : List ℕ) (numbers : List ℕ)
-    (tables : List (List Row)) (leaves : List (List ℕ × Option (List ℕ))) : Type 0 where
-  pub number : Completes (number_at h step files) (file_numbers (layout_of h)) left numbers
-  pub table : Completes (rows_at h step files) (file_numbers (layout_of h)) left tables
-  pub leaf : Completes (leaf_at h step files) (file_numbers (layout_of h)) left leaves
-  pub sound : slice_get (filter_map (fault_of_file h step files) left) 0 ≡ first_bad h step files

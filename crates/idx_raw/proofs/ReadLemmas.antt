@@ -10,7 +10,7 @@ use Rattle.idx_stride.specs.Strides.{Walk, offsets_of, end_of, reach}
 use Rattle.idx_stride.proofs.BoundLemmas.{IsAmong, offsets-among}
 use Rattle.idx_stride.proofs.DenseLemmas.{samples_at-dense}
 use Rattle.idx_stride.proofs.SamplesLemmas.{samples_at-append}
-use Rattle.idx_raw.specs.Reads.{AreSamples, LiesIn}
+use Rattle.idx_raw.specs.Reads.{AreSamples, FitsIn}
 
 pub OnOk-weaker : {T E : Type 0} (r : Result T E) (P Q : Type 0) → (P → Q) → OnOk r P → OnOk r Q
 OnOk-weaker (Ok x) P Q f h = f h
@@ -72,8 +72,8 @@ AreSamples-halves contents w a b x y h first second =
     ] in
     by_contents first second
 
-pub LiesIn-part : (contents : Option (List ℕ)) (w p : Walk) → IsPart w p → LiesIn contents w → LiesIn contents p
-LiesIn-part contents w p h whole = λ bytes known. omega (arith, whole bytes known, h.within)
+pub FitsIn-part : (contents : Option (List ℕ)) (w p : Walk) → IsPart w p → FitsIn contents w → FitsIn contents p
+FitsIn-part contents w p h whole = λ bytes known. omega (arith, whole bytes known, h.within)
 
 -- the room behind a part that was read
 pub length_behind : (n : ℕ) (front out : List ℕ) → length front ≡ n → n ≤ length out → n + length (take (length (front ++ drop n out) - n) (drop n (front ++ drop n out))) ≡ length out

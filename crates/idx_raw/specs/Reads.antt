@@ -4,9 +4,9 @@ use Rattle.std.specs.Option.{ForSome}
 use Rattle.idx_stride.specs.Places.{samples_at}
 use Rattle.idx_stride.specs.Strides.{Walk, offsets_of, end_of}
 
--- where the bytes of the volume are known, the walk lies within
-abbrev pub LiesIn : Option (List ℕ) → Walk → Type 0
-LiesIn contents w = ForSome contents (λ bytes. end_of w ≤ length bytes)
+-- where the bytes of the volume are known, the walk ends within them
+abbrev pub FitsIn : Option (List ℕ) → Walk → Type 0
+FitsIn contents w = ForSome contents (λ bytes. end_of w ≤ length bytes)
 
 -- where the bytes of the volume are known, these are the walk's samples
 abbrev pub AreSamples : Option (List ℕ) → Walk → List ℕ → Type 0

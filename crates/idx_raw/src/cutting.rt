@@ -1,7 +1,7 @@
 ghost use Rattle.std.specs.Prelude.{◌≡◌, ◌<◌, ◌≤◌, Err, IfErr, IfOk, IfSome, OnOk};
 ghost use Rattle.idx_outside.specs.Cause.{NeverFalls, Rose};
 ghost use Rattle.idx_raw.specs.Cut.{HasOtherSize, HasSize, IsCause, IsSound, IsWrongSize, cut_output};
-ghost use Rattle.idx_raw.specs.Reads.{AreSamples, LiesIn};
+ghost use Rattle.idx_raw.specs.Reads.{AreSamples, FitsIn};
 
 use crate::read::read_samples;
 use crate::read_fault::ReadFault;
@@ -75,7 +75,7 @@ fn read_answer<V: Source>(alloc: Global, cut: &Cut, raw: &mut V) -> Result<Vec<u
 
 /// Reads the samples of a walk.
 fn read_walk<V: Source>(alloc: Global, strides: &Strides, raw: &mut V) -> Result<Vec<u8>, ReadFault>
-    requires within { LiesIn (V.contents raw.old) strides.now }
+    requires within { FitsIn (V.contents raw.old) strides.now }
     requires few { strides.now.size ≤ 64 }
     ensures read { IfOk result (λ samples. AreSamples (V.contents raw.old) strides.now samples.items) }
     ensures contents { V.contents raw.new ≡ V.contents raw.old }

@@ -1,6 +1,6 @@
 ghost use Rattle.std.specs.Prelude.{◌≡◌, ◌*◌, ◌<◌, ◌≤◌, Err, List, OnErr, OnOk, length};
 ghost use Rattle.idx_outside.specs.Cause.{Rose};
-ghost use Rattle.idx_raw.specs.Reads.{AreSamples, LiesIn, span_of};
+ghost use Rattle.idx_raw.specs.Reads.{AreSamples, FitsIn, span_of};
 ghost use Rattle.idx_stride.specs.Places.{progression};
 ghost use Rattle.idx_stride.specs.Strides.{offsets_of};
 
@@ -19,7 +19,7 @@ pub(crate) fn read_samples<V: Source>(
     out: &mut [u8],
 ) -> Result<(), ReadFault>
     requires room { length out.old ≡ length (offsets_of strides.now) * strides.now.size }
-    requires within { LiesIn (V.contents raw.old) strides.now }
+    requires within { FitsIn (V.contents raw.old) strides.now }
     ensures read { OnOk result (AreSamples (V.contents raw.old) strides.now out.new) }
     ensures contents { V.contents raw.new ≡ V.contents raw.old }
     ensures quiet { OnOk result (V.faults raw.new ≡ V.faults raw.old) }
@@ -46,7 +46,7 @@ fn read_part<V: Source>(
     out: &mut [u8],
 ) -> Result<(), Outage>
     requires room { length out.old ≡ length (offsets_of strides.now) * strides.now.size }
-    requires within { LiesIn (V.contents raw.old) strides.now }
+    requires within { FitsIn (V.contents raw.old) strides.now }
     requires window { strides.now.size ≤ length window.old }
     ensures read { OnOk result (AreSamples (V.contents raw.old) strides.now out.new) }
     ensures contents { V.contents raw.new ≡ V.contents raw.old }
@@ -76,7 +76,7 @@ fn read_dense<V: Source>(strides: &Strides, raw: &mut V, out: &mut [u8]) -> Resu
         progression strides.now.base strides.now.size (length (offsets_of strides.now)) }
     requires some { 0 < length (offsets_of strides.now) }
     requires room { length out.old ≡ length (offsets_of strides.now) * strides.now.size }
-    requires within { LiesIn (V.contents raw.old) strides.now }
+    requires within { FitsIn (V.contents raw.old) strides.now }
     ensures read { OnOk result (AreSamples (V.contents raw.old) strides.now out.new) }
     ensures contents { V.contents raw.new ≡ V.contents raw.old }
     ensures quiet { OnOk result (V.faults raw.new ≡ V.faults raw.old) }
@@ -93,7 +93,7 @@ fn read_by_window<V: Source>(
     out: &mut [u8],
 ) -> Result<(), Outage>
     requires room { length out.old ≡ length (offsets_of strides.now) * strides.now.size }
-    requires within { LiesIn (V.contents raw.old) strides.now }
+    requires within { FitsIn (V.contents raw.old) strides.now }
     requires window { span_of strides.now ≤ length window.old }
     ensures read { OnOk result (AreSamples (V.contents raw.old) strides.now out.new) }
     ensures contents { V.contents raw.new ≡ V.contents raw.old }

@@ -2,8 +2,8 @@ use Rattle.std.proofs.Common.{◌≡◌, ℕ, ◌+◌, ◌-◌, ◌*◌, List, �
 use borrow.Rule.Slice.PartMut.{put_mid}
 use Rattle.idx_stride.specs.Parts.{AreHalves}
 use Rattle.idx_stride.specs.Strides.{Walk, offsets_of}
-use Rattle.idx_raw.specs.Reads.{AreSamples, LiesIn}
-use Rattle.idx_raw.proofs.ReadLemmas.{OnOk-weaker, AreSamples-halves, LiesIn-part, length_behind, put_behind, halves_room}
+use Rattle.idx_raw.specs.Reads.{AreSamples, FitsIn}
+use Rattle.idx_raw.proofs.ReadLemmas.{OnOk-weaker, AreSamples-halves, FitsIn-part, length_behind, put_behind, halves_room}
 use Rattle.idx_raw.proofs.read.+read_part.Goals as goal
 
 pub read_part-requires-in-Some : goal.read_part-requires-in-Some
@@ -22,7 +22,7 @@ read_part-requires-in-Some g t c κs within =
         (
           omega (arith, room, length_behind n c.read_part.new.out c.args.out.now read (omega arith)),
           (
-            subst (λ (o : Option (List ℕ)). LiesIn o behind) (sym c.in_ok-read_part-in-Some.ensures.contents) (LiesIn-part (g.V.Source.contents c.args.raw.now) w behind h.second_part c.requires.within),
+            subst (λ (o : Option (List ℕ)). FitsIn o behind) (sym c.in_ok-read_part-in-Some.ensures.contents) (FitsIn-part (g.V.Source.contents c.args.raw.now) w behind h.second_part c.requires.within),
             omega (arith, c.requires.window, h.second_part.size, c.read_part.auto.window),
           ),
         ),

@@ -9,10 +9,10 @@ use Rattle.idx_layout.specs.Files.{row_count}
 use Rattle.idx_layout.specs.OfHeader.{layout_of}
 use Rattle.idx_edition.specs.Asked.{AskedAtMost}
 use Rattle.idx_edition.specs.Tables.{AreTablesOf, EndWithin, IsTable, RiseFrom, TablesValue, has_in_tables, shape_in, stored_in}
-use Rattle.idx_edition.specs.Loaded.{HoldSoFar, HoldsStored}
+use Rattle.idx_edition.specs.Loaded.{HoldsStored}
 use Rattle.idx_edition.specs.Reads.{ReadsFiles, ReadsOne, count_there, most_reads}
 use Rattle.idx_edition.proofs.AskedLemmas.{asked_more, asked_none}
-use Rattle.idx_edition.proofs.SoFarLemmas.{files_rise, no_tables, no_leaves, hold_none, hold_skip, hold_more, numbers_skip, numbers_more, tables_more, leaves_more, found_none, found_some, sound_since, reads_more}
+use Rattle.idx_edition.proofs.SoFarLemmas.{HoldSoFar, files_rise, no_tables, no_leaves, hold_none, hold_skip, hold_more, numbers_skip, numbers_more, tables_more, leaves_more, found_none, found_some, sound_since, reads_more}
 use Rattle.idx_edition.proofs.ReadsLemmas.{few_more, few_none, few_skip, is_there, on_err, reads_pushed, reads_with}
 use Rattle.idx_edition.proofs.HeldLemmas.{holds_stored}
 use Rattle.idx_edition.proofs.edition.Edition.open_files.Goals as goal

@@ -8,7 +8,7 @@ use Rattle.idx_layout.specs.Files.{row_count}
 use Rattle.idx_layout.specs.OfHeader.{layout_of}
 use Rattle.idx_edition.specs.Asked.{AskedAtMost}
 use Rattle.idx_edition.specs.Tables.{AreTablesOf, IsTable, RiseFrom}
-use Rattle.idx_edition.specs.Loaded.{HoldSoFar}
+use Rattle.idx_edition.proofs.SoFarLemmas.{HoldSoFar}
 use Rattle.idx_edition.specs.Reads.{count_there, most_reads}
 use Rattle.idx_edition.proofs.edition.Edition.open_files.Given as goal
 
