@@ -1,5 +1,5 @@
 -- What an edition is, and what loading one promises.
-use Rattle.std.specs.Prelude.{◌≡◌, ◌≢◌, ◌⊎◌, ℕ, Bool, ◌<◌, List, ◌++◌, length, map, slice_get, slice_index, Option, Some, None, IfSome}
+use Rattle.std.specs.Prelude.{◌≡◌, ◌≢◌, ◌⊎◌, ℕ, Bool, ◌<◌, List, length, map, slice_get, slice_index, Option, Some, None, IfSome}
 use Rattle.std.specs.Option.{option_map, ForSome}
 use Rattle.idx_geom.specs.Region.{points}
 use Rattle.idx_geom.specs.Volume.{IsVolume}
@@ -13,7 +13,7 @@ use Rattle.idx_table.specs.Table.{rows_of}
 use Rattle.idx_table.specs.declared.row.Row.{Row}
 use Rattle.idx_header.specs.Header.{HeaderValue}
 use Rattle.idx_header.specs.Names.{file_name}
-use Rattle.idx_layout.specs.Layout.{block_of_samples}
+use Rattle.idx_layout.specs.Layout.{block_of_samples, file_numbers}
 use Rattle.idx_layout.specs.Files.{file_bytes, row_count}
 use Rattle.idx_layout.specs.OfHeader.{layout_of}
 use Rattle.idx_edition.specs.Stored.{Stands, first_bad, found_files, has_block, stored_block}
