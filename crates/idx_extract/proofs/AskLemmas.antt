@@ -1,5 +1,5 @@
--- What the words ask, and the faults of questions.
-use Rattle.std.proofs.Common.{◌≡◌, ◌≢◌, ℕ, ◌<◌, ◌↔◌, Bool, true, false, if◌then◌else◌, List, length, Option, Some, None, refl, sym, ap, subst, IfSome, inl, inr}
+-- What a question asks, and its faults.
+use Rattle.std.proofs.Common.{◌≡◌, ◌≢◌, ℕ, ◌<◌, ◌↔◌, Bool, true, false, if◌then◌else◌, List, length, Option, Some, None, refl, sym, ap, subst, IfSome, inr}
 use Rattle.std.specs.Prelude.{Ok}
 use Rattle.idx_outside.specs.declared.mem_file.MemFile.{MemFile}
 use Rattle.idx_fields.specs.Field.{field_at}
@@ -9,11 +9,11 @@ use Rattle.idx_plan.specs.Needed.{answer_bytes, fault_by_axis, outside_axis, pla
 use Rattle.idx_plan.specs.declared.ask.Ask.{Ask}
 use Rattle.idx_plan.specs.declared.plan_fault.PlanFault.{PlanFault}
 use Rattle.idx_plan.specs.declared.plan_fault.PlanFault.TheVariants as plans
-use Rattle.idx_words.specs.QueryValue.{QueryValue}
+use Rattle.idx_plan.specs.QuestionValue.{QuestionValue}
 use Rattle.idx_extract.specs.declared.extract_fault.ExtractFault.{ExtractFault}
 use Rattle.idx_extract.specs.declared.extract_fault.ExtractFault.TheVariants as faults
-use Rattle.idx_extract.specs.Extract.{IsAsk, IsCause, IsStop}
-use Rattle.idx_extract.specs.Stages.{IsCauseUnder, fault_of_plan}
+use Rattle.idx_extract.specs.Extract.{IsAsk, IsCause, IsCauseUnder, IsStop, Known}
+use Rattle.idx_extract.specs.Stages.{fault_of_plan}
 
 -- a fault that is not want of memory, or none
 abbrev Fed : Option PlanFault → Type 0
@@ -34,8 +34,8 @@ fed_by_axis h ask None =
 pub never_starved : (h : HeaderValue) (ask : Ask) → plan_fault h ask ≢ Some plans.NoMemory
 never_starved h ask same = subst Fed same (fed_by_axis h ask (outside_axis 0 ask.region h.box))
 
--- the fault of what the words ask is answered as it is
-pub plan_stops : (h : HeaderValue) (q : QueryValue) (files : Option (List MemFile)) (ask : Ask) → IsAsk h q ask → (fault : PlanFault) → plan_fault h ask ≡ Some fault →
+-- the fault of what a question asks is answered as it is
+pub plan_stops : (h : HeaderValue) (q : QuestionValue) (files : Option (List MemFile)) (ask : Ask) → IsAsk h q ask → (fault : PlanFault) → plan_fault h ask ≡ Some fault →
     IsStop h q files (fault_of_plan fault)
 plan_stops h q files ask asked (plans.OutsideVolume axis) same = (ask, (asked, same))
 plan_stops h q files ask asked (plans.BadLevels lo hi max) same = (ask, (asked, same))
@@ -43,33 +43,30 @@ plan_stops h q files ask asked (plans.TooLarge bytes) same = (ask, (asked, same)
 plan_stops h q files ask asked plans.NoMemory same = absurd (never_starved h ask same)
 
 -- a stop is a cause
-pub stop_is_cause : (h : HeaderValue) (q : QueryValue) (files : Option (List MemFile)) (bay_before bay_after before after : ℕ) (fault : ExtractFault) →
-    IsStop h q files fault → IsCauseUnder h q files bay_before bay_after before after fault
-stop_is_cause h q files bay_before bay_after before after (faults.Header line kind) stop = stop
-stop_is_cause h q files bay_before bay_after before after faults.OtherAxes stop = stop
-stop_is_cause h q files bay_before bay_after before after faults.UnknownField stop = stop
-stop_is_cause h q files bay_before bay_after before after (faults.Plan fault) stop = stop
-stop_is_cause h q files bay_before bay_after before after faults.NotPublished stop = stop
-stop_is_cause h q files bay_before bay_after before after (faults.BadTable file row kind) stop = stop
-stop_is_cause h q files bay_before bay_after before after faults.StoreFault stop = absurd stop
-stop_is_cause h q files bay_before bay_after before after faults.NoMemory stop = absurd stop
+pub stop_is_cause : (h : HeaderValue) (q : QuestionValue) (k : Known) (fault : ExtractFault) → IsStop h q k.files fault → IsCauseUnder h q k fault
+stop_is_cause h q k (faults.Header line kind) stop = stop
+stop_is_cause h q k faults.OtherAxes stop = stop
+stop_is_cause h q k faults.UnknownField stop = stop
+stop_is_cause h q k (faults.Plan fault) stop = stop
+stop_is_cause h q k faults.NotPublished stop = stop
+stop_is_cause h q k (faults.BadTable file row kind) stop = stop
+stop_is_cause h q k faults.StoreFault stop = absurd stop
+stop_is_cause h q k faults.NoMemory stop = absurd stop
 
 -- a cause under the header of a text is one under the text, where that is known
-pub cause_of_text : (known : Option (List ℕ)) (h : HeaderValue) (q : QueryValue) (files : Option (List MemFile)) (bay_before bay_after before after : ℕ) (fault : ExtractFault) →
-    IfSome known (λ text. header_of text ≡ Ok h) → IsCauseUnder h q files bay_before bay_after before after fault →
-    IsCause q known files bay_before bay_after before after fault
-cause_of_text known h q files bay_before bay_after before after (faults.Header line kind) reads cause = absurd cause
-cause_of_text known h q files bay_before bay_after before after faults.OtherAxes reads cause = (h, (reads, cause))
-cause_of_text known h q files bay_before bay_after before after faults.UnknownField reads cause = (h, (reads, cause))
-cause_of_text known h q files bay_before bay_after before after (faults.Plan fault) reads cause = (h, (reads, cause))
-cause_of_text known h q files bay_before bay_after before after faults.NotPublished reads cause = (h, (reads, cause))
-cause_of_text known h q files bay_before bay_after before after (faults.BadTable file row kind) reads cause = (h, (reads, cause))
-cause_of_text known h q files bay_before bay_after before after faults.StoreFault reads (inl rose) = inl rose
-cause_of_text known h q files bay_before bay_after before after faults.StoreFault reads (inr (rose, plan)) = inr (rose, (h, (reads, plan)))
-cause_of_text known h q files bay_before bay_after before after faults.NoMemory reads cause = tt
+pub cause_of_text : (k : Known) (h : HeaderValue) (q : QuestionValue) (fault : ExtractFault) → IfSome k.header (λ text. header_of text ≡ Ok h) →
+    IsCauseUnder h q k fault → IsCause q k fault
+cause_of_text k h q (faults.Header line kind) reads cause = absurd cause
+cause_of_text k h q faults.OtherAxes reads cause = (h, (reads, cause))
+cause_of_text k h q faults.UnknownField reads cause = (h, (reads, cause))
+cause_of_text k h q (faults.Plan fault) reads cause = (h, (reads, cause))
+cause_of_text k h q faults.NotPublished reads cause = (h, (reads, cause))
+cause_of_text k h q (faults.BadTable file row kind) reads cause = (h, (reads, cause))
+cause_of_text k h q faults.StoreFault reads cause = inr (h, (reads, cause))
+cause_of_text k h q faults.NoMemory reads cause = tt
 
 -- the field that is found is the one of the name
-pub is_ask : (h : HeaderValue) (q : QueryValue) (field : ℕ) → length q.region ≡ length h.box →
+pub is_ask : (h : HeaderValue) (q : QuestionValue) (field : ℕ) → length q.region ≡ length h.box →
     ((i : ℕ) → (Some field ≡ Some i) ↔ ((i < length h.fields) × ((field_at h.fields i).name ≡ q.field))) →
     IsAsk h q (record { time = q.time; field = field; region = q.region; lo = q.lo; hi = q.hi })
 is_ask h q field axes found =

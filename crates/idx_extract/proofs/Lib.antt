@@ -1,3 +1,4 @@
 pub mod AskLemmas
 pub mod AloneLemmas
 pub mod StoredLemmas
+pub mod CauseLemmas

@@ -49,7 +49,7 @@ there h ask has those reads absent same all lack =
     few ∙ ap length (kept has those (block_count h) same (needed h ask) (needed-exist h ask))
 
 -- reads after reads
-both_made : (before between after n m : ℕ) → MadeReads before between n → MadeReads between after m → MadeReads before after (n + m)
+pub both_made : (before between after n m : ℕ) → MadeReads before between n → MadeReads between after m → MadeReads before after (n + m)
 both_made before between after n m first second =
     let turned : between + m ≡ m + between = omega arith in
     let moved : m + (before + n) ≡ before + (n + m) = omega arith in

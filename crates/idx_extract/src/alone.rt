@@ -1,9 +1,10 @@
-ghost use Rattle.std.specs.Prelude.{◌≡◌, ◌+◌, ◌<◌, ◌++◌, None, IfErr, IfOk, IfSome, OnOk, length};
+ghost use Rattle.std.specs.Prelude.{◌≡◌, ◌+◌, ◌<◌, ◌++◌, None, IfErr, IfOk, IfSome, OnErr, OnOk, length};
 ghost use Rattle.idx_outside.specs.Cause.{MadeReads, NeverFalls};
 ghost use Rattle.idx_layout.specs.Shape.{shape_of};
 ghost use Rattle.idx_plan.specs.Answer.{answer_of};
 ghost use Rattle.idx_plan.specs.Needed.{answer_bytes, needed, plan_fault};
 ghost use Rattle.idx_query.specs.Blocks.{lacking};
+ghost use Rattle.idx_query.specs.Reads.{ReadsAtMost};
 ghost use Rattle.idx_query.specs.Steps.{IsStoreFault};
 
 use idx_edition::block_lengths;
@@ -20,6 +21,7 @@ use std::sync::Arc;
 const KEPT: u32 = 1;
 
 /// Appends the answer to a question that has a plan out of its step, which is published in a hall of its own.
+#[tactic(auto, using(idx_query::proofs::ReadsLemmas::no_reads))]
 pub(crate) fn answer_alone<E: Blocks + Drop, R: Reader<E::Leaf>>(
     alloc: Global,
     header: &Header,
@@ -41,6 +43,8 @@ pub(crate) fn answer_alone<E: Blocks + Drop, R: Reader<E::Leaf>>(
         report.absent ≡ lacking (E.has edition ask.now.field) (needed header.now ask.now)) }
     ensures reads { IfOk result (λ report. MadeReads (R.reads reader.old) (R.reads reader.new) report.reads) }
     ensures cause { IfErr result (IsStoreFault (R.faults reader.old) (R.faults reader.new)) }
+    ensures few_reads { OnErr result
+        (ReadsAtMost (R.reads reader.old) (R.reads reader.new) (length (needed header.now ask.now))) }
     ensures count { NeverFalls (R.faults reader.old) (R.faults reader.new) }
     ensures quiet { OnOk result (R.faults reader.new ≡ R.faults reader.old) }
 {

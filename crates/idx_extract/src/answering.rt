@@ -1,33 +1,33 @@
-ghost use Rattle.std.specs.Prelude.{◌≡◌, ◌<◌, Err, IfErr, IfOk};
+ghost use Rattle.std.specs.Prelude.{◌≡◌, ◌≢◌, ◌<◌, Err, IfErr, IfOk, OnErr};
 ghost use Rattle.idx_outside.specs.Cause.{NeverFalls};
 ghost use Rattle.idx_outside.specs.Files.{StillAdmits};
-ghost use Rattle.idx_extract.specs.Extract.{IsExtracted, IsUnread};
-ghost use Rattle.idx_extract.specs.Stages.{IsCauseUnder};
+ghost use Rattle.idx_extract.specs.Extract.{IsCauseUnder, IsExtracted, IsUnread, ReadsFewUnder, known};
 
 use crate::ExtractFault;
 use crate::alone::answer_alone;
 use crate::asked::asked;
-use crate::faults::of_query;
 use crate::opening::open_step;
 use idx_edition::Edition;
 use idx_header::Header;
 use idx_outside::{Bay, Bytes, Reader};
-use idx_plan::Ask;
-use idx_words::QueryWords;
+use idx_plan::Question;
 use std::alloc::Global;
 
-/// The answer to what the words ask of a dataset.
+/// The answer to a question of a dataset.
 pub(crate) fn answer<B: Bay, R: Reader<B::Leaf>>(
     alloc: Global,
     header: &Header,
-    query: &QueryWords<'_>,
+    question: &Question<'_>,
     bay: &mut B,
     reader: &mut R,
 ) -> Result<Bytes, ExtractFault>
-    ensures extracted { IfOk result (λ bytes. IsExtracted header.now query.now (B.files bay.old)
+    ensures extracted { IfOk result (λ bytes. IsExtracted header.now question.now (B.files bay.old)
         (R.reads reader.old) (R.reads reader.new) bytes) }
-    ensures cause { IfErr result (IsCauseUnder header.now query.now (B.files bay.old)
-        (B.faults bay.old) (B.faults bay.new) (R.faults reader.old) (R.faults reader.new)) }
+    ensures cause { IfErr result (IsCauseUnder header.now question.now
+        (known B.header B.files B.faults B.failed R.faults R.reads bay.old bay.new reader.old reader.new)) }
+    ensures few_reads { OnErr result (ReadsFewUnder header.now question.now
+        (known B.header B.files B.faults B.failed R.faults R.reads bay.old bay.new reader.old reader.new)) }
+    ensures failed { result ≢ Err ExtractFault.StoreFault → B.failed bay.new ≡ B.failed bay.old }
     ensures unread { IfErr result (λ fault. IsUnread fault → reader.new ≡ reader.old) }
     ensures bay_answered { B.faults bay.old < B.faults bay.new → result ≡ Err ExtractFault.StoreFault }
     ensures reader_answered { R.faults reader.old < R.faults reader.new → result ≡ Err ExtractFault.StoreFault }
@@ -36,18 +36,12 @@ pub(crate) fn answer<B: Bay, R: Reader<B::Leaf>>(
     ensures header { B.header bay.new ≡ B.header bay.old }
     ensures files { B.files bay.new ≡ B.files bay.old }
     ensures admits { StillAdmits B.admits bay.old bay.new }
+    ensures begun { B.begun bay.new ≡ B.begun bay.old }
+    ensures changes { B.changes bay.new ≡ B.changes bay.old }
 {
-    let ask = match asked(header, query) {
-        Ok(ask) => ask,
-        Err(fault) => return Err(fault),
-    };
-    let edition = match open_step(alloc, header, query.time, bay, reader) {
-        Ok(edition) => edition,
-        Err(fault) => return Err(fault),
-    };
+    let ask = asked(header, question)?;
+    let edition = open_step(alloc, header, question.time, bay, reader)?;
     let mut bytes = Bytes::new(alloc);
-    match answer_alone(alloc, header, &ask, edition, reader, &mut bytes) {
-        Ok(_) => Ok(bytes),
-        Err(fault) => Err(of_query(fault)),
-    }
+    answer_alone(alloc, header, &ask, edition, reader, &mut bytes)?;
+    Ok(bytes)
 }

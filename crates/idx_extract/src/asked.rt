@@ -5,45 +5,38 @@ ghost use Rattle.idx_plan.specs.Needed.{plan_fault};
 ghost use Rattle.idx_extract.specs.Extract.{IsAsk, IsStop};
 
 use crate::ExtractFault;
-use crate::faults::of_plan;
 use idx_header::Header;
-use idx_plan::{Ask, count_samples};
-use idx_words::QueryWords;
+use idx_plan::{Ask, Question, count_samples};
 
-/// What the words ask of a dataset, if they can be asked of it and have a plan. Takes no memory.
-pub(crate) fn asked(header: &Header, query: &QueryWords<'_>) -> Result<Ask, ExtractFault>
-    ensures asked { IfOk result (λ ask. IsAsk header.now query.now ask) }
+/// What a question asks of a dataset, if it can be asked of it and has a plan. Takes no memory.
+pub(crate) fn asked(header: &Header, question: &Question<'_>) -> Result<Ask, ExtractFault>
+    ensures asked { IfOk result (λ ask. IsAsk header.now question.now ask) }
     ensures sound { IfOk result (λ ask. plan_fault header.now ask ≡ None) }
     ensures valid { OnOk result (IsHeader header.now) }
-    ensures stop { (files : Option (List MemFile)) → IfErr result (IsStop header.now query.now files) }
+    ensures stop { (files : Option (List MemFile)) → IfErr result (IsStop header.now question.now files) }
 {
-    let ask = match ask_of(header, query) {
-        Ok(ask) => ask,
-        Err(fault) => return Err(fault),
-    };
-    match count_samples(header, &ask) {
-        Ok(_) => Ok(ask),
-        Err(fault) => Err(of_plan(fault)),
-    }
+    let ask = ask_of(header, question)?;
+    count_samples(header, &ask)?;
+    Ok(ask)
 }
 
-/// What the words ask of a dataset, if it has as many axes and a field of the name.
-fn ask_of(header: &Header, query: &QueryWords<'_>) -> Result<Ask, ExtractFault>
-    ensures asked { IfOk result (λ ask. IsAsk header.now query.now ask) }
+/// What a question asks of a dataset, if this has as many axes and a field of the name.
+fn ask_of(header: &Header, question: &Question<'_>) -> Result<Ask, ExtractFault>
+    ensures asked { IfOk result (λ ask. IsAsk header.now question.now ask) }
     ensures valid { OnOk result (IsHeader header.now) }
-    ensures stop { (files : Option (List MemFile)) → IfErr result (IsStop header.now query.now files) }
+    ensures stop { (files : Option (List MemFile)) → IfErr result (IsStop header.now question.now files) }
 {
-    if query.region.axes() != header.axes() {
+    if question.region.axes() != header.axes() {
         return Err(ExtractFault::OtherAxes);
     }
-    let Some(field) = header.find_field(query.field) else {
+    let Some(field) = header.find_field(question.field) else {
         return Err(ExtractFault::UnknownField);
     };
     Ok(Ask {
-        time: query.time,
+        time: question.time,
         field,
-        region: query.region,
-        lo: query.lo,
-        hi: query.hi,
+        region: question.region,
+        lo: question.lo,
+        hi: question.hi,
     })
 }

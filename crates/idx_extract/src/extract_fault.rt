@@ -1,5 +1,10 @@
-use idx_header::HeaderKind;
+ghost use Rattle.std.specs.Prelude.{◌≡◌};
+ghost use Rattle.idx_extract.specs.Stages.{fault_of_header, fault_of_load, fault_of_plan, fault_of_query};
+
+use idx_edition::LoadFault;
+use idx_header::{HeaderKind, HeaderRefusal};
 use idx_plan::PlanFault;
+use idx_query::QueryFault;
 use idx_table::TableKind;
 use thiserror::Error;
 
@@ -40,4 +45,52 @@ pub enum ExtractFault {
     /// There was no memory.
     #[error("not enough memory")]
     NoMemory,
+}
+
+impl From<HeaderRefusal> for ExtractFault {
+    ghost from_gives = { λ refusal fault. fault ≡ fault_of_header refusal };
+
+    fn from(refusal: HeaderRefusal) -> ExtractFault {
+        match refusal {
+            HeaderRefusal::Fault { line, kind } => ExtractFault::Header { line, kind },
+            HeaderRefusal::Outage => ExtractFault::StoreFault,
+            HeaderRefusal::NoMemory => ExtractFault::NoMemory,
+        }
+    }
+}
+
+impl From<PlanFault> for ExtractFault {
+    ghost from_gives = { λ plan fault. fault ≡ fault_of_plan plan };
+
+    fn from(plan: PlanFault) -> ExtractFault {
+        match plan {
+            PlanFault::NoMemory => ExtractFault::NoMemory,
+            plan => ExtractFault::Plan(plan),
+        }
+    }
+}
+
+impl From<LoadFault> for ExtractFault {
+    ghost from_gives = { λ load fault. fault ≡ fault_of_load load };
+
+    fn from(load: LoadFault) -> ExtractFault {
+        match load {
+            LoadFault::BadTable { file, row, kind } => ExtractFault::BadTable { file, row, kind },
+            LoadFault::StoreFault { .. } => ExtractFault::StoreFault,
+            LoadFault::NoMemory => ExtractFault::NoMemory,
+        }
+    }
+}
+
+impl From<QueryFault> for ExtractFault {
+    ghost from_gives = { λ query fault. fault ≡ fault_of_query query };
+
+    fn from(query: QueryFault) -> ExtractFault {
+        match query {
+            QueryFault::Plan(plan) => ExtractFault::from(plan),
+            QueryFault::NotPublished { .. } => ExtractFault::NotPublished,
+            QueryFault::StoreFault { .. } => ExtractFault::StoreFault,
+            QueryFault::NoMemory => ExtractFault::NoMemory,
+        }
+    }
 }

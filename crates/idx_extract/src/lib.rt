@@ -6,7 +6,6 @@ mod answering;
 mod asked;
 mod extract_fault;
 mod extracting;
-mod faults;
 mod opening;
 
 pub use extract_fault::ExtractFault;

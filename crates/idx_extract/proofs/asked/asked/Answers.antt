@@ -1,9 +1,7 @@
-use Rattle.std.proofs.Common.{sym, subst}
 use Rattle.idx_extract.specs.Extract.{IsStop}
-use Rattle.idx_extract.proofs.AskLemmas.{plan_stops}
+use Rattle.idx_extract.proofs.CauseLemmas.{err_is}
 use Rattle.idx_extract.proofs.asked.asked.Goals as goal
 
-pub returns-in-Err-count_samples-clause-stop : goal.returns-in-Err-count_samples-clause-stop
-returns-in-Err-count_samples-clause-stop c = λ files.
-    subst (IsStop c.args.header.now c.args.query.now files) (sym c.of_plan.ensures)
-    (plan_stops c.args.header.now c.args.query.now files c.in-Ok.ask c.in-Ok.ensures.asked c.in-Err-count_samples.fault c.in-Err-count_samples.ensures.fault)
+pub returns-in_err-ask-clause-stop : goal.returns-in_err-ask-clause-stop
+returns-in_err-ask-clause-stop c = λ files.
+    err_is c.from_residual.result c.in_err-ask.field-0.0 (IsStop c.args.header.now c.args.question.now files) c.from_residual.ensures.1 (c.in_err-ask.ensures.stop files)
