@@ -18,13 +18,16 @@ write_files-requires-clause-admits g c = λ file.
     let stands = sym c.in_ok-folder.ensures ∙ c.in-Some.is in
     c.requires.begun c.in-Some.folder stands (file_name c.args.header.now c.args.step file) (name_lies c.args.header.now c.args.step file c.in-Some.folder stands)
 
-pub of_leaves-requires-clause-written : goal.of_leaves-requires-clause-written
-of_leaves-requires-clause-written g c =
+pub of_leaves-requires : goal.of_leaves-requires
+of_leaves-requires g c =
     let h = c.args.header.now in
-    let raw = c.args.raw.now in (
-      volume_of_raw h raw,
-      known_written h c.args.step (volume_of_raw h raw) (g.B.Bay.files c.args.bay.now) (shown g.B.Leaf.Leaf.contents c.in_ok-leaves.leaves.items) (is_volume h raw c.requires.raw) c.in_ok-leaves.ensures.leaves.same,
-    )
+    let raw = c.args.raw.now in
+    record {
+      written = (
+        volume_of_raw h raw,
+        known_written h c.args.step (volume_of_raw h raw) (g.B.Bay.files c.args.bay.now) (shown g.B.Leaf.Leaf.contents c.in_ok-leaves.leaves.items) (is_volume h raw c.requires.raw) c.in_ok-leaves.ensures.leaves.same,
+      );
+    }
 
 pub commit-requires-clause-some : goal.commit-requires-clause-some
 commit-requires-clause-some g c =
