@@ -1,0 +1,9 @@
+//! The cache, a hall and the turn of one owner, each tried on small worked values.
+#![tactic(auto)]
+
+#[cfg(test)]
+mod cache;
+#[cfg(test)]
+mod hall;
+#[cfg(test)]
+mod turn;
