@@ -1,4 +1,4 @@
-use idx_block::fill_block;
+use idx_block::{fill_block, fill_by_addresses};
 use idx_geom::Region;
 use idx_header::Header;
 use idx_hz::Mask;
@@ -75,16 +75,63 @@ fn filled(
     Ok(bytes)
 }
 
-/// How many blocks of a dataset there are, and whether each holds the samples of its addresses.
+/// Makes a block address by address.
+fn search(
+    rt: &impl Abort,
+    mask: &Mask,
+    region: &Region,
+    (bits, size): (u32, usize),
+    block: u64,
+    raw: &[u8],
+    into: &mut [u8],
+) {
+    assert!(rt; mask.holds(region));
+    assert!(rt; bits <= mask.len());
+    assert!(rt; bits <= 20);
+    assert!(rt; block < 1 << (mask.len() - bits));
+    assert!(rt; size <= 64);
+    assert!(rt; raw.len() as u64 == size as u64 * region.count());
+    assert!(rt; into.len() == size << bits);
+    fill_by_addresses(mask, region, bits, block, size, raw, into);
+}
+
+/// The same block, made address by address.
+fn searched(
+    alloc: Global,
+    rt: &impl Abort,
+    header: &Header,
+    raw: &[u8],
+    block: u64,
+) -> Result<Vec<u8>, AllocError> {
+    assert!(rt; header.field_count() > 0);
+    let form = (header.bits_per_block(), header.sample_bytes(0) as usize);
+    let mut bytes = vec![in alloc; 255; header.block_bytes(0) as usize]?;
+    search(
+        rt,
+        &header.mask(),
+        &header.region(),
+        form,
+        block,
+        raw,
+        &mut bytes,
+    );
+    Ok(bytes)
+}
+
+/// How many blocks of a dataset there are, and whether each of them, made in both ways, holds the samples of its
+/// addresses.
 fn fills_all(alloc: Global, rt: &impl Abort, text: &[u8]) -> Result<(u64, bool), AllocError> {
     let header = Header::read(alloc, text).ok().expect(rt, "a header");
     let raw = raw_of(alloc, &header)?;
     let wanted = put_one_by_one(alloc, rt, &header, &raw)?;
     let mut blocks = Vec::new(alloc);
+    let mut plain = Vec::new(alloc);
     for block in 0..header.block_count() {
         blocks.extend_from_slice(&filled(alloc, rt, &header, &raw, block)?)?;
+        plain.extend_from_slice(&searched(alloc, rt, &header, &raw, block)?)?;
     }
-    Ok((header.block_count(), blocks == wanted))
+    let same = blocks == wanted && plain == wanted;
+    Ok((header.block_count(), same))
 }
 
 #[test]
