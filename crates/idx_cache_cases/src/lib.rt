@@ -1,9 +1,5 @@
-//! The cache, a hall and the turn of one owner, each tried on small worked values.
+//! The cache, tried on small worked values.
 #![tactic(auto)]
 
 #[cfg(test)]
 mod cache;
-#[cfg(test)]
-mod hall;
-#[cfg(test)]
-mod turn;

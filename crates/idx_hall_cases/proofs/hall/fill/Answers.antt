@@ -8,7 +8,7 @@ use Rattle.idx_hall.specs.Hall.{HallValue, IsBlockOf}
 use Rattle.idx_hall.specs.Calls.{pairs_of}
 use Rattle.idx_hall.specs.Examples.{HasOneStep, key_at, six_blocks}
 use Rattle.idx_hall.specs.declared.key.Key.{Key}
-use Rattle.idx_cache_cases.proofs.hall.fill.Goals as goal
+use Rattle.idx_hall_cases.proofs.hall.fill.Goals as goal
 
 -- one byte is the block of this number in the only step
 one-block : (h : HallValue) → HasOneStep h → (block : ℕ) → block < 6 → (bytes : List ℕ) → length bytes ≡ 1 → (pairs : List (Key × List ℕ)) → pairs ≡ (key_at 0 block, bytes) ∷ [] → (p : Post) × ((slice_get h.board 0 ≡ Some p) × All (IsBlockOf h.shape p) pairs)

@@ -11,6 +11,9 @@ use std::process::Abort;
 use std::sync::Arc;
 use std::test::Fail;
 
+/// What stands for a block that a look does not find.
+const NONE: u8 = 99;
+
 /// A step of six blocks of one byte, one after another in a file.
 #[derive(Drop)]
 struct Step {
@@ -90,31 +93,58 @@ fn fill(alloc: Global, hall: &mut Hall<Step>, block: u64) -> Result<(), Fail>
     Ok(())
 }
 
-/// The byte of a block that a look found.
-fn byte(found: Option<&Arc<Bytes>>) -> Option<u8> {
-    let bytes: &Arc<Bytes> = found?;
-    bytes.as_slice().first().copied()
+/// The byte of a block that a look found, or `NONE`.
+fn byte(found: Option<&Arc<Bytes>>) -> u8 {
+    match found {
+        Some(bytes) => bytes.as_slice().first().copied().unwrap_or(NONE),
+        None => NONE,
+    }
 }
 
-/// What a look at three blocks finds: how many hold the step then, and the byte of each block.
+/// What a look at three blocks finds: the byte of each.
 fn look(
     alloc: Global,
     rt: &impl Abort,
     hall: &mut Hall<Step>,
     blocks: [u64; 3],
-) -> Result<(Option<usize>, [Option<u8>; 3]), Fail>
+) -> Result<[u8; 3], Fail>
     requires { HasOneStep hall.old }
     ensures { OnOk result (HasOneStep hall.new) }
 {
     let mut looked = Looked::new(alloc, 3)?;
-    let number = hall.look(0, &blocks.map(key), &mut looked)?;
-    assert_eq!(rt; number, Some(0));
-    let bytes = [
+    let keys = [key(blocks[0]), key(blocks[1]), key(blocks[2])];
+    let number = hall.look(0, &keys, &mut looked)?;
+    assert!(rt; number == Some(0));
+    Ok([
         byte(looked.found(0)),
         byte(looked.found(1)),
         byte(looked.found(2)),
-    ];
-    Ok((looked.edition().map(Arc::strong_count), bytes))
+    ])
+}
+
+/// How many hold the step while a look has it.
+fn holders(alloc: Global, hall: &mut Hall<Step>) -> Result<usize, Fail>
+    requires { HasOneStep hall.old }
+{
+    let mut looked = Looked::new(alloc, 1)?;
+    let _ = hall.look(0, &[key(0)], &mut looked)?;
+    match looked.edition() {
+        Some(step) => Ok(Arc::strong_count(step)),
+        None => Ok(0),
+    }
+}
+
+/// Drops so many blocks, and tells how many went.
+fn evict(hall: &mut Hall<Step>, count: u64) -> u64
+    requires { HasOneStep hall.old }
+    ensures { HasOneStep hall.new }
+{
+    hall.evict(count)
+}
+
+/// How many blocks a hall has room for, how many it has, and how many steps.
+fn sizes(hall: &Hall<Step>) -> (u64, u64, u64) {
+    (hall.capacity(), hall.cache_len(), hall.board_len())
 }
 
 /// How the step of time 0 is refused again: why, the time of the step that comes back, and how many hold it.
@@ -141,20 +171,32 @@ fn a_time_is_published_once(rt: HostRuntime) -> Result<(), Fail> {
     Ok(())
 }
 
+/// A hall with room for three blocks, which has 2, 1 and 0, the last one the least recently used.
+fn hall_of_three(alloc: Global, rt: &impl Abort) -> Result<Hall<Step>, Fail>
+    ensures { IfOk result HasOneStep }
+{
+    let mut hall = hall_with_room(alloc, rt, 3)?;
+    fill(alloc, &mut hall, 0)?;
+    fill(alloc, &mut hall, 1)?;
+    fill(alloc, &mut hall, 2)?;
+    Ok(hall)
+}
+
 #[test]
-fn a_look_shares_the_step_and_moves_blocks_to_the_front(rt: HostRuntime) -> Result<(), Fail> {
-    let mut hall = hall_with_room(rt.alloc(), &rt, 3)?;
-    fill(rt.alloc(), &mut hall, 0)?;
-    fill(rt.alloc(), &mut hall, 1)?;
-    fill(rt.alloc(), &mut hall, 2)?;
-    assert_eq!(rt;
-        look(rt.alloc(), &rt, &mut hall, [2, 5, 0])?,
-        (Some(2), [Some(2), None, Some(0)])
-    );
-    assert_eq!(rt; hall.evict(2), 2);
+fn a_look_shares_the_step(rt: HostRuntime) -> Result<(), Fail> {
+    let mut hall = hall_of_three(rt.alloc(), &rt)?;
+    assert_eq!(rt; holders(rt.alloc(), &mut hall)?, 2);
+    Ok(())
+}
+
+#[test]
+fn a_look_moves_blocks_to_the_front(rt: HostRuntime) -> Result<(), Fail> {
+    let mut hall = hall_of_three(rt.alloc(), &rt)?;
+    assert_eq!(rt; look(rt.alloc(), &rt, &mut hall, [2, 5, 0])?, [2, NONE, 0]);
+    assert_eq!(rt; evict(&mut hall, 2), 2);
     assert_eq!(rt;
         look(rt.alloc(), &rt, &mut hall, [1, 2, 0])?,
-        (Some(2), [None, None, Some(0)])
+        [NONE, NONE, 0]
     );
     Ok(())
 }
@@ -164,13 +206,10 @@ fn a_full_cache_keeps_the_last_blocks(rt: HostRuntime) -> Result<(), Fail> {
     let mut hall = hall_with_room(rt.alloc(), &rt, 1)?;
     fill(rt.alloc(), &mut hall, 0)?;
     fill(rt.alloc(), &mut hall, 1)?;
-    assert_eq!(rt;
-        (hall.capacity(), hall.cache_len(), hall.board_len()),
-        (1, 1, 1)
-    );
+    assert_eq!(rt; sizes(&hall), (1, 1, 1));
     assert_eq!(rt;
         look(rt.alloc(), &rt, &mut hall, [0, 1, 2])?,
-        (Some(2), [None, Some(1), None])
+        [NONE, 1, NONE]
     );
     Ok(())
 }
