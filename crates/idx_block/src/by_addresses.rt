@@ -9,7 +9,7 @@ use idx_hz::Mask;
 
 /// Makes a block of 2^bits addresses out of the raw samples of a box, address by address: the plain search that walks
 /// replace.
-pub(crate) fn fill_by_addresses(
+pub fn fill_by_addresses(
     mask: &Mask,
     region: &Region,
     bits: u32,

@@ -8,8 +8,7 @@ mod copy;
 mod fill;
 mod first_block;
 mod rows;
-#[cfg(test)]
-mod tests;
 mod walk;
 
+pub use by_addresses::fill_by_addresses;
 pub use fill::fill_block;

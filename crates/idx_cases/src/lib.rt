@@ -2,6 +2,8 @@
 #![tactic(auto)]
 
 #[cfg(test)]
+mod cause_cases;
+#[cfg(test)]
 mod convert_cases;
 #[cfg(test)]
 mod cut_cases;

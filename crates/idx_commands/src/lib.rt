@@ -10,8 +10,6 @@ mod kind_text;
 mod query;
 mod running;
 mod summary;
-#[cfg(test)]
-mod tests;
 
 pub use causes::{Cause, Done};
 pub use cut::run_cut;

@@ -1,0 +1,5 @@
+//! The cache, tried on small worked values.
+#![tactic(auto)]
+
+#[cfg(test)]
+mod cache;

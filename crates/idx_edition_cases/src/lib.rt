@@ -1,0 +1,5 @@
+//! Steps that are opened and read, tried over files in memory.
+#![tactic(auto)]
+
+#[cfg(test)]
+mod edition;

@@ -1,0 +1,7 @@
+//! Plans of questions, tried on small datasets and on one of a real size.
+#![tactic(auto)]
+
+#[cfg(test)]
+mod block;
+#[cfg(test)]
+mod plan;

@@ -1,0 +1,429 @@
+//! Answers out of a hall of steps in memory.
+ghost use Rattle.std.specs.Prelude.{◌≡◌, ◌<◌, ◌*◌, ◌==◌, ◌∷◌, [], IfOk, OnOk, Some, drop, if◌then◌else◌, length, not, replicate, take};
+ghost use Rattle.idx_layout.specs.Shape.{shape_of};
+
+use idx_geom::{Point, Region};
+use idx_hall::Hall;
+use idx_header::Header;
+use idx_memory::{MemLeaf, MemReader};
+use idx_outside::{Blocks, Bytes, Fetched, Outage, Reader};
+use idx_plan::Ask;
+use idx_query::{QueryFault, Report, answer};
+use idx_turn::Solo;
+use std::alloc::Global;
+use std::process::Abort;
+use std::sync::Arc;
+use std::test::Fail;
+
+/// A box of sixteen points in four blocks of four samples of one byte.
+static BASE: &[u8] =
+    b"(version)\n6\n(box)\n0 3 0 3\n(fields)\na uint8\n(bits)\nV0101\n(bitsperblock)\n2\n(blocksperfile)\n2\n(filename_template)\n./%01x.bin\n";
+
+/// The blocks of the volume whose samples are 00 to 0f.
+static STORED: [u8; 16] = [0, 2, 8, 10, 1, 9, 3, 11, 4, 5, 12, 13, 6, 7, 14, 15];
+
+/// The samples of the whole box.
+const WHOLE: &[u8] = &[0, 1, 2, 3, 4, 5, 6, 7, 8, 9, 10, 11, 12, 13, 14, 15];
+
+/// No block and no read has this number.
+const NONE: u64 = 9;
+
+/// Four blocks of four bytes of one field, one after another in a file, of which one is taken to be absent.
+#[derive(Drop)]
+struct Step {
+    time: u64,
+    leaf: MemLeaf,
+    lacks: u64,
+    ghost whole: { length leaf ≡ 16 },
+}
+
+impl Blocks for Step {
+    type Leaf = MemLeaf;
+
+    ghost time = { λ s. s.time };
+
+    ghost shape = { λ s. record { blocks = 4; lengths = 4 ∷ [] } };
+
+    ghost has = { λ s field block. not (block == s.lacks) };
+
+    ghost stored = { λ s. Some (λ field block.
+        if block == s.lacks then replicate 4 0 else take 4 (drop (4 * block) s.leaf)) };
+
+    fn time(&self) -> u64 {
+        self.time
+    }
+
+    fn fetch<R: Reader<MemLeaf>>(
+        &self,
+        reader: &mut R,
+        _field: u32,
+        block: u64,
+        into: &mut [u8],
+    ) -> Result<Fetched, Outage> {
+        if block == self.lacks {
+            into.fill(0);
+            return Ok(Fetched::Absent);
+        }
+        reader.read_at(&self.leaf, 4 * block, into)?;
+        Ok(Fetched::Read)
+    }
+}
+
+/// A question for the points of a step between two corners.
+fn question(rt: &impl Abort, time: u64, ends: ([u64; 2], [u64; 2]), levels: (u32, u32)) -> Ask
+    ensures field { result.field ≡ 0 }
+    ensures axes { length result.region ≡ 2 }
+{
+    let lo = Point::new(&ends.0).expect(rt, "a lower end");
+    let hi = Point::new(&ends.1).expect(rt, "an upper end");
+    let region = Region::new(lo, hi).expect(rt, "a region");
+    assert!(rt; region.axes() == 2);
+    Ask {
+        time,
+        field: 0,
+        region,
+        lo: levels.0,
+        hi: levels.1,
+    }
+}
+
+/// The header of the dataset.
+#[tactic(auto, using(crate::proofs::ShapeLemmas::shape_one))]
+fn header_of(alloc: Global, rt: &impl Abort) -> Header
+    ensures field { 0 < length result.fields }
+    ensures axes { length result.box ≡ 2 }
+    ensures shape { record { blocks = 4; lengths = 4 ∷ [] } ≡ shape_of result }
+{
+    let header = Header::read(alloc, BASE).ok().expect(rt, "a header");
+    assert_eq!(rt; header.field_count(), 1);
+    assert_eq!(rt; header.axes(), 2);
+    assert_eq!(rt; header.block_count(), 4);
+    assert_eq!(rt; header.block_bytes(0), 4);
+    header
+}
+
+/// A hall without a step, and with room for so many cached blocks.
+fn hall_with_room(alloc: Global, rt: &impl Abort, capacity: u32) -> Result<Hall<Step>, Fail>
+    ensures { IfOk result (λ hall. hall.shape ≡ record { blocks = 4; lengths = 4 ∷ [] }) }
+{
+    assert!(rt; 1 <= capacity && capacity <= 65536);
+    Ok(Hall::new(alloc, capacity, 4, vec![in alloc; 4]?)?)
+}
+
+/// Publishes the step of a time, which lacks this block.
+fn publish(
+    alloc: Global,
+    rt: &impl Abort,
+    hall: &mut Hall<Step>,
+    time: u64,
+    lacks: u64,
+) -> Result<(), Fail>
+    requires { hall.old.shape ≡ record { blocks = 4; lengths = 4 ∷ [] } }
+    ensures { OnOk result (hall.new.shape ≡ record { blocks = 4; lengths = 4 ∷ [] }) }
+{
+    let leaf = MemLeaf::new(Bytes::from_slice(alloc, &STORED)?);
+    let step = Arc::new(alloc, Step { time, leaf, lacks })?;
+    assert!(rt; hall.publish(step).is_ok());
+    Ok(())
+}
+
+/// What came of a question: the answer, how many reads were tried, the bytes, and the hall.
+#[derive(Drop)]
+struct Outcome {
+    answer: Result<Report, QueryFault>,
+    reads: u64,
+    out: Bytes,
+    hall: Hall<Step>,
+}
+
+/// Asks a question of a hall, where this read fails.
+fn ask_hall(
+    alloc: Global,
+    rt: &impl Abort,
+    hall: Hall<Step>,
+    ask: &Ask,
+    fails: u64,
+) -> Result<Outcome, Fail>
+    requires field { ask.now.field ≡ 0 }
+    requires axes { length ask.now.region ≡ 2 }
+    requires shape { hall.shape ≡ record { blocks = 4; lengths = 4 ∷ [] } }
+    ensures { IfOk result (λ outcome. outcome.hall.shape ≡ record { blocks = 4; lengths = 4 ∷ [] }) }
+{
+    let header = header_of(alloc, rt);
+    let mut reader = MemReader::new(Vec::from_slice(alloc, &[fails])?);
+    let mut solo = Solo::new(hall);
+    let mut out = Bytes::new(alloc);
+    let answer = answer(alloc, &header, ask, &mut solo, &mut reader, &mut out);
+    Ok(Outcome {
+        answer,
+        reads: reader.reads(),
+        out,
+        hall: solo.end(),
+    })
+}
+
+/// How a question is answered: out of which step and how, or not; how many reads were tried, and how many blocks are
+/// cached then; and the bytes of the answer.
+#[derive(Clone, Copy)]
+struct End {
+    answer: Result<Report, QueryFault>,
+    reads: u64,
+    cached: u64,
+    bytes: &'static [u8],
+}
+
+fn is_wanted(outcome: &Outcome, wanted: &End) -> bool {
+    outcome.answer == wanted.answer
+        && outcome.reads == wanted.reads
+        && outcome.hall.cache_len() == wanted.cached
+        && outcome.out.as_slice() == wanted.bytes
+}
+
+/// A question that is asked twice of a hall of one step.
+#[derive(Clone, Copy)]
+struct Case {
+    ends: ([u64; 2], [u64; 2]),
+    levels: (u32, u32),
+    /// How many cached blocks the hall has room for.
+    capacity: u32,
+    /// The block that the step lacks.
+    lacks: u64,
+    /// The read of the first question that fails.
+    fails: u64,
+    first: End,
+    second: End,
+}
+
+/// The hall of a case.
+fn hall_of(alloc: Global, rt: &impl Abort, case: &Case) -> Result<Hall<Step>, Fail>
+    ensures { IfOk result (λ hall. hall.shape ≡ record { blocks = 4; lengths = 4 ∷ [] }) }
+{
+    let mut hall = hall_with_room(alloc, rt, case.capacity)?;
+    publish(alloc, rt, &mut hall, 0, case.lacks)?;
+    Ok(hall)
+}
+
+/// Whether both questions of a case are answered as they are to be.
+fn ends_as_wanted(alloc: Global, rt: &impl Abort, case: &Case) -> Result<bool, Fail> {
+    let ask = question(rt, 0, case.ends, case.levels);
+    let first = ask_hall(alloc, rt, hall_of(alloc, rt, case)?, &ask, case.fails)?;
+    if !is_wanted(&first, &case.first) {
+        return Ok(false);
+    }
+    let second = ask_hall(alloc, rt, first.hall, &ask, NONE)?;
+    Ok(is_wanted(&second, &case.second))
+}
+
+/// The place of the first case that does not end as it is to, if there is one.
+fn first_other(alloc: Global, rt: &impl Abort, cases: &[Case]) -> Result<Option<usize>, Fail> {
+    for (place, case) in cases.iter().enumerate() {
+        if !ends_as_wanted(alloc, rt, case)? {
+            return Ok(Some(place));
+        }
+    }
+    Ok(None)
+}
+
+/// The whole box, out of four blocks that are read.
+const READ: End = End {
+    answer: Ok(Report {
+        post: 0,
+        hits: 0,
+        reads: 4,
+        absent: 0,
+    }),
+    reads: 4,
+    cached: 4,
+    bytes: WHOLE,
+};
+
+/// The whole box, out of four blocks that are cached.
+const CACHED: End = End {
+    answer: Ok(Report {
+        post: 0,
+        hits: 4,
+        reads: 0,
+        absent: 0,
+    }),
+    reads: 0,
+    cached: 4,
+    bytes: WHOLE,
+};
+
+/// A question for the whole box, with room for all its blocks.
+const BOX: Case = Case {
+    ends: ([0, 0], [3, 3]),
+    levels: (0, 4),
+    capacity: 4,
+    lacks: NONE,
+    fails: NONE,
+    first: READ,
+    second: CACHED,
+};
+
+/// There is room for all blocks, for more, and for one.
+static ROOMS: [Case; 3] = [
+    BOX,
+    Case { capacity: 9, ..BOX },
+    Case {
+        capacity: 1,
+        first: End { cached: 1, ..READ },
+        second: End {
+            answer: Ok(Report {
+                post: 0,
+                hits: 1,
+                reads: 3,
+                absent: 0,
+            }),
+            reads: 3,
+            cached: 1,
+            bytes: WHOLE,
+        },
+        ..BOX
+    },
+];
+
+#[test]
+fn a_cached_block_costs_no_read(rt: HostRuntime) -> Result<(), Fail> {
+    assert_eq!(rt; first_other(rt.alloc(), &rt, &ROOMS)?, None);
+    Ok(())
+}
+
+/// The samples of the levels 3 and 4 where block 1 is absent.
+const ZEROS: &[u8] = &[0, 0, 4, 5, 6, 7, 0, 0, 12, 13, 14, 15];
+
+static ABSENT: [Case; 1] = [Case {
+    levels: (3, 4),
+    lacks: 1,
+    first: End {
+        answer: Ok(Report {
+            post: 0,
+            hits: 0,
+            reads: 2,
+            absent: 1,
+        }),
+        reads: 2,
+        cached: 3,
+        bytes: ZEROS,
+    },
+    second: End {
+        answer: Ok(Report {
+            post: 0,
+            hits: 3,
+            reads: 0,
+            absent: 0,
+        }),
+        reads: 0,
+        cached: 3,
+        bytes: ZEROS,
+    },
+    ..BOX
+}];
+
+#[test]
+fn an_absent_block_is_zeros_and_is_cached(rt: HostRuntime) -> Result<(), Fail> {
+    assert_eq!(rt; first_other(rt.alloc(), &rt, &ABSENT)?, None);
+    Ok(())
+}
+
+/// The end where a read fails.
+const FAILED: End = End {
+    answer: Err(QueryFault::StoreFault { faults: 1 }),
+    reads: 1,
+    cached: 0,
+    bytes: &[],
+};
+
+/// Each read fails in turn, and the next question makes them all.
+static FAILING: [Case; 4] = [
+    Case {
+        fails: 1,
+        first: FAILED,
+        second: READ,
+        ..BOX
+    },
+    Case {
+        fails: 2,
+        first: End { reads: 2, ..FAILED },
+        second: READ,
+        ..BOX
+    },
+    Case {
+        fails: 3,
+        first: End { reads: 3, ..FAILED },
+        second: READ,
+        ..BOX
+    },
+    Case {
+        fails: 4,
+        first: End { reads: 4, ..FAILED },
+        second: READ,
+        ..BOX
+    },
+];
+
+#[test]
+fn a_failed_read_leaves_the_bytes_and_the_cache(rt: HostRuntime) -> Result<(), Fail> {
+    assert_eq!(rt; first_other(rt.alloc(), &rt, &FAILING)?, None);
+    Ok(())
+}
+
+/// An answer without a sample.
+const NOTHING: End = End {
+    answer: Ok(Report {
+        post: 0,
+        hits: 0,
+        reads: 0,
+        absent: 0,
+    }),
+    reads: 0,
+    cached: 0,
+    bytes: &[],
+};
+
+static EMPTY: [Case; 1] = [Case {
+    ends: ([1, 1], [1, 1]),
+    levels: (0, 0),
+    fails: 1,
+    first: NOTHING,
+    second: NOTHING,
+    ..BOX
+}];
+
+#[test]
+fn no_sample_costs_no_read(rt: HostRuntime) -> Result<(), Fail> {
+    assert_eq!(rt; first_other(rt.alloc(), &rt, &EMPTY)?, None);
+    Ok(())
+}
+
+/// A hall of the steps of the times 0, which lacks a block, and 1.
+fn hall_of_two(alloc: Global, rt: &impl Abort) -> Result<Hall<Step>, Fail>
+    ensures { IfOk result (λ hall. hall.shape ≡ record { blocks = 4; lengths = 4 ∷ [] }) }
+{
+    let mut hall = hall_of(alloc, rt, &Case { lacks: 0, ..BOX })?;
+    publish(alloc, rt, &mut hall, 1, NONE)?;
+    Ok(hall)
+}
+
+/// What comes of a question for the whole box at a time, of a hall of two steps.
+fn ask_at(alloc: Global, rt: &impl Abort, time: u64, fails: u64) -> Result<Outcome, Fail> {
+    let ask = question(rt, time, BOX.ends, BOX.levels);
+    ask_hall(alloc, rt, hall_of_two(alloc, rt)?, &ask, fails)
+}
+
+/// A time that lacks costs no read.
+#[test]
+fn a_time_without_a_step_is_refused(rt: HostRuntime) -> Result<(), Fail> {
+    let lacks = ask_at(rt.alloc(), &rt, 5, 1)?;
+    assert_eq!(rt; lacks.answer, Err(QueryFault::NotPublished { board: 2 }));
+    assert_eq!(rt; lacks.reads, 0);
+    Ok(())
+}
+
+#[test]
+fn the_step_of_the_time_answers(rt: HostRuntime) -> Result<(), Fail> {
+    let other = ask_at(rt.alloc(), &rt, 1, NONE)?;
+    assert_eq!(rt; other.answer.ok().map(|report| report.post), Some(1));
+    assert_eq!(rt; other.out.as_slice(), WHOLE);
+    Ok(())
+}
