@@ -14,8 +14,8 @@ pub ask_read : (h : HeaderValue) (pairs : List Pair) (ask : Ask) → names_field
     IsAskRead h pairs (Ok ask)
 ask_read h pairs ask named asked =
     let right : step_fault h pairs ≡ None =
-        ap (λ b. first_of (where_true (not b) F.UnknownField) (where_true (not (is_some (time_asked h (values (codes "time") pairs)))) F.BadTime)) named
-        ∙ ap (λ t. where_true (not (is_some t)) F.BadTime) asked.time in
+    ap (λ b. first_of (where_true (not b) F.UnknownField) (where_true (not (is_some (time_asked h (values (codes "time") pairs)))) F.BadTime)) named
+    ∙ ap (λ t. where_true (not (is_some t)) F.BadTime) asked.time in
     subst (IsReadBy h pairs (Ok ask)) (sym right) asked
 
 or_false : (a b : Bool) → (a || b) ≡ false → (a ≡ false) × (b ≡ false)
@@ -46,8 +46,8 @@ pub target_read : (h : HeaderValue) (name target : List ℕ) (result : Result As
 target_read h name target result path wish read =
     let pairs : List Pair = pairs_of (split_once 63 target).1 in
     let early : early_fault h name target ≡ step_fault h pairs =
-        ap (λ b. first_of (where_true (not b) F.OtherPath) (first_of (wish_fault name pairs) (step_fault h pairs))) path
-        ∙ ap (λ w. first_of w (step_fault h pairs)) wish in
+    ap (λ b. first_of (where_true (not b) F.OtherPath) (first_of (wish_fault name pairs) (step_fault h pairs))) path
+    ∙ ap (λ w. first_of w (step_fault h pairs)) wish in
     subst (IsReadBy h pairs result) (sym early) read
 
 -- where what is wished is right no parameter stands twice
@@ -70,8 +70,8 @@ module _ (h : HeaderValue) (name target : List ℕ) (path : bytes_eq (split_once
   refused : (fault : TargetFault) → wish_fault name pairs ≡ Some fault → IsRead h name target (Err fault)
   refused fault wish =
       let early : early_fault h name target ≡ Some fault =
-          ap (λ b. first_of (where_true (not b) F.OtherPath) (first_of (wish_fault name pairs) (step_fault h pairs))) path
-          ∙ ap (λ w. first_of w (step_fault h pairs)) wish in
+      ap (λ b. first_of (where_true (not b) F.OtherPath) (first_of (wish_fault name pairs) (step_fault h pairs))) path
+      ∙ ap (λ w. first_of w (step_fault h pairs)) wish in
       subst (IsReadBy h pairs (Err fault)) (sym early) (inl refl)
 
   pub wish_refused : (fault : TargetFault) → IsAnswer (wish_fault name pairs) (Err fault) → IsRead h name target (Err fault)

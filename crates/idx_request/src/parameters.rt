@@ -70,7 +70,9 @@ impl<'a> Parameters<'a> {
             lo: self.lo.and(key == b"fromh".as_slice(), value),
             hi: self.hi.and(key == b"toh".as_slice(), value),
             finest: self.finest.and(key == b"maxh".as_slice(), value),
-            compression: self.compression.and(key == b"compression".as_slice(), value),
+            compression: self
+                .compression
+                .and(key == b"compression".as_slice(), value),
         })
     }
 

@@ -17,6 +17,8 @@ returns-in-Some c values noted single =
 pub returns : goal.returns
 returns c values noted single =
     let is : values ≡ text_of c.in-Once.value.now ∷ [] = subst (λ n. IsNoted n values) c.in-Once.is noted in
-    let same : c.as_bytes.result.now ≡ text_of c.in-Once.value.now = search rules in
-    (refl, subst (λ vs. names_field c.args.header.now.fields vs ≡ false) (sym is)
-    (names_lost c.args.header.now.fields _ (λ i within equal. c.in-None.ensures.none i within (equal ∙ sym same))))
+    let same : c.as_bytes.result.now ≡ text_of c.in-Once.value.now = search rules in (
+      refl,
+      subst (λ vs. names_field c.args.header.now.fields vs ≡ false) (sym is)
+          (names_lost c.args.header.now.fields _ (λ i within equal. c.in-None.ensures.none i within (equal ∙ sym same))),
+    )

@@ -15,7 +15,7 @@ pub returns-in_err-check_wish : goal.returns-in_err-check_wish
 returns-in_err-check_wish c =
     let query = (split_once 63 c.args.target.now).1 in
     let kept : AreKept (pairs_of query) c.in-Ok.parameters =
-        subst (λ q. AreKept (pairs_of q) c.in-Ok.parameters) c.cut.ensures.query c.in-Ok.ensures in
+    subst (λ q. AreKept (pairs_of q) c.in-Ok.parameters) c.cut.ensures.query c.in-Ok.ensures in
     let fault = c.in_err-check_wish.field-0.0 in
     let answered : c.check_wish.result ≡ Err fault = search rules in
     let handed : Err fault ≡ c.from_residual.result = search rules in
@@ -27,7 +27,7 @@ pub returns : goal.returns
 returns c =
     let query = (split_once 63 c.args.target.now).1 in
     let kept : AreKept (pairs_of query) c.in-Ok.parameters =
-        subst (λ q. AreKept (pairs_of q) c.in-Ok.parameters) c.cut.ensures.query c.in-Ok.ensures in
+    subst (λ q. AreKept (pairs_of q) c.in-Ok.parameters) c.cut.ensures.query c.in-Ok.ensures in
     let wish : wish_fault c.args.name.now (pairs_of query) ≡ None = search rules in
     target_read c.args.header.now c.args.name.now c.args.target.now c.ask_of.result (search rules) (search rules)
     (c.ask_of.ensures (pairs_of query) kept (no_double (list_any is_bad_pair (pairs_of query)) (has_double (pairs_of query)) _ wish))
