@@ -1,0 +1,3 @@
+pub mod PairLemmas
+pub mod FieldLemmas
+pub mod AskLemmas

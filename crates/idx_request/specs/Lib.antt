@@ -1,0 +1,4 @@
+pub mod Pairs
+pub mod Asked
+pub mod Faults
+pub mod Kept
