@@ -1,27 +1,32 @@
 -- What a run of `convert` comes to where what it meets is known.
-use Rattle.std.proofs.Common.{◌≡◌, ◌≢◌, ◌⊎◌, ℕ, ◌^◌, ◌<◌, ◌≤◌, List, [], length, Ok, IsErr, IfSome, IsSomeAnd, inl, inr, refl, sym, ◌∙◌, subst, arith}
+use Rattle.std.proofs.Common.{◌≡◌, ◌≢◌, ◌⊎◌, ℕ, ◌^◌, ◌<◌, ◌≤◌, List, [], length, Option, Some, None, Ok, Err, IsErr, IfSome, IsSomeAnd, inl, inr, refl, sym, ap, ◌∙◌, subst, arith}
+use Rattle.std.specs.Prelude.{Result}
 use Rattle.std.proofs.lemmas.Bool.{false≢true}
 use Rattle.idx_outside.specs.Cause.{NeverFalls, Rose}
-use Rattle.idx_outside.specs.Files.{HasStep as HasCommitted, StillAdmits}
+use Rattle.idx_outside.specs.Files.{HasStep as HasCommitted}
 use Rattle.idx_outside.specs.Objects.{UsesOnly}
+use Rattle.idx_outside.specs.declared.bay_call.BayCall.{BayCall}
+use Rattle.idx_outside.specs.declared.bay_call.BayCall.TheVariants as calls
 use Rattle.idx_outside.specs.declared.mem_file.MemFile.{MemFile}
 use Rattle.idx_header.specs.declared.header_kind.HeaderKind.{HeaderKind}
 use Rattle.idx_header.specs.Header.{HeaderValue, Agree, volume_bytes}
 use Rattle.idx_header.specs.HeaderOf.{header_of}
 use Rattle.idx_header.specs.Names.{step_folder}
-use Rattle.idx_gather.specs.Gather.{HasFolder}
+use Rattle.idx_header.specs.OfBay.{IsFaultOfSome}
+use Rattle.idx_gather.specs.Gather.{HasFolder, LacksVolume}
 use Rattle.idx_convert.specs.declared.convert_fault.ConvertFault.{ConvertFault}
 use Rattle.idx_convert.specs.declared.convert_fault.ConvertFault.TheVariants as faults
-use Rattle.idx_convert.specs.Convert.{AsksFor, Asks, Differs, IsCause, IsNew, IsEarly, IsRefused, Stands, Suits, Takes}
+use Rattle.idx_convert.specs.Convert.{Asks, AsksFor, Begins, Converted, Differs, Ends, IsCause, IsEarly, IsFailedCall, IsNew, IsRight, LeavesFailed, Stands, Suits, Takes, put_where_none}
+use Rattle.idx_convert.specs.Known.{KeepsBay, Known}
 use Rattle.idx_words.specs.ConvertValue.{ConvertValue}
 use Rattle.idx_words.specs.Built.{IsBuilt}
 use Rattle.idx_words.proofs.BuiltLemmas.{IsBuilt-once}
 use Rattle.idx_commands.specs.declared.causes.Cause.{Cause}
 use Rattle.idx_commands.specs.declared.causes.Cause.TheVariants as causes
 use Rattle.idx_commands.specs.Cause.{status_of}
-use Rattle.idx_commands.specs.Known.{Known, known}
+use Rattle.idx_commands.specs.Known.{known}
 use Rattle.idx_commands.specs.Seen.{BaySeen, RawsSeen, bay_after, bay_before, raw_after, raw_before}
-use Rattle.idx_commands.specs.ConvertRun.{cause_of_fault, ConvertEnds, ConvertMeans, Fails, IsConverted, IsEarlyCause}
+use Rattle.idx_commands.specs.ConvertRun.{AsksForText, cause_of_fault, ConvertEnds, ConvertMeans, Fails, FailsAtHeader, FailsFirst, IsEarlyCause}
 use Rattle.idx_commands.proofs.KnownLemmas.{both_hold, not_refused, one_header}
 use Rattle.idx_commands.specs.Due.{HasOtherLength, HasRightLength, IsBadText, IsFree, IsTooLarge, LacksStep, MeetsBadHeader, MeetsOtherHeader, MeetsStep}
 
@@ -36,10 +41,10 @@ suits_not_bad h known (inr (other, (reads, agree))) (stands, refused) = not_err 
 differs_not_bad : (h : HeaderValue) (known : List ℕ) → Differs h known → (known ≢ []) × IsErr (header_of known) → ⊥
 differs_not_bad h known (stands, (other, (reads, differ))) (some, refused) = not_err known other reads refused
 
-differs_not_refused : (h : HeaderValue) (line : ℕ) (kind : HeaderKind) (known : List ℕ) → IsRefused known line kind → Differs h known → ⊥
+differs_not_refused : (h : HeaderValue) (line : ℕ) (kind : HeaderKind) (known : List ℕ) → IsFaultOfSome known line kind → Differs h known → ⊥
 differs_not_refused h line kind known (some, refused) (stands, (other, (reads, differ))) = not_refused known other _ reads refused
 
-suits_not_refused : (h : HeaderValue) (line : ℕ) (kind : HeaderKind) (known : List ℕ) → IsRefused known line kind → Suits h known → ⊥
+suits_not_refused : (h : HeaderValue) (line : ℕ) (kind : HeaderKind) (known : List ℕ) → IsFaultOfSome known line kind → Suits h known → ⊥
 suits_not_refused h line kind known (some, refused) (inl none) = some none
 suits_not_refused h line kind known (some, refused) (inr (other, (reads, agree))) = not_refused known other _ reads refused
 
@@ -56,7 +61,11 @@ new_not_stands h step files new stands =
 
 module _ (text : List ℕ) (step : ℕ) (k : Known) where
   abbrev C : ConvertFault → Type 0
-  C fault = IsCause text step k.header k.files k.raw k.raw_before k.raw_after k.bay_before k.bay_after fault
+  C fault = IsCause text step k fault
+
+  -- which call of the bay failed
+  abbrev F : ConvertFault → Type 0
+  F fault = LeavesFailed {T = Unit {0}} text step k (Err fault)
 
   abbrev st : ConvertFault → ℕ
   st fault = status_of (cause_of_fault step fault)
@@ -114,7 +123,7 @@ module _ (text : List ℕ) (step : ℕ) (k : Known) where
   -- what is asked for is right: what each fault then says of its header
   module _ (h : HeaderValue) (asked : AsksFor text step h) where
     abbrev Late : ConvertFault → Type 0
-    Late (faults.Header line kind) = IfSome k.header (λ known. IsRefused known line kind)
+    Late (faults.Header line kind) = IfSome k.header (λ known. IsFaultOfSome known line kind)
     Late faults.NoStep = ⊥
     Late (faults.TooLarge bytes) = ⊥
     Late faults.OtherHeader = IfSome k.header (Differs h)
@@ -130,7 +139,7 @@ module _ (text : List ℕ) (step : ℕ) (k : Known) where
 
     late : (fault : ConvertFault) → C fault → Late fault
     late (faults.Header line kind) (real, inl refused) = absurd (not_refused text h _ asked.reads refused)
-    late (faults.Header line kind) (real, inr c) = of_header (λ g. IfSome k.header (λ known. IsRefused known line kind)) c
+    late (faults.Header line kind) (real, inr c) = of_header (λ g. IfSome k.header (λ known. IsFaultOfSome known line kind)) c
     late faults.NoStep c = absurd (not_lacking h asked c)
     late (faults.TooLarge bytes) (g, (reads, (folder, same, large))) =
         absurd (not_large h asked (g, (reads, (folder, subst (λ n. 2 ^ 30 < n) same large))))
@@ -143,44 +152,67 @@ module _ (text : List ℕ) (step : ℕ) (k : Known) where
     late faults.StoreFault c = of_header (λ g. Rose k.bay_before k.bay_after) c
     late faults.NoMemory c = tt
 
+    -- the call that failed: where what stands does not suit, the first one, and where something is wrong, one of the first two
+    header_call : (IfSome k.header (Suits h) → ⊥) → (call : Option BayCall) → IsFailedCall text step k call → call ≡ Some calls.Header
+    header_call wrong (Some calls.Header) f = refl
+    header_call wrong (Some calls.HasStep) f = absurd (wrong (of_header (λ g. IfSome k.header (Suits g)) f.1))
+    header_call wrong (Some calls.SetHeader) f = absurd (wrong (of_header (λ g. IsRight g step k) f.2).0.suits)
+    header_call wrong (Some calls.BeginStep) f = absurd (wrong (of_header (λ g. IsRight g step k) f.3).0.suits)
+    header_call wrong (Some calls.Create) f = absurd (wrong (of_header (λ g. IsRight g step k × Begins g step k) f.2).0.0.suits)
+    header_call wrong (Some calls.Retire) f = absurd (wrong (of_header (λ g. IsRight g step k × Begins g step k) f.2).0.0.suits)
+    header_call wrong (Some calls.Commit) f = absurd (wrong (of_header (λ g. IsRight g step k × Begins g step k) f.2).0.0.suits)
+    header_call wrong (Some calls.Leaf) f = absurd f
+    header_call wrong None f = absurd f
+
+    first_call : (IsRight h step k → ⊥) → (call : Option BayCall) → IsFailedCall text step k call → (call ≡ Some calls.Header) ⊎ (call ≡ Some calls.HasStep)
+    first_call wrong (Some calls.Header) f = inl refl
+    first_call wrong (Some calls.HasStep) f = inr refl
+    first_call wrong (Some calls.SetHeader) f = absurd (wrong (of_header (λ g. IsRight g step k) f.2))
+    first_call wrong (Some calls.BeginStep) f = absurd (wrong (of_header (λ g. IsRight g step k) f.3))
+    first_call wrong (Some calls.Create) f = absurd (wrong (of_header (λ g. IsRight g step k × Begins g step k) f.2).0)
+    first_call wrong (Some calls.Retire) f = absurd (wrong (of_header (λ g. IsRight g step k × Begins g step k) f.2).0)
+    first_call wrong (Some calls.Commit) f = absurd (wrong (of_header (λ g. IsRight g step k × Begins g step k) f.2).0)
+    first_call wrong (Some calls.Leaf) f = absurd f
+    first_call wrong None f = absurd f
+
     -- a header stands that is refused
-    bad_standing : IsSomeAnd k.header (λ known. (known ≢ []) × IsErr (header_of known)) → (fault : ConvertFault) → Late fault →
-        (st fault ≡ 2) ⊎ ((st fault ≡ 5) ⊎ (st fault ≡ 11))
-    bad_standing bad (faults.Header line kind) c = inl refl
-    bad_standing bad faults.OtherHeader c = absurd (both_hold k.header (Differs h) _ (differs_not_bad h) c bad)
-    bad_standing bad faults.AlreadyPublished c = absurd (both_hold k.header (Suits h) _ (suits_not_bad h) c.0 bad)
-    bad_standing bad (faults.RawWrongSize want found) c = absurd (both_hold k.header (Suits h) _ (suits_not_bad h) c.0.suits bad)
-    bad_standing bad faults.RawFault c = absurd (both_hold k.header (Suits h) _ (suits_not_bad h) c.0.suits bad)
-    bad_standing bad faults.StoreFault c = inr (inl refl)
-    bad_standing bad faults.NoMemory c = inr (inr refl)
-    bad_standing bad faults.NoStep c = absurd c
-    bad_standing bad (faults.TooLarge bytes) c = absurd c
+    bad_standing : IsSomeAnd k.header (λ known. (known ≢ []) × IsErr (header_of known)) → (fault : ConvertFault) → F fault → Late fault →
+        (st fault ≡ 2) ⊎ (FailsAtHeader (st fault) k.failed_after ⊎ (st fault ≡ 11))
+    bad_standing bad (faults.Header line kind) f c = inl refl
+    bad_standing bad faults.OtherHeader f c = absurd (both_hold k.header (Differs h) _ (differs_not_bad h) c bad)
+    bad_standing bad faults.AlreadyPublished f c = absurd (both_hold k.header (Suits h) _ (suits_not_bad h) c.0 bad)
+    bad_standing bad (faults.RawWrongSize want found) f c = absurd (both_hold k.header (Suits h) _ (suits_not_bad h) c.0.suits bad)
+    bad_standing bad faults.RawFault f c = absurd (both_hold k.header (Suits h) _ (suits_not_bad h) c.0.suits bad)
+    bad_standing bad faults.StoreFault f c = inr (inl (refl, header_call (λ suits. both_hold k.header (Suits h) _ (suits_not_bad h) suits bad) k.failed_after f))
+    bad_standing bad faults.NoMemory f c = inr (inr refl)
+    bad_standing bad faults.NoStep f c = absurd c
+    bad_standing bad (faults.TooLarge bytes) f c = absurd c
 
     -- a header stands that does not agree
-    other_header : IsSomeAnd k.header (Differs h) → (fault : ConvertFault) → Late fault →
-        (st fault ≡ 6) ⊎ ((st fault ≡ 5) ⊎ (st fault ≡ 11))
-    other_header other (faults.Header line kind) c = absurd (both_hold k.header (λ known. IsRefused known line kind) _ (differs_not_refused h line kind) c other)
-    other_header other faults.OtherHeader c = inl refl
-    other_header other faults.AlreadyPublished c = inl refl
-    other_header other (faults.RawWrongSize want found) c = absurd (both_hold k.header (Suits h) _ (suits_not_differs h) c.0.suits other)
-    other_header other faults.RawFault c = absurd (both_hold k.header (Suits h) _ (suits_not_differs h) c.0.suits other)
-    other_header other faults.StoreFault c = inr (inl refl)
-    other_header other faults.NoMemory c = inr (inr refl)
-    other_header other faults.NoStep c = absurd c
-    other_header other (faults.TooLarge bytes) c = absurd c
+    other_header : IsSomeAnd k.header (Differs h) → (fault : ConvertFault) → F fault → Late fault →
+        (st fault ≡ 6) ⊎ (FailsAtHeader (st fault) k.failed_after ⊎ (st fault ≡ 11))
+    other_header other (faults.Header line kind) f c = absurd (both_hold k.header (λ known. IsFaultOfSome known line kind) _ (differs_not_refused h line kind) c other)
+    other_header other faults.OtherHeader f c = inl refl
+    other_header other faults.AlreadyPublished f c = inl refl
+    other_header other (faults.RawWrongSize want found) f c = absurd (both_hold k.header (Suits h) _ (suits_not_differs h) c.0.suits other)
+    other_header other faults.RawFault f c = absurd (both_hold k.header (Suits h) _ (suits_not_differs h) c.0.suits other)
+    other_header other faults.StoreFault f c = inr (inl (refl, header_call (λ suits. both_hold k.header (Suits h) _ (suits_not_differs h) suits other) k.failed_after f))
+    other_header other faults.NoMemory f c = inr (inr refl)
+    other_header other faults.NoStep f c = absurd c
+    other_header other (faults.TooLarge bytes) f c = absurd c
 
     -- the step stands
-    published : IsSomeAnd k.header (Suits h) → IsSomeAnd k.files (Stands h step) → (fault : ConvertFault) → Late fault →
-        (st fault ≡ 6) ⊎ ((st fault ≡ 5) ⊎ (st fault ≡ 11))
-    published suits stands (faults.Header line kind) c = absurd (both_hold k.header (λ known. IsRefused known line kind) _ (suits_not_refused h line kind) c suits)
-    published suits stands faults.OtherHeader c = inl refl
-    published suits stands faults.AlreadyPublished c = inl refl
-    published suits stands (faults.RawWrongSize want found) c = absurd (both_hold k.files (IsNew h step) _ (new_not_stands h step) c.0.new stands)
-    published suits stands faults.RawFault c = absurd (both_hold k.files (IsNew h step) _ (new_not_stands h step) c.0.new stands)
-    published suits stands faults.StoreFault c = inr (inl refl)
-    published suits stands faults.NoMemory c = inr (inr refl)
-    published suits stands faults.NoStep c = absurd c
-    published suits stands (faults.TooLarge bytes) c = absurd c
+    published : IsSomeAnd k.header (Suits h) → IsSomeAnd k.files (Stands h step) → (fault : ConvertFault) → F fault → Late fault →
+        (st fault ≡ 6) ⊎ (FailsFirst (st fault) k.failed_after ⊎ (st fault ≡ 11))
+    published suits stands (faults.Header line kind) f c = absurd (both_hold k.header (λ known. IsFaultOfSome known line kind) _ (suits_not_refused h line kind) c suits)
+    published suits stands faults.OtherHeader f c = inl refl
+    published suits stands faults.AlreadyPublished f c = inl refl
+    published suits stands (faults.RawWrongSize want found) f c = absurd (both_hold k.files (IsNew h step) _ (new_not_stands h step) c.0.new stands)
+    published suits stands faults.RawFault f c = absurd (both_hold k.files (IsNew h step) _ (new_not_stands h step) c.0.new stands)
+    published suits stands faults.StoreFault f c = inr (inl (refl, first_call (λ right. both_hold k.files (IsNew h step) _ (new_not_stands h step) right.0.new stands) k.failed_after f))
+    published suits stands faults.NoMemory f c = inr (inr refl)
+    published suits stands faults.NoStep f c = absurd c
+    published suits stands (faults.TooLarge bytes) f c = absurd c
 
     -- all is right but the length
     module _ (suits : IsSomeAnd k.header (Suits h)) (new : IsSomeAnd k.files (IsNew h step)) where
@@ -190,22 +222,22 @@ module _ (text : List ℕ) (step : ℕ) (k : Known) where
       stands_too : (files : List MemFile) → Stands h step files → IsNew h step files → ⊥
       stands_too files stands is_new = new_not_stands h step files is_new stands
 
-      other_length : (fault : ConvertFault) → Late fault →
-          (st fault ≡ 3) ⊎ ((st fault ≡ 4) ⊎ ((st fault ≡ 5) ⊎ (st fault ≡ 11)))
-      other_length (faults.Header line kind) c = absurd (both_hold k.header (λ known. IsRefused known line kind) _ (suits_not_refused h line kind) c suits)
-      other_length faults.OtherHeader c = absurd (both_hold k.header (Differs h) _ differs_too c suits)
-      other_length faults.AlreadyPublished c = absurd (both_hold k.files (Stands h step) _ stands_too c.1 new)
-      other_length (faults.RawWrongSize want found) c = inl refl
-      other_length faults.RawFault c = inr (inl refl)
-      other_length faults.StoreFault c = inr (inr (inl refl))
-      other_length faults.NoMemory c = inr (inr (inr refl))
-      other_length faults.NoStep c = absurd c
-      other_length (faults.TooLarge bytes) c = absurd c
+      other_length : IsSomeAnd k.raw (HasOtherLength h) → (fault : ConvertFault) → F fault → Late fault →
+          (st fault ≡ 3) ⊎ ((st fault ≡ 4) ⊎ (FailsFirst (st fault) k.failed_after ⊎ (st fault ≡ 11)))
+      other_length other (faults.Header line kind) f c = absurd (both_hold k.header (λ known. IsFaultOfSome known line kind) _ (suits_not_refused h line kind) c suits)
+      other_length other faults.OtherHeader f c = absurd (both_hold k.header (Differs h) _ differs_too c suits)
+      other_length other faults.AlreadyPublished f c = absurd (both_hold k.files (Stands h step) _ stands_too c.1 new)
+      other_length other (faults.RawWrongSize want found) f c = inl refl
+      other_length other faults.RawFault f c = inr (inl refl)
+      other_length other faults.StoreFault f c = inr (inr (inl (refl, first_call (λ right. both_hold k.raw (HasRightLength h) (HasOtherLength h) (λ bytes fits wrong. wrong fits) right.1 other) k.failed_after f)))
+      other_length other faults.NoMemory f c = inr (inr (inr refl))
+      other_length other faults.NoStep f c = absurd c
+      other_length other (faults.TooLarge bytes) f c = absurd c
 
       -- so is the length, and no fault was counted
       complete : IsSomeAnd k.raw (HasRightLength h) → ¬ Rose k.raw_before k.raw_after → ¬ Rose k.bay_before k.bay_after → (fault : ConvertFault) → Late fault →
           (st fault ≡ 0) ⊎ (st fault ≡ 11)
-      complete right raw_quiet bay_quiet (faults.Header line kind) c = absurd (both_hold k.header (λ known. IsRefused known line kind) _ (suits_not_refused h line kind) c suits)
+      complete right raw_quiet bay_quiet (faults.Header line kind) c = absurd (both_hold k.header (λ known. IsFaultOfSome known line kind) _ (suits_not_refused h line kind) c suits)
       complete right raw_quiet bay_quiet faults.OtherHeader c = absurd (both_hold k.header (Differs h) _ differs_too c suits)
       complete right raw_quiet bay_quiet faults.AlreadyPublished c = absurd (both_hold k.files (Stands h step) _ stands_too c.1 new)
       complete right raw_quiet bay_quiet (faults.RawWrongSize want found) (takes, asks, other, found_is) =
@@ -218,8 +250,8 @@ module _ (text : List ℕ) (step : ℕ) (k : Known) where
 
 -- The end of a run of `convert` under the one header text that its words ask for: this is so of its status where it is so of
 -- status 0 if the step was written, of want of memory, and of each fault.
-judged : (P : ℕ → Type 0) (c : ConvertValue) (k : Known) (text : List ℕ) → IsBuilt c text → (IsConverted text c.step k → P 0) → P 11 →
-    ((fault : ConvertFault) → C text c.step k fault → P (status_of (cause_of_fault c.step fault))) →
+judged : (P : ℕ → Type 0) (c : ConvertValue) (k : Known) (text : List ℕ) → IsBuilt c text → (Converted text c.step k → P 0) → P 11 →
+    ((fault : ConvertFault) → C text c.step k fault → F text c.step k fault → P (status_of (cause_of_fault c.step fault))) →
     (cause : Cause) → ConvertMeans c k cause → P (status_of cause)
 judged P c k text built done starved failed = end
   where
@@ -227,13 +259,13 @@ judged P c k text built done starved failed = end
     same other is = IsBuilt-once c other text is built
 
     fails : (cause : Cause) → Fails text c.step k cause → P (status_of cause)
-    fails cause f = subst (λ x. P (status_of x)) (sym f.is) (failed f.fault f.caused)
+    fails cause f = subst (λ x. P (status_of x)) (sym f.is) (failed f.fault f.caused f.failed)
 
     at : (cause : Cause) (other : List ℕ) → IsBuilt c other → Fails other c.step k cause → P (status_of cause)
     at cause other is f = fails cause (subst (λ x. Fails x c.step k cause) (same other is) f)
 
     end : (cause : Cause) → ConvertMeans c k cause → P (status_of cause)
-    end causes.Done (other, (is, wrote)) = done (subst (λ x. IsConverted x c.step k) (same other is) wrote)
+    end causes.Done (other, (is, wrote)) = done (subst (λ x. Converted x c.step k) (same other is) wrote)
     end (causes.Usage place) ends = absurd ends
     end causes.SinkFault ends = absurd ends
     end causes.NoMemory ends = starved
@@ -241,64 +273,64 @@ judged P c k text built done starved failed = end
 
 module _ (c : ConvertValue) (k : Known) (cause : Cause) (ends : ConvertMeans c k cause) where
   -- what was converted has the header that was asked for
-  wrote_for : (text : List ℕ) (step : ℕ) (h : HeaderValue) → AsksFor text step h → (wrote : IsConverted text step k) → (P : HeaderValue → Type 0) → P wrote.header → P h
+  wrote_for : (text : List ℕ) (step : ℕ) (h : HeaderValue) → AsksFor text step h → (wrote : Converted text step k) → (P : HeaderValue → Type 0) → P wrote.header → P h
   wrote_for text step h asked wrote P = subst P (one_header text wrote.header h wrote.asked.reads asked.reads)
 
   pub bad_text_ends : (text : List ℕ) → IsBuilt c text → IsBadText text c.step → (status_of cause ≡ 2) ⊎ (status_of cause ≡ 11)
   bad_text_ends text built bad =
       judged (λ s. (s ≡ 2) ⊎ (s ≡ 11)) c k text built
       (λ wrote. absurd (not_err text wrote.header wrote.asked.reads bad)) (inr refl)
-      (λ fault caused. bad_text text c.step k fault caused bad) cause ends
+      (λ fault caused call. bad_text text c.step k fault caused bad) cause ends
 
   pub no_step_ends : (text : List ℕ) → IsBuilt c text → LacksStep text c.step → (status_of cause ≡ 8) ⊎ (status_of cause ≡ 11)
   no_step_ends text built lacks =
       judged (λ s. (s ≡ 8) ⊎ (s ≡ 11)) c k text built
       (λ wrote. absurd (not_lacking text c.step k wrote.header wrote.asked lacks)) (inr refl)
-      (λ fault caused. no_step text c.step k fault caused lacks) cause ends
+      (λ fault caused call. no_step text c.step k fault caused lacks) cause ends
 
   pub too_large_ends : (text : List ℕ) → IsBuilt c text → IsTooLarge text c.step → (status_of cause ≡ 8) ⊎ (status_of cause ≡ 11)
   too_large_ends text built large =
       judged (λ s. (s ≡ 8) ⊎ (s ≡ 11)) c k text built
       (λ wrote. absurd (not_large text c.step k wrote.header wrote.asked large)) (inr refl)
-      (λ fault caused. too_large text c.step k fault caused large) cause ends
+      (λ fault caused call. too_large text c.step k fault caused large) cause ends
 
   pub bad_standing_ends : (text : List ℕ) → IsBuilt c text → MeetsBadHeader k.header text c.step →
-      (status_of cause ≡ 2) ⊎ ((status_of cause ≡ 5) ⊎ (status_of cause ≡ 11))
+      (status_of cause ≡ 2) ⊎ (FailsAtHeader (status_of cause) k.failed_after ⊎ (status_of cause ≡ 11))
   bad_standing_ends text built (h, (asked, bad)) =
-      judged (λ s. (s ≡ 2) ⊎ ((s ≡ 5) ⊎ (s ≡ 11))) c k text built
+      judged (λ s. (s ≡ 2) ⊎ (FailsAtHeader s k.failed_after ⊎ (s ≡ 11))) c k text built
       (λ wrote. absurd (both_hold k.header (Suits wrote.header) _ (suits_not_bad wrote.header) wrote.taken.suits bad)) (inr (inr refl))
-      (λ fault caused. bad_standing text c.step k h asked bad fault (late text c.step k h asked fault caused)) cause ends
+      (λ fault caused call. bad_standing text c.step k h asked bad fault call (late text c.step k h asked fault caused)) cause ends
 
   pub other_header_ends : (text : List ℕ) → IsBuilt c text → MeetsOtherHeader k.header text c.step →
-      (status_of cause ≡ 6) ⊎ ((status_of cause ≡ 5) ⊎ (status_of cause ≡ 11))
+      (status_of cause ≡ 6) ⊎ (FailsAtHeader (status_of cause) k.failed_after ⊎ (status_of cause ≡ 11))
   other_header_ends text built (h, (asked, other)) =
-      judged (λ s. (s ≡ 6) ⊎ ((s ≡ 5) ⊎ (s ≡ 11))) c k text built
+      judged (λ s. (s ≡ 6) ⊎ (FailsAtHeader s k.failed_after ⊎ (s ≡ 11))) c k text built
       (λ wrote. let taken = wrote_for text c.step h asked wrote (λ g. Takes g c.step k.header k.files) wrote.taken in
       absurd (both_hold k.header (Suits h) (Differs h) (suits_not_differs h) taken.suits other)) (inr (inr refl))
-      (λ fault caused. other_header text c.step k h asked other fault (late text c.step k h asked fault caused)) cause ends
+      (λ fault caused call. other_header text c.step k h asked other fault call (late text c.step k h asked fault caused)) cause ends
 
   pub published_ends : (text : List ℕ) → IsBuilt c text → MeetsStep k.header k.files text c.step →
-      (status_of cause ≡ 6) ⊎ ((status_of cause ≡ 5) ⊎ (status_of cause ≡ 11))
+      (status_of cause ≡ 6) ⊎ (FailsFirst (status_of cause) k.failed_after ⊎ (status_of cause ≡ 11))
   published_ends text built (h, (asked, (suits, stands))) =
-      judged (λ s. (s ≡ 6) ⊎ ((s ≡ 5) ⊎ (s ≡ 11))) c k text built
+      judged (λ s. (s ≡ 6) ⊎ (FailsFirst s k.failed_after ⊎ (s ≡ 11))) c k text built
       (λ wrote. let taken = wrote_for text c.step h asked wrote (λ g. Takes g c.step k.header k.files) wrote.taken in
       absurd (both_hold k.files (IsNew h c.step) (Stands h c.step) (new_not_stands h c.step) taken.new stands)) (inr (inr refl))
-      (λ fault caused. published text c.step k h asked suits stands fault (late text c.step k h asked fault caused)) cause ends
+      (λ fault caused call. published text c.step k h asked suits stands fault call (late text c.step k h asked fault caused)) cause ends
 
   pub other_length_ends : (text : List ℕ) → IsBuilt c text → IsFree k.header k.files k.raw HasOtherLength text c.step →
-      (status_of cause ≡ 3) ⊎ ((status_of cause ≡ 4) ⊎ ((status_of cause ≡ 5) ⊎ (status_of cause ≡ 11)))
+      (status_of cause ≡ 3) ⊎ ((status_of cause ≡ 4) ⊎ (FailsFirst (status_of cause) k.failed_after ⊎ (status_of cause ≡ 11)))
   other_length_ends text built (h, (asked, (suits, new, other))) =
-      judged (λ s. (s ≡ 3) ⊎ ((s ≡ 4) ⊎ ((s ≡ 5) ⊎ (s ≡ 11)))) c k text built
+      judged (λ s. (s ≡ 3) ⊎ ((s ≡ 4) ⊎ (FailsFirst s k.failed_after ⊎ (s ≡ 11)))) c k text built
       (λ wrote. let size = wrote_for text c.step h asked wrote (λ g. IfSome k.raw (HasRightLength g)) wrote.size in
       absurd (both_hold k.raw (HasRightLength h) (HasOtherLength h) (λ bytes right wrong. wrong right) size other)) (inr (inr (inr refl)))
-      (λ fault caused. other_length text c.step k h asked suits new fault (late text c.step k h asked fault caused)) cause ends
+      (λ fault caused call. other_length text c.step k h asked suits new other fault call (late text c.step k h asked fault caused)) cause ends
 
   pub complete_ends : (text : List ℕ) → IsBuilt c text → IsFree k.header k.files k.raw HasRightLength text c.step →
       ¬ Rose k.raw_before k.raw_after → ¬ Rose k.bay_before k.bay_after → (status_of cause ≡ 0) ⊎ (status_of cause ≡ 11)
   complete_ends text built (h, (asked, (suits, new, right))) raw_quiet bay_quiet =
       judged (λ s. (s ≡ 0) ⊎ (s ≡ 11)) c k text built
       (λ wrote. inl refl) (inr refl)
-      (λ fault caused. complete text c.step k h asked suits new right raw_quiet bay_quiet fault (late text c.step k h asked fault caused)) cause ends
+      (λ fault caused call. complete text c.step k h asked suits new right raw_quiet bay_quiet fault (late text c.step k h asked fault caused)) cause ends
 
 -- a fault of the raw volume or of the store has its cause
 only_raw : (text : List ℕ) (step : ℕ) (k : Known) (fault : ConvertFault) → cause_of_fault step fault ≡ causes.RawFault → C text step k fault →
@@ -317,38 +349,159 @@ raw_cause c k (text, (built, f)) = only_raw text c.step k f.fault (sym f.is) f.c
 pub store_cause : (c : ConvertValue) (k : Known) → ConvertMeans c k causes.StoreFault → Rose k.bay_before k.bay_after
 store_cause c k (text, (built, f)) = only_store text c.step k f.fault (sym f.is) f.caused
 
+-- a run of `convert` does not end for its words
+pub never_usage : (c : ConvertValue) (k : Known) (cause : Cause) → ConvertMeans c k cause → status_of cause ≡ 1 → ⊥
+never_usage c k (causes.Usage at) m one = m
+never_usage c k cause m one = omega (arith, one)
+
 -- the early causes are those of the early faults
-pub early_fault : (step : ℕ) (fault : ConvertFault) → IsEarlyCause (cause_of_fault step fault) → IsEarly fault
-early_fault step (faults.Header line kind) early = early
-early_fault step faults.NoStep early = early
-early_fault step (faults.TooLarge bytes) early = early
-early_fault step faults.OtherHeader early = early
-early_fault step faults.AlreadyPublished early = early
-early_fault step (faults.RawWrongSize want found) early = early
-early_fault step faults.RawFault early = early
-early_fault step faults.StoreFault early = early
-early_fault step faults.NoMemory early = early
+early_fault : (raw : Option (List ℕ)) (step : ℕ) (fault : ConvertFault) → IsEarlyCause raw (cause_of_fault step fault) → IsEarly raw fault
+early_fault raw step (faults.Header line kind) early = early
+early_fault raw step faults.NoStep early = early
+early_fault raw step (faults.TooLarge bytes) early = early
+early_fault raw step faults.OtherHeader early = early
+early_fault raw step faults.AlreadyPublished early = early
+early_fault raw step (faults.RawWrongSize want found) early = early
+early_fault raw step faults.RawFault early = early
+early_fault raw step faults.StoreFault early = early
+early_fault raw step faults.NoMemory early = early
+
+-- the cause of a conversion that ends with this answer
+abbrev pub cause_of_end : ℕ → Result (Unit {0}) ConvertFault → Cause
+cause_of_end step (Ok done) = causes.Done
+cause_of_end step (Err fault) = cause_of_fault step fault
+
+-- what a cause says, by the answer of the conversion
+module _ (c : ConvertValue) (text : List ℕ) (built : IsBuilt c text) (k : Known) where
+  fails : (fault : ConvertFault) → Ends {T = Unit {0}} text c.step k (Err fault) → Fails text c.step k (cause_of_fault c.step fault)
+  fails fault e =
+      record {
+        fault = fault;
+        is = refl;
+        caused = e.cause;
+        header = e.header;
+        files = e.files;
+        asked = e.asked;
+        failed = e.failed;
+      }
+
+  starves : Ends {T = Unit {0}} text c.step k (Err faults.NoMemory) → ConvertMeans c k causes.NoMemory
+  starves e = record { files = e.files; header = put e.header; asked = inr (text, (built, e.asked)); failed = e.failed }
+    where
+      put : (k.header_after ≡ k.header) ⊎ (k.header_after ≡ put_where_none text k.header) →
+          (k.header_after ≡ k.header) ⊎ AsksForText c (λ text. k.header_after ≡ put_where_none text k.header)
+      put (inl same) = inl same
+      put (inr there) = inr (text, (built, there))
+
+  means : (result : Result (Unit {0}) ConvertFault) → Ends {T = Unit {0}} text c.step k result → ConvertMeans c k (cause_of_end c.step result)
+  means (Ok done) e = (text, (built, e.converted))
+  means (Err (faults.Header line kind)) e = (text, (built, fails (faults.Header line kind) e))
+  means (Err faults.NoStep) e = (text, (built, fails faults.NoStep e))
+  means (Err (faults.TooLarge bytes)) e = (text, (built, fails (faults.TooLarge bytes) e))
+  means (Err faults.OtherHeader) e = (text, (built, fails faults.OtherHeader e))
+  means (Err faults.AlreadyPublished) e = (text, (built, fails faults.AlreadyPublished e))
+  means (Err (faults.RawWrongSize want found)) e = (text, (built, fails (faults.RawWrongSize want found) e))
+  means (Err faults.RawFault) e = (text, (built, fails faults.RawFault e))
+  means (Err faults.StoreFault) e = (text, (built, fails faults.StoreFault e))
+  means (Err faults.NoMemory) e = starves e
+
+  -- the call that failed, by the status
+  failed_five : (result : Result (Unit {0}) ConvertFault) → Ends {T = Unit {0}} text c.step k result → status_of (cause_of_end c.step result) ≡ 5 →
+      AsksForText c (λ text. IsFailedCall text c.step k k.failed_after)
+  failed_five (Ok done) e five = absurd (omega (arith, five))
+  failed_five (Err (faults.Header line kind)) e five = absurd (omega (arith, five))
+  failed_five (Err faults.NoStep) e five = absurd (omega (arith, five))
+  failed_five (Err (faults.TooLarge bytes)) e five = absurd (omega (arith, five))
+  failed_five (Err faults.OtherHeader) e five = absurd (omega (arith, five))
+  failed_five (Err faults.AlreadyPublished) e five = absurd (omega (arith, five))
+  failed_five (Err (faults.RawWrongSize want found)) e five = absurd (omega (arith, five))
+  failed_five (Err faults.RawFault) e five = absurd (omega (arith, five))
+  failed_five (Err faults.StoreFault) e five = (text, (built, e.failed))
+  failed_five (Err faults.NoMemory) e five = absurd (omega (arith, five))
+
+  unfailed : (result : Result (Unit {0}) ConvertFault) → Ends {T = Unit {0}} text c.step k result → ¬ (status_of (cause_of_end c.step result) ≡ 5) →
+      k.failed_after ≡ k.failed
+  unfailed (Ok done) e other = e.failed
+  unfailed (Err (faults.Header line kind)) e other = e.failed
+  unfailed (Err faults.NoStep) e other = e.failed
+  unfailed (Err (faults.TooLarge bytes)) e other = e.failed
+  unfailed (Err faults.OtherHeader) e other = e.failed
+  unfailed (Err faults.AlreadyPublished) e other = e.failed
+  unfailed (Err (faults.RawWrongSize want found)) e other = e.failed
+  unfailed (Err faults.RawFault) e other = e.failed
+  unfailed (Err faults.StoreFault) e other = absurd (other refl)
+  unfailed (Err faults.NoMemory) e other = e.failed
+
+  -- what is found before the bay is changed
+  keeps : (result : Result (Unit {0}) ConvertFault) → Ends {T = Unit {0}} text c.step k result → IsEarlyCause k.raw (cause_of_end c.step result) → KeepsBay k
+  keeps (Ok done) e early = absurd early
+  keeps (Err fault) e early = e.early (early_fault k.raw c.step fault early)
+
+  -- a header text is asked for, and no other
+  unread : (result : Result (Unit {0}) ConvertFault) → Ends {T = Unit {0}} text c.step k result →
+      AsksForText c (λ text. Asks text c.step (λ h. LacksVolume h k.raw)) → k.asked_after ≡ k.asked_before
+  unread result e (other, (is, lacks)) =
+      e.unasked (subst (λ x. Asks x c.step (λ h. LacksVolume h k.raw)) (IsBuilt-once c other text is built) lacks)
+
+  begins : (k.begun_after ≡ k.begun) ⊎ Asks text c.step (λ h. Begins h c.step k) →
+      (k.begun_after ≡ k.begun) ⊎ AsksForText c (λ text. Asks text c.step (λ h. Begins h c.step k))
+  begins (inl same) = inl same
+  begins (inr there) = inr (text, (built, there))
+
+  raw_answered : (result : Result (Unit {0}) ConvertFault) → Ends {T = Unit {0}} text c.step k result → k.raw_before < k.raw_after →
+      cause_of_end c.step result ≡ causes.RawFault
+  raw_answered result e more = ap (cause_of_end c.step) (e.raw_answered more)
+
+  store_answered : (result : Result (Unit {0}) ConvertFault) → Ends {T = Unit {0}} text c.step k result → k.bay_before < k.bay_after →
+      cause_of_end c.step result ≡ causes.StoreFault
+  store_answered result e more = ap (cause_of_end c.step) (e.store_answered more)
 
 -- how a run ends, by what its cause says
-module _ {V B : Type 0} (admits : B → List ℕ → Type 0) (c : ConvertValue) (raws : RawsSeen V) (bay : BaySeen B) where
-  pub convert_ends : (cause : Cause) → ConvertMeans c (known raws bay) cause →
+module _ {V B : Type 0} (c : ConvertValue) (raws : RawsSeen V) (bay : BaySeen B) where
+  abbrev k : Known
+  k = known raws bay
+
+  ends_by : (cause : Cause) → ConvertMeans c k cause →
       (raw_before raws < raw_after raws → cause ≡ causes.RawFault) → (bay_before bay < bay_after bay → cause ≡ causes.StoreFault) →
-      (IsEarlyCause cause → StillAdmits admits bay.old bay.new) → UsesOnly raws.contents raws.faults 0 raws.old raws.new →
-      NeverFalls (bay_before bay) (bay_after bay) → ConvertEnds admits c raws bay cause
-  convert_ends cause m raw_answered store_answered unbegun kept count =
+      (IsEarlyCause k.raw cause → KeepsBay k) →
+      (AsksForText c (λ text. Asks text c.step (λ h. LacksVolume h k.raw)) → k.asked_after ≡ k.asked_before) →
+      (status_of cause ≡ 5 → AsksForText c (λ text. IsFailedCall text c.step k k.failed_after)) →
+      (¬ (status_of cause ≡ 5) → k.failed_after ≡ k.failed) →
+      (k.begun_after ≡ k.begun) ⊎ AsksForText c (λ text. Asks text c.step (λ h. Begins h c.step k)) →
+      UsesOnly raws.contents raws.faults 0 raws.old raws.new → NeverFalls (bay_before bay) (bay_after bay) → ConvertEnds c raws bay cause
+  ends_by cause m raw_more store_more early apart five other folder kept count =
       record {
         means = m;
-        bad_text = λ (text, (built, due)). bad_text_ends c (known raws bay) cause m text built due;
-        no_step = λ (text, (built, due)). no_step_ends c (known raws bay) cause m text built due;
-        too_large = λ (text, (built, due)). too_large_ends c (known raws bay) cause m text built due;
-        bad_standing = λ (text, (built, due)). bad_standing_ends c (known raws bay) cause m text built due;
-        other_header = λ (text, (built, due)). other_header_ends c (known raws bay) cause m text built due;
-        published = λ (text, (built, due)). published_ends c (known raws bay) cause m text built due;
-        other_length = λ (text, (built, due)). other_length_ends c (known raws bay) cause m text built due;
-        complete = λ (text, (built, due)). complete_ends c (known raws bay) cause m text built due;
-        raw_answered = raw_answered;
-        store_answered = store_answered;
-        unbegun = unbegun;
+        bad_text = λ (text, (built, due)). bad_text_ends c k cause m text built due;
+        no_step = λ (text, (built, due)). no_step_ends c k cause m text built due;
+        too_large = λ (text, (built, due)). too_large_ends c k cause m text built due;
+        bad_standing = λ (text, (built, due)). bad_standing_ends c k cause m text built due;
+        other_header = λ (text, (built, due)). other_header_ends c k cause m text built due;
+        published = λ (text, (built, due)). published_ends c k cause m text built due;
+        other_length = λ (text, (built, due)). other_length_ends c k cause m text built due;
+        complete = λ (text, (built, due)). complete_ends c k cause m text built due;
+        raw_answered = raw_more;
+        store_answered = store_more;
+        unbegun = λ is. let same = early is in record { header = same.header; files = same.files; begun = same.begun; changes = same.changes };
+        unread = apart;
+        failed = five;
+        unfailed = other;
+        begun = folder;
         raws_kept = kept;
         bay_count = count;
       }
+
+  ended : (text : List ℕ) (result : Result (Unit {0}) ConvertFault) → IsBuilt c text → Ends {T = Unit {0}} text c.step k result →
+      UsesOnly raws.contents raws.faults 0 raws.old raws.new → ConvertEnds c raws bay (cause_of_end c.step result)
+  ended text result built e kept =
+      ends_by (cause_of_end c.step result) (means c text built k result e) (raw_answered c text built k result e) (store_answered c text built k result e)
+      (keeps c text built k result e) (unread c text built k result e) (failed_five c text built k result e) (unfailed c text built k result e)
+      (begins c text built k e.begun) kept e.count
+
+  -- the header text was made, and the conversion of this step ended with this answer
+  pub convert_ends : (text : List ℕ) (step : ℕ) (result : Result (Unit {0}) ConvertFault) (cause : Cause) → step ≡ c.step → cause ≡ cause_of_end step result →
+      IsBuilt c text → Ends {T = Unit {0}} text step k result → UsesOnly raws.contents raws.faults 0 raws.old raws.new → ConvertEnds c raws bay cause
+  convert_ends text step result cause same is built e kept =
+      subst (ConvertEnds c raws bay) (sym is)
+      (subst (λ s. ConvertEnds c raws bay (cause_of_end s result)) (sym same)
+      (ended text result built (subst (λ s. Ends {T = Unit {0}} text s k result) same e) kept))

@@ -1,19 +1,22 @@
 -- How a run of `convert` ends, by what is seen of the raw volumes and of the bay.
-use Rattle.std.specs.Prelude.{◌≡◌, ◌⊎◌, ℕ, ◌<◌, List}
+use Rattle.std.specs.Prelude.{◌≡◌, ◌⊎◌, ℕ, ◌<◌, List, Option, Some, Err, IsSome}
 use Rattle.idx_outside.specs.Cause.{NeverFalls, Rose}
-use Rattle.idx_outside.specs.Files.{StillAdmits}
 use Rattle.idx_outside.specs.Objects.{UsesOnly}
+use Rattle.idx_outside.specs.declared.bay_call.BayCall.{BayCall}
+use Rattle.idx_outside.specs.declared.bay_call.BayCall.TheVariants as calls
+use Rattle.idx_gather.specs.Gather.{LacksVolume}
 use Rattle.idx_words.specs.ConvertValue.{ConvertValue}
 use Rattle.idx_words.specs.Built.{IsBuilt}
 use Rattle.idx_convert.specs.declared.convert_fault.ConvertFault.{ConvertFault}
 use Rattle.idx_convert.specs.declared.convert_fault.ConvertFault.TheVariants as faults
-use Rattle.idx_convert.specs.Convert.{Converted, IsCause, LeavesHeader, LeavesFiles, put_where_none}
+use Rattle.idx_convert.specs.Convert.{Asks, AsksOnce, Begins, Converted, IsCause, IsFailedCall, LeavesAsked, LeavesFailed, LeavesFiles, LeavesHeader, put_where_none}
+use Rattle.idx_convert.specs.Known.{Known}
 use Rattle.idx_commands.specs.declared.causes.Cause.{Cause}
 use Rattle.idx_commands.specs.declared.causes.Cause.TheVariants as causes
 use Rattle.idx_commands.specs.Cause.{status_of}
 use Rattle.idx_commands.specs.Due.{HasOtherLength, HasRightLength, IsBadText, IsFree, IsTooLarge, LacksStep, MeetsBadHeader, MeetsOtherHeader, MeetsStep}
-use Rattle.idx_commands.specs.Known.{Known, known}
-use Rattle.idx_commands.specs.Seen.{BaySeen, RawsSeen, bay_after, bay_before, raw_after, raw_before, raw_bytes}
+use Rattle.idx_commands.specs.Known.{known}
+use Rattle.idx_commands.specs.Seen.{BaySeen, IsUnchanged, RawsSeen, bay_after, bay_before, raw_after, raw_asked_after, raw_asked_before, raw_before, raw_bytes}
 
 -- the cause of a run that ends with this fault
 abbrev pub cause_of_fault : ℕ → ConvertFault → Cause
@@ -31,62 +34,73 @@ cause_of_fault step faults.NoMemory = causes.NoMemory
 abbrev pub AsksForText : ConvertValue → (List ℕ → Type 0) → Type 0
 AsksForText c P = (text : List ℕ) × (IsBuilt c text × P text)
 
--- The step was written under this text, and the text put where none stood.
-abbrev pub IsConverted : List ℕ → ℕ → Known → Type 0
-IsConverted text step k = Converted text step k.header k.header_after k.files k.files_after k.raw
-
 -- Nothing was written, but perhaps the header text where none stood, or the step whole where a call on the bay failed: this
--- fault has its cause, and leaves what it may.
+-- fault has its cause, leaves what it may, also of the bytes asked of the raw volume, and tells which call of the bay failed.
 pub record Fails (text : List ℕ) (step : ℕ) (k : Known) (cause : Cause) : Type 0 where
   pub fault : ConvertFault
   pub is : cause ≡ cause_of_fault step fault
-  pub caused : IsCause text step k.header k.files k.raw k.raw_before k.raw_after k.bay_before k.bay_after fault
-  pub header : LeavesHeader text k.raw k.header k.header_after fault
-  pub files : LeavesFiles text step k.raw k.header k.header_after k.files k.files_after fault
+  pub caused : IsCause text step k fault
+  pub header : LeavesHeader text k fault
+  pub files : LeavesFiles text step k fault
+  pub asked : LeavesAsked text step k fault
+  pub failed : LeavesFailed {T = Unit {0}} text step k (Err fault)
 
--- There was not enough memory. No file was added, and the header text is the one that stood, or the text where none stood.
+-- There was not enough memory. No file was added, and the header text is the one that stood, or the text where none stood; no
+-- call of the bay failed, and one volume's bytes at most were asked of the raw volume.
 pub record Starves (c : ConvertValue) (k : Known) : Type 0 where
   pub files : k.files_after ≡ k.files
   pub header : (k.header_after ≡ k.header) ⊎ AsksForText c (λ text. k.header_after ≡ put_where_none text k.header)
+  pub asked : (k.asked_after ≡ k.asked_before) ⊎ AsksForText c (λ text. AsksOnce text c.step k)
+  pub failed : k.failed_after ≡ k.failed
 
 -- what each cause says; no other cause comes
 abbrev pub ConvertMeans : ConvertValue → Known → Cause → Type 0
-ConvertMeans c k causes.Done = AsksForText c (λ text. IsConverted text c.step k)
+ConvertMeans c k causes.Done = AsksForText c (λ text. Converted text c.step k)
 ConvertMeans c k (causes.Usage at) = ⊥
 ConvertMeans c k causes.SinkFault = ⊥
 ConvertMeans c k causes.NoMemory = Starves c k
 ConvertMeans c k cause = AsksForText c (λ text. Fails text c.step k cause)
 
--- The run ended for the header that is asked for or for what stands: before a step is begun.
-abbrev pub IsEarlyCause : Cause → Type 0
-IsEarlyCause (causes.Header line kind) = Unit {0}
-IsEarlyCause (causes.NoStep time) = Unit {0}
-IsEarlyCause (causes.TooLarge bytes) = Unit {0}
-IsEarlyCause causes.OtherHeader = Unit {0}
-IsEarlyCause (causes.AlreadyPublished time) = Unit {0}
-IsEarlyCause cause = ⊥
+-- The run ended for what can be known before the first change: for the header that is asked for, for what stands, or for the
+-- length of a raw volume whose bytes are known.
+abbrev pub IsEarlyCause : Option (List ℕ) → Cause → Type 0
+IsEarlyCause raw (causes.Header line kind) = Unit {0}
+IsEarlyCause raw (causes.NoStep time) = Unit {0}
+IsEarlyCause raw (causes.TooLarge bytes) = Unit {0}
+IsEarlyCause raw causes.OtherHeader = Unit {0}
+IsEarlyCause raw (causes.AlreadyPublished time) = Unit {0}
+IsEarlyCause raw (causes.RawWrongSize want found) = IsSome raw
+IsEarlyCause raw cause = ⊥
+
+-- The store failed as it was asked for the header that stands; or so, or as it was asked for the step.
+abbrev pub FailsAtHeader : ℕ → Option BayCall → Type 0
+FailsAtHeader status failed = (status ≡ 5) × (failed ≡ Some calls.Header)
+
+abbrev pub FailsFirst : ℕ → Option BayCall → Type 0
+FailsFirst status failed = (status ≡ 5) × ((failed ≡ Some calls.Header) ⊎ (failed ≡ Some calls.HasStep))
 
 -- the words ask for a header text and a step of which this holds
 abbrev pub AsksToConvert : ConvertValue → (List ℕ → ℕ → Type 0) → Type 0
 AsksToConvert c P = AsksForText c (λ text. P text c.step)
 
--- How a run ends with this cause. `admits` is the ghost member of bays.
-pub record ConvertEnds {V B : Type 0} (admits : B → List ℕ → Type 0) (c : ConvertValue) (raws : RawsSeen V) (bay : BaySeen B) (cause : Cause) : Type 0 where
-  -- What the cause says: at Done exactly the files of the step were added, and the header text put where none stood; at each
-  -- other one no file was, but at StoreFault all of them may be, and the cause is there.
+-- How a run ends with this cause.
+pub record ConvertEnds {V B : Type 0} (c : ConvertValue) (raws : RawsSeen V) (bay : BaySeen B) (cause : Cause) : Type 0 where
+  -- What the cause says: at Done exactly the files of the step were added, and the header text put where none stood, and one
+  -- volume's bytes were asked of the raw volume; at each other one no file was, but at StoreFault all of them may be, and the
+  -- cause is there. Nothing is asked of the raw volume where its length is wrong, or something that comes before.
   pub means : ConvertMeans c (known raws bay) cause
   -- each refusal comes where it is due, but for faults that come before, and want of memory
   pub bad_text : AsksToConvert c IsBadText → (status_of cause ≡ 2) ⊎ (status_of cause ≡ 11)
   pub no_step : AsksToConvert c LacksStep → (status_of cause ≡ 8) ⊎ (status_of cause ≡ 11)
   pub too_large : AsksToConvert c IsTooLarge → (status_of cause ≡ 8) ⊎ (status_of cause ≡ 11)
   pub bad_standing : AsksToConvert c (MeetsBadHeader (bay.header bay.old)) →
-      (status_of cause ≡ 2) ⊎ ((status_of cause ≡ 5) ⊎ (status_of cause ≡ 11))
+      (status_of cause ≡ 2) ⊎ (FailsAtHeader (status_of cause) (bay.failed bay.new) ⊎ (status_of cause ≡ 11))
   pub other_header : AsksToConvert c (MeetsOtherHeader (bay.header bay.old)) →
-      (status_of cause ≡ 6) ⊎ ((status_of cause ≡ 5) ⊎ (status_of cause ≡ 11))
+      (status_of cause ≡ 6) ⊎ (FailsAtHeader (status_of cause) (bay.failed bay.new) ⊎ (status_of cause ≡ 11))
   pub published : AsksToConvert c (MeetsStep (bay.header bay.old) (bay.files bay.old)) →
-      (status_of cause ≡ 6) ⊎ ((status_of cause ≡ 5) ⊎ (status_of cause ≡ 11))
+      (status_of cause ≡ 6) ⊎ (FailsFirst (status_of cause) (bay.failed bay.new) ⊎ (status_of cause ≡ 11))
   pub other_length : AsksToConvert c (IsFree (bay.header bay.old) (bay.files bay.old) (raw_bytes raws) HasOtherLength) →
-      (status_of cause ≡ 3) ⊎ ((status_of cause ≡ 4) ⊎ ((status_of cause ≡ 5) ⊎ (status_of cause ≡ 11)))
+      (status_of cause ≡ 3) ⊎ ((status_of cause ≡ 4) ⊎ (FailsFirst (status_of cause) (bay.failed bay.new) ⊎ (status_of cause ≡ 11)))
   -- where nothing is wrong and no fault was counted, the step is written, unless there is not enough memory
   pub complete : AsksToConvert c (IsFree (bay.header bay.old) (bay.files bay.old) (raw_bytes raws) HasRightLength) →
       ¬ Rose (raw_before raws) (raw_after raws) → ¬ Rose (bay_before bay) (bay_after bay) →
@@ -94,8 +108,16 @@ pub record ConvertEnds {V B : Type 0} (admits : B → List ℕ → Type 0) (c : 
   -- a fault that was counted is answered
   pub raw_answered : raw_before raws < raw_after raws → cause ≡ causes.RawFault
   pub store_answered : bay_before bay < bay_after bay → cause ≡ causes.StoreFault
-  -- what is wrong with the header that is asked for, or with what stands, is found before a step is begun
-  pub unbegun : IsEarlyCause cause → StillAdmits admits bay.old bay.new
+  -- what can be known before the first change is found before the bay is changed
+  pub unbegun : IsEarlyCause (raw_bytes raws) cause → IsUnchanged bay
+  -- a raw volume that is known to have another length than the samples take is not read, whatever the answer
+  pub unread : AsksForText c (λ text. Asks text c.step (λ h. LacksVolume h (raw_bytes raws))) → raw_asked_after raws ≡ raw_asked_before raws
+  -- the calls of the bay come in their order, as the one that failed tells; at any other cause none failed
+  pub failed : status_of cause ≡ 5 → AsksForText c (λ text. IsFailedCall text c.step (known raws bay) (bay.failed bay.new))
+  pub unfailed : ¬ (status_of cause ≡ 5) → bay.failed bay.new ≡ bay.failed bay.old
+  -- no step is begun but the one that is asked for
+  pub begun : (bay.begun bay.new ≡ bay.begun bay.old)
+      ⊎ AsksForText c (λ text. Asks text c.step (λ h. Begins h c.step (known raws bay)))
   -- what is known of the raw volumes' bytes stays, none but the first was touched, and no count fell
   pub raws_kept : UsesOnly raws.contents raws.faults 0 raws.old raws.new
   pub bay_count : NeverFalls (bay_before bay) (bay_after bay)

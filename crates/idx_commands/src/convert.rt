@@ -27,8 +27,8 @@ pub(crate) fn run_convert<V: Source, B: Bay>(
     requires named { AreNamed (map string_bytes words.now) (codes "convert") }
     ensures status { result.status ≡ status_of result.cause }
     ensures convert { (c : ConvertValue) → Give (map string_bytes words.now) (Command.Convert c) →
-        ConvertEnds B.admits c (raws_seen V.contents V.faults raws.old.items raws.new.items)
-        (bay_seen B.header B.files B.faults bay.old bay.new) result.cause }
+        ConvertEnds c (raws_seen V.contents V.faults V.asked raws.old.items raws.new.items)
+        (bay_seen B.header B.files B.begun B.changes B.failed B.faults bay.old bay.new) result.cause }
 
     // Usage comes exactly where the words are not in the grammar, and then nothing was asked of any object.
     ensures usage { (result.status ≡ 1) ↔ (¬ GiveConvert (map string_bytes words.now)) }
@@ -47,7 +47,6 @@ pub(crate) fn run_convert<V: Source, B: Bay>(
 
 /// Writes the step that the words ask for out of the first raw volume, and puts the header text that they ask for where
 /// none stands.
-#[tactic(auto, using(crate::proofs::ConvertLemmas::early_fault, crate::proofs::ConvertLemmas::convert_ends))]
 fn convert_volume<V: Source, B: Bay>(
     alloc: Global,
     words: &ConvertWords<'_>,
@@ -55,8 +54,8 @@ fn convert_volume<V: Source, B: Bay>(
     bay: &mut B,
 ) -> Cause
     requires some { 0 < vec_len raws.old }
-    ensures { ConvertEnds B.admits words.now (raws_seen V.contents V.faults raws.old.items raws.new.items)
-        (bay_seen B.header B.files B.faults bay.old bay.new) result }
+    ensures { ConvertEnds words.now (raws_seen V.contents V.faults V.asked raws.old.items raws.new.items)
+        (bay_seen B.header B.files B.begun B.changes B.failed B.faults bay.old bay.new) result }
 {
     let Ok(text) = words.header_text(alloc) else {
         return Cause::NoMemory;

@@ -1,5 +1,6 @@
-use Rattle.std.proofs.Common.{codes, map, string_bytes}
+use Rattle.std.proofs.Common.{rules, codes, map, string_bytes}
 use Rattle.idx_words.specs.declared.command.Command.TheVariants.{Cut, Info, Query}
+use Rattle.idx_commands.proofs.ConvertLemmas.{never_usage}
 use Rattle.idx_commands.proofs.RunLemmas.{misnamed}
 use Rattle.idx_commands.proofs.convert.run_convert.Goals as goal
 
@@ -20,3 +21,8 @@ unreachable-requires-in-Ok-Query g c =
     let given = c.read_words.ensures.read c.in-Ok-Query.field-0 in
     misnamed (map string_bytes c.args.words.now) c.in-Ok-Query.field-0 (Query c.in-Ok-Query.field-0-0) (codes "convert") c.requires.named
     (given.0 c.in-Ok-Query.is) c.in-Ok-Query.field-0-is (λ e. cc)
+
+pub returns-in-Ok-Convert-clause-usage : goal.returns-in-Ok-Convert-clause-usage
+returns-in-Ok-Convert-clause-usage g c =
+    let never = never_usage c.in-Ok-Convert.words _ c.convert_volume.result c.convert_volume.ensures.means in
+    search rules
