@@ -16,7 +16,7 @@ use Rattle.idx_header.specs.OfBay.{IsFaultOfSome}
 use Rattle.idx_gather.specs.Gather.{HasFolder, LacksVolume}
 use Rattle.idx_convert.specs.declared.convert_fault.ConvertFault.{ConvertFault}
 use Rattle.idx_convert.specs.declared.convert_fault.ConvertFault.TheVariants as faults
-use Rattle.idx_convert.specs.Convert.{Asks, AsksFor, Begins, Converted, Differs, Ends, IsCause, IsEarly, IsFailedCall, IsNew, IsRight, LeavesFailed, Stands, Suits, Takes, put_where_none}
+use Rattle.idx_convert.specs.Convert.{Asks, AsksFor, Begins, Converted, Differs, Ends, IsCause, IsEarly, IsFailedCall, IsNew, IsRight, LeavesFailed, IsTaken, Suits, Takes, put_where_none}
 use Rattle.idx_convert.specs.Known.{KeepsBay, Known}
 use Rattle.idx_words.specs.ConvertValue.{ConvertValue}
 use Rattle.idx_words.specs.Built.{IsBuilt}
@@ -54,8 +54,8 @@ suits_not_differs h known (inr (one, (reads, agree))) (some, (other, (too, diffe
     differ (subst (λ g. Agree g h) (one_header known one other reads too) agree)
 
 -- a step that stands is not new
-new_not_stands : (h : HeaderValue) (step : ℕ) (files : List MemFile) → IsNew h step files → Stands h step files → ⊥
-new_not_stands h step files new stands =
+new_not_taken : (h : HeaderValue) (step : ℕ) (files : List MemFile) → IsNew h step files → IsTaken h step files → ⊥
+new_not_taken h step files new stands =
     both_hold (step_folder h step) (λ folder. ¬ HasCommitted folder files) (λ folder. HasCommitted folder files)
     (λ folder fresh there. fresh there) new stands
 
@@ -127,7 +127,7 @@ module _ (text : List ℕ) (step : ℕ) (k : Known) where
     Late faults.NoStep = ⊥
     Late (faults.TooLarge bytes) = ⊥
     Late faults.OtherHeader = IfSome k.header (Differs h)
-    Late faults.AlreadyPublished = IfSome k.header (Suits h) × IfSome k.files (Stands h step)
+    Late faults.AlreadyPublished = IfSome k.header (Suits h) × IfSome k.files (IsTaken h step)
     Late (faults.RawWrongSize want found) =
         Takes h step k.header k.files × (want ≡ volume_bytes h) × (found ≢ want) × IfSome k.raw (λ bytes. found ≡ length bytes)
     Late faults.RawFault = Takes h step k.header k.files × Rose k.raw_before k.raw_after
@@ -144,7 +144,7 @@ module _ (text : List ℕ) (step : ℕ) (k : Known) where
     late (faults.TooLarge bytes) (g, (reads, (folder, same, large))) =
         absurd (not_large h asked (g, (reads, (folder, subst (λ n. 2 ^ 30 < n) same large))))
     late faults.OtherHeader c = of_header (λ g. IfSome k.header (Differs g)) c
-    late faults.AlreadyPublished c = of_header (λ g. IfSome k.header (Suits g) × IfSome k.files (Stands g step)) c
+    late faults.AlreadyPublished c = of_header (λ g. IfSome k.header (Suits g) × IfSome k.files (IsTaken g step)) c
     late (faults.RawWrongSize want found) c =
         of_header (λ g. Takes g step k.header k.files × (want ≡ volume_bytes g) × (found ≢ want)
         × IfSome k.raw (λ bytes. found ≡ length bytes)) c
@@ -202,14 +202,14 @@ module _ (text : List ℕ) (step : ℕ) (k : Known) where
     other_header other (faults.TooLarge bytes) f c = absurd c
 
     -- the step stands
-    published : IsSomeAnd k.header (Suits h) → IsSomeAnd k.files (Stands h step) → (fault : ConvertFault) → F fault → Late fault →
+    published : IsSomeAnd k.header (Suits h) → IsSomeAnd k.files (IsTaken h step) → (fault : ConvertFault) → F fault → Late fault →
         (st fault ≡ 6) ⊎ (FailsFirst (st fault) k.failed_after ⊎ (st fault ≡ 11))
     published suits stands (faults.Header line kind) f c = absurd (both_hold k.header (λ known. IsFaultOfSome known line kind) _ (suits_not_refused h line kind) c suits)
     published suits stands faults.OtherHeader f c = inl refl
     published suits stands faults.AlreadyPublished f c = inl refl
-    published suits stands (faults.RawWrongSize want found) f c = absurd (both_hold k.files (IsNew h step) _ (new_not_stands h step) c.0.new stands)
-    published suits stands faults.RawFault f c = absurd (both_hold k.files (IsNew h step) _ (new_not_stands h step) c.0.new stands)
-    published suits stands faults.StoreFault f c = inr (inl (refl, first_call (λ right. both_hold k.files (IsNew h step) _ (new_not_stands h step) right.0.new stands) k.failed_after f))
+    published suits stands (faults.RawWrongSize want found) f c = absurd (both_hold k.files (IsNew h step) _ (new_not_taken h step) c.0.new stands)
+    published suits stands faults.RawFault f c = absurd (both_hold k.files (IsNew h step) _ (new_not_taken h step) c.0.new stands)
+    published suits stands faults.StoreFault f c = inr (inl (refl, first_call (λ right. both_hold k.files (IsNew h step) _ (new_not_taken h step) right.0.new stands) k.failed_after f))
     published suits stands faults.NoMemory f c = inr (inr refl)
     published suits stands faults.NoStep f c = absurd c
     published suits stands (faults.TooLarge bytes) f c = absurd c
@@ -219,14 +219,14 @@ module _ (text : List ℕ) (step : ℕ) (k : Known) where
       differs_too : (known : List ℕ) → Differs h known → Suits h known → ⊥
       differs_too known differs same = suits_not_differs h known same differs
 
-      stands_too : (files : List MemFile) → Stands h step files → IsNew h step files → ⊥
-      stands_too files stands is_new = new_not_stands h step files is_new stands
+      taken_too : (files : List MemFile) → IsTaken h step files → IsNew h step files → ⊥
+      taken_too files stands is_new = new_not_taken h step files is_new stands
 
       other_length : IsSomeAnd k.raw (HasOtherLength h) → (fault : ConvertFault) → F fault → Late fault →
           (st fault ≡ 3) ⊎ ((st fault ≡ 4) ⊎ (FailsFirst (st fault) k.failed_after ⊎ (st fault ≡ 11)))
       other_length other (faults.Header line kind) f c = absurd (both_hold k.header (λ known. IsFaultOfSome known line kind) _ (suits_not_refused h line kind) c suits)
       other_length other faults.OtherHeader f c = absurd (both_hold k.header (Differs h) _ differs_too c suits)
-      other_length other faults.AlreadyPublished f c = absurd (both_hold k.files (Stands h step) _ stands_too c.1 new)
+      other_length other faults.AlreadyPublished f c = absurd (both_hold k.files (IsTaken h step) _ taken_too c.1 new)
       other_length other (faults.RawWrongSize want found) f c = inl refl
       other_length other faults.RawFault f c = inr (inl refl)
       other_length other faults.StoreFault f c = inr (inr (inl (refl, first_call (λ right. both_hold k.raw (HasRightLength h) (HasOtherLength h) (λ bytes fits wrong. wrong fits) right.1 other) k.failed_after f)))
@@ -239,7 +239,7 @@ module _ (text : List ℕ) (step : ℕ) (k : Known) where
           (st fault ≡ 0) ⊎ (st fault ≡ 11)
       complete right raw_quiet bay_quiet (faults.Header line kind) c = absurd (both_hold k.header (λ known. IsFaultOfSome known line kind) _ (suits_not_refused h line kind) c suits)
       complete right raw_quiet bay_quiet faults.OtherHeader c = absurd (both_hold k.header (Differs h) _ differs_too c suits)
-      complete right raw_quiet bay_quiet faults.AlreadyPublished c = absurd (both_hold k.files (Stands h step) _ stands_too c.1 new)
+      complete right raw_quiet bay_quiet faults.AlreadyPublished c = absurd (both_hold k.files (IsTaken h step) _ taken_too c.1 new)
       complete right raw_quiet bay_quiet (faults.RawWrongSize want found) (takes, asks, other, found_is) =
           absurd (both_hold k.raw (λ bytes. found ≡ length bytes) (HasRightLength h) (λ bytes is fits. other (is ∙ fits ∙ sym asks)) found_is right)
       complete right raw_quiet bay_quiet faults.RawFault c = absurd (raw_quiet c.1)
@@ -314,7 +314,7 @@ module _ (c : ConvertValue) (k : Known) (cause : Cause) (ends : ConvertMeans c k
   published_ends text built (h, (asked, (suits, stands))) =
       judged (λ s. (s ≡ 6) ⊎ (FailsFirst s k.failed_after ⊎ (s ≡ 11))) c k text built
       (λ wrote. let taken = wrote_for text c.step h asked wrote (λ g. Takes g c.step k.header k.files) wrote.taken in
-      absurd (both_hold k.files (IsNew h c.step) (Stands h c.step) (new_not_stands h c.step) taken.new stands)) (inr (inr refl))
+      absurd (both_hold k.files (IsNew h c.step) (IsTaken h c.step) (new_not_taken h c.step) taken.new stands)) (inr (inr refl))
       (λ fault caused call. published text c.step k h asked suits stands fault call (late text c.step k h asked fault caused)) cause ends
 
   pub other_length_ends : (text : List ℕ) → IsBuilt c text → IsFree k.header k.files k.raw HasOtherLength text c.step →

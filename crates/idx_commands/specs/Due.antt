@@ -5,7 +5,7 @@ use Rattle.idx_outside.specs.declared.mem_file.MemFile.{MemFile}
 use Rattle.idx_header.specs.Header.{HeaderValue, volume_bytes}
 use Rattle.idx_header.specs.HeaderOf.{header_of}
 use Rattle.idx_gather.specs.Gather.{HasFolder}
-use Rattle.idx_convert.specs.Convert.{Asks, Differs, IsNew, Reads, Stands, Suits}
+use Rattle.idx_convert.specs.Convert.{Asks, Differs, IsNew, Reads, IsTaken, Suits}
 
 -- the header text that is asked for is refused
 abbrev pub IsBadText : List ℕ → ℕ → Type 0
@@ -31,7 +31,7 @@ MeetsOtherHeader standing text step = Asks text step (λ h. IsSomeAnd standing (
 -- no header stands, or it agrees; the step stands
 abbrev pub MeetsStep : Option (List ℕ) → Option (List MemFile) → List ℕ → ℕ → Type 0
 MeetsStep standing files text step =
-    Asks text step (λ h. IsSomeAnd standing (Suits h) × IsSomeAnd files (Stands h step))
+    Asks text step (λ h. IsSomeAnd standing (Suits h) × IsSomeAnd files (IsTaken h step))
 
 -- no header stands, or it agrees; the step is new; and this holds of the raw volume's bytes
 abbrev pub IsFree : Option (List ℕ) → Option (List MemFile) → Option (List ℕ) → (HeaderValue → List ℕ → Type 0) → List ℕ → ℕ → Type 0
