@@ -1,7 +1,6 @@
 pub mod CopyLemmas
 pub mod DoneLemmas
 pub mod AnswerLemmas
-pub mod ShapeLemmas
 pub mod TakeLemmas
 pub mod MissLemmas
 pub mod PostLemmas
