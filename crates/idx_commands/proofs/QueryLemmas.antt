@@ -2,7 +2,7 @@
 use Rattle.std.proofs.Common.{◌≡◌, ◌≢◌, ◌⊎◌, ℕ, ◌<◌, List, length, Option, Some, None, Err, IsErr, IfSome, IsSomeAnd, inl, inr, refl, sym, ◌∙◌, ap, subst}
 use Rattle.std.proofs.lemmas.Bool.{false≢true}
 use Rattle.idx_outside.specs.Cause.{NeverFalls, Rose}
-use Rattle.idx_outside.specs.Files.{StillAdmits}
+use Rattle.idx_outside.specs.declared.bay_call.BayCall.TheVariants as calls
 use Rattle.idx_outside.specs.Objects.{OthersUntouched, faults_at}
 use Rattle.idx_outside.specs.declared.mem_file.MemFile.{MemFile}
 use Rattle.idx_header.specs.declared.header_fault.HeaderFault.{HeaderFault}
@@ -17,18 +17,20 @@ use Rattle.idx_edition.specs.Stored.{Stands, first_bad, stored_block}
 use Rattle.idx_edition.specs.declared.load_fault.LoadFault.{LoadFault}
 use Rattle.idx_edition.specs.declared.load_fault.LoadFault.TheVariants as loads
 use Rattle.idx_table.specs.declared.table_fault.TableKind.{TableKind}
+use Rattle.idx_plan.specs.QuestionValue.{QuestionValue}
 use Rattle.idx_words.specs.QueryValue.{QueryValue}
 use Rattle.idx_extract.specs.declared.extract_fault.ExtractFault.{ExtractFault}
 use Rattle.idx_extract.specs.declared.extract_fault.ExtractFault.TheVariants as faults
-use Rattle.idx_extract.specs.Extract.{Asks, Extracted, IsAnswer, IsAsk, IsExtracted, IsStop, LacksField, Under}
+use Rattle.idx_extract.specs.Extract.{Asks, Extracted, HasPlan, IsAnswer, IsAsk, IsExtracted, IsStop, LacksField, ReadsFew, Under}
 use Rattle.idx_extract.specs.Stages.{fault_of_load}
 use Rattle.idx_commands.specs.declared.causes.Cause.{Cause}
 use Rattle.idx_commands.specs.declared.causes.Cause.TheVariants as causes
 use Rattle.idx_commands.specs.Cause.{status_of}
 use Rattle.idx_commands.specs.Seen.{BaySeen, ReaderCounts, ReadersSeen, SinkSeen, bay_after, bay_before, reader_after, reader_before, reader_counts, sink_after, sink_before}
 use Rattle.idx_commands.specs.InfoRun.{HasBadHeader, KnownReads}
+use Rattle.idx_commands.proofs.CauseLemmas.{store_fault_is}
 use Rattle.idx_commands.proofs.KnownLemmas.{both_hold, not_refused, one_header}
-use Rattle.idx_commands.specs.QueryRun.{HasCause, HasSoundStep, IsDue, IsUnreadCause, QueryEnds, QueryMeans, ReadsAs, cause_of_extract}
+use Rattle.idx_commands.specs.QueryRun.{HasCause, HasSoundStep, IsBayOutage, IsDue, IsOfQuestion, IsReaderOutage, IsUnreadCause, QueryEnds, QueryMeans, ReadsAs, cause_of_extract, known_of, question_of}
 
 -- ---- what is known
 
@@ -59,7 +61,7 @@ load_in None = loads.NoMemory
 some_not_none : {X : Type 0} (x : X) (o : Option X) → o ≡ Some x → o ≡ None → ⊥
 some_not_none x o some none = let same = sym some ∙ none in cc
 
-module _ (h : HeaderValue) (q : QueryValue) (files : Option (List MemFile)) where
+module _ (h : HeaderValue) (q : QuestionValue) (files : Option (List MemFile)) where
   -- the words ask one thing
   one_ask : (a b : Ask) → IsAsk h q a → IsAsk h q b → a ≡ b
   one_ask a b first second =
@@ -152,8 +154,8 @@ module _ (h : HeaderValue) (q : QueryValue) (files : Option (List MemFile)) wher
 
 -- the bytes of an answer are those that the committed files store, where these and the header are known
 pub query_writes : (P : List ℕ → Type 0) (q : QueryValue) (header : Option (List ℕ)) (files : Option (List MemFile)) (before after : ℕ) (bytes : List ℕ) →
-    Extracted q header files before after bytes → P bytes →
-    KnownReads header (λ h. Asks q h (λ ask. IfSome files (λ files. P (answer_of h ask (stored_block h q.time files)))))
+    Extracted (question_of q) header files before after bytes → P bytes →
+    KnownReads header (λ h. Asks (question_of q) h (λ ask. IfSome files (λ files. P (answer_of h ask (stored_block h q.time files)))))
 query_writes P q None files before after bytes u holds = tt
 query_writes P q (Some text) files before after bytes (h, (reads, e)) holds = (h, (reads, (e.ask, (e.asked, at files e.stored))))
   where
@@ -184,7 +186,7 @@ module _ {B R K : Type 0} (q : QueryValue) (bay : BaySeen B) (readers : ReadersS
   C fault = HasCause q bay (reader_counts readers) fault
 
   abbrev Answered : List ℕ → Type 0
-  Answered bytes = Extracted q header files reads_before reads_after bytes
+  Answered bytes = Extracted (question_of q) header files reads_before reads_after bytes
 
   abbrev Ends : Cause → Type 0
   Ends cause = QueryMeans q bay (reader_counts readers) sink cause
@@ -220,27 +222,27 @@ module _ {B R K : Type 0} (q : QueryValue) (bay : BaySeen B) (readers : ReadersS
   due_reads faults.NoMemory d wrong refused = not_read header _ wrong d refused
 
   -- what is due is what stops
-  due_stops : (fault : ExtractFault) → IsDue q header files fault → (g : ExtractFault) → Under header (λ h. IsStop h q files g) → g ≡ fault
+  due_stops : (fault : ExtractFault) → IsDue q header files fault → (g : ExtractFault) → Under header (λ h. IsStop h (question_of q) files g) → g ≡ fault
   due_stops (faults.Header line kind) d g u = both_of header _ _ d u (λ h p c. absurd p)
-  due_stops faults.OtherAxes d g u = both_of header _ _ d u (λ h p c. other_axes h q files p g c)
-  due_stops faults.UnknownField d g u = both_of header _ _ d u (λ h p c. unknown_field h q files p.0 p.1 g c)
-  due_stops (faults.Plan fault) d g u = both_of header _ _ d u (λ h p c. no_plan h q files p.0 p.1.0 fault p.1.1 g c)
-  due_stops faults.NotPublished d g u = both_of header _ _ d u (λ h p c. not_published h q files p.0.0 p.0.1.0 p.0.1.1 p.1 g c)
+  due_stops faults.OtherAxes d g u = both_of header _ _ d u (λ h p c. other_axes h (question_of q) files p g c)
+  due_stops faults.UnknownField d g u = both_of header _ _ d u (λ h p c. unknown_field h (question_of q) files p.0 p.1 g c)
+  due_stops (faults.Plan fault) d g u = both_of header _ _ d u (λ h p c. no_plan h (question_of q) files p.0 p.1.0 fault p.1.1 g c)
+  due_stops faults.NotPublished d g u = both_of header _ _ d u (λ h p c. not_published h (question_of q) files p.0.0 p.0.1.0 p.0.1.1 p.1 g c)
   due_stops (faults.BadTable file row kind) d g u =
-      both_of header _ _ d u (λ h p c. bad_table h q files p.0.0 p.0.1.0 p.0.1.1 file row kind p.1 g c)
+      both_of header _ _ d u (λ h p c. bad_table h (question_of q) files p.0.0 p.0.1.0 p.0.1.1 file row kind p.1 g c)
   due_stops faults.StoreFault d g u = both_of header _ _ d u (λ h p c. absurd p)
   due_stops faults.NoMemory d g u = both_of header _ _ d u (λ h p c. absurd p)
 
   -- where a refusal is due there is no answer
-  time_of : (h : HeaderValue) (bytes : List ℕ) → (e : IsExtracted h q files reads_before reads_after bytes) → e.ask.time ≡ q.time
+  time_of : (h : HeaderValue) (bytes : List ℕ) → (e : IsExtracted h (question_of q) files reads_before reads_after bytes) → e.ask.time ≡ q.time
   time_of h bytes e = ap (λ (a : Ask). a.time) e.asked.same
 
   due_unanswered : (fault : ExtractFault) → IsDue q header files fault → (bytes : List ℕ) → Answered bytes → ⊥
   due_unanswered (faults.Header line kind) d bytes u = both_of header _ _ d u (λ h p e. p)
   due_unanswered faults.OtherAxes d bytes u = both_of header _ _ d u (λ h p e. p e.asked.axes)
-  due_unanswered faults.UnknownField d bytes u = both_of header _ _ d u (λ h p e. lacks_none h q files e.ask e.asked p.1)
+  due_unanswered faults.UnknownField d bytes u = both_of header _ _ d u (λ h p e. lacks_none h (question_of q) files e.ask e.asked p.1)
   due_unanswered (faults.Plan fault) d bytes u =
-      both_of header _ _ d u (λ h p e. some_not_none fault (plan_fault h p.0) p.1.1 (same_plan h q files p.0 e.ask p.1.0 e.asked ∙ e.sound))
+      both_of header _ _ d u (λ h p e. some_not_none fault (plan_fault h p.0) p.1.1 (same_plan h (question_of q) files p.0 e.ask p.1.0 e.asked ∙ e.sound))
   due_unanswered faults.NotPublished d bytes u =
       both_of header _ _ d u (λ h p e. both_hold files (λ files. IsAnswer h e.ask files reads_before reads_after bytes) _
       (λ files answer not. not (subst (λ t. Stands h t files) (time_of h bytes e) answer.stands)) e.stored p.1)
@@ -288,17 +290,44 @@ module _ {B R K : Type 0} (q : QueryValue) (bay : BaySeen B) (readers : ReadersS
     bad_question =
         judged Bad (λ bytes u. absurd (not_bad header _ u bad)) (λ bytes u rose. absurd (not_bad header _ u bad)) (inr (inr refl)) refused
 
+  -- a fault of the store
+  outage : C faults.StoreFault → IsBayOutage bay ⊎ IsReaderOutage bay readers
+  outage (inl asked) = inl (record { rose = asked.rose; call = inl asked.call })
+  outage (inr (h, (reads, (plan, inl asked)))) = inl (record { rose = asked.rose; call = inr asked.call })
+  outage (inr (h, (reads, (plan, inr read)))) = inr (record { rose = read.rose; count = read.bay.count; call = read.bay.failed })
+
+  store_cause : (cause : Cause) → Ends cause → status_of cause ≡ 5 → C faults.StoreFault
+  store_cause cause m five =
+      let store : Ends causes.StoreFault = subst Ends (store_fault_is cause five) m in store.0
+
+  -- before a question was accepted the bay was asked for the header alone
+  asked_first : C faults.StoreFault → (Under header (HasPlan (question_of q)) → ⊥) → bay.failed bay.new ≡ Some calls.Header
+  asked_first (inl asked) none = asked.call
+  asked_first (inr (h, (reads, (plan, other)))) none = absurd (none (h, (reads, plan)))
+
+  never_plans : (fault : ExtractFault) → IsDue q header files fault → IsOfQuestion fault → Under header (HasPlan (question_of q)) → ⊥
+  never_plans (faults.Header line kind) d of u = absurd of
+  never_plans faults.OtherAxes d of u = both_of header _ _ d u (λ h p plan. p plan.1.0.axes)
+  never_plans faults.UnknownField d of u = both_of header _ _ d u (λ h p plan. lacks_none h (question_of q) files plan.0 plan.1.0 p.1)
+  never_plans (faults.Plan fault) d of u =
+      both_of header _ _ d u (λ h p plan. some_not_none fault (plan_fault h p.0) p.1.1 (same_plan h (question_of q) files p.0 plan.0 p.1.0 plan.1.0 ∙ plan.1.1))
+  never_plans faults.NotPublished d of u = absurd of
+  never_plans (faults.BadTable file row kind) d of u = absurd of
+  never_plans faults.StoreFault d of u = absurd of
+  never_plans faults.NoMemory d of u = absurd of
+
   -- nothing is due, and no fault was counted
   module _ (sound : HasSoundStep q header files) (bay_quiet : ¬ Rose (bay_before bay) (bay_after bay)) (quiet : ¬ Rose (reader_before readers) (reader_after readers)) (taken : ¬ Rose (sink_before sink) (sink_after sink)) where
     abbrev Whole : Cause → Type 0
     Whole cause = (status_of cause ≡ 0) ⊎ (status_of cause ≡ 11)
 
-    goes_on : (g : ExtractFault) → Under header (λ h. IsStop h q files g) → ⊥
-    goes_on g u = both_of header _ _ sound u (λ h p c. never h q files p.0.0 p.0.1.0 p.0.1.1 p.1 g c)
+    goes_on : (g : ExtractFault) → Under header (λ h. IsStop h (question_of q) files g) → ⊥
+    goes_on g u = both_of header _ _ sound u (λ h p c. never h (question_of q) files p.0.0 p.0.1.0 p.0.1.1 p.1 g c)
 
     no_outage : C faults.StoreFault → ⊥
-    no_outage (inl rose) = bay_quiet rose
-    no_outage (inr both) = quiet both.0
+    no_outage (inl asked) = bay_quiet asked.rose
+    no_outage (inr (h, (reads, (plan, inl asked)))) = bay_quiet asked.rose
+    no_outage (inr (h, (reads, (plan, inr read)))) = quiet read.rose
 
     completes : (g : ExtractFault) → C g → Whole (cause_of_extract q.time g)
     completes (faults.Header line kind) c = absurd (not_read header _ (record { line = line; kind = kind }) sound c.1)
@@ -341,27 +370,40 @@ module _ {B R K : Type 0} (q : QueryValue) (bay : BaySeen B) (readers : ReadersS
   count_of_first before after a b rises =
       subst (λ n. NeverFalls (reader_before readers) n) b (subst (λ n. NeverFalls n after) a rises)
 
-  pub query_ends : (admits : B → List ℕ → Type 0) (cause : Cause) → Ends cause →
+  pub few_of_first : (counts : ReaderCounts) → counts.faults_before ≡ reader_before readers →
+      counts.faults_after ≡ reader_after readers → counts.reads_before ≡ reads_before → counts.reads_after ≡ reads_after →
+      ReadsFew (question_of q) (known_of bay counts) → ReadsFew (question_of q) (known_of bay (reader_counts readers))
+  few_of_first counts a b d e =
+      subst (λ k. ReadsFew (question_of q) (known_of bay k))
+      (λ i. record { faults_before = a i; faults_after = b i; reads_before = d i; reads_after = e i })
+
+  pub query_ends : (cause : Cause) → Ends cause →
       (bay_before bay < bay_after bay → cause ≡ causes.StoreFault) →
       (reader_before readers < reader_after readers → cause ≡ causes.StoreFault) →
       (sink_before sink < sink_after sink → cause ≡ causes.SinkFault) → (IsUnreadCause cause → readers.new ≡ readers.old) →
-      bay.header bay.new ≡ bay.header bay.old → bay.files bay.new ≡ bay.files bay.old → StillAdmits admits bay.old bay.new →
+      (status_of cause ≢ 5 → bay.failed bay.new ≡ bay.failed bay.old) →
+      (status_of cause ≢ 0 → status_of cause ≢ 9 → ReadsFew (question_of q) (known_of bay (reader_counts readers))) →
+      bay.header bay.new ≡ bay.header bay.old → bay.files bay.new ≡ bay.files bay.old →
+      bay.begun bay.new ≡ bay.begun bay.old → bay.changes bay.new ≡ bay.changes bay.old →
       NeverFalls (bay_before bay) (bay_after bay) → OthersUntouched readers.old readers.new 0 →
       length readers.new ≡ length readers.old → NeverFalls (reader_before readers) (reader_after readers) →
-      NeverFalls (sink_before sink) (sink_after sink) → QueryEnds admits q bay readers sink cause
-  query_ends admits cause m store_answered reader_answered sink_answered unread header_same files_same begins_none bay_count others list reader_count sink_count =
+      NeverFalls (sink_before sink) (sink_after sink) → QueryEnds q bay readers sink cause
+  query_ends cause m store_answered reader_answered sink_answered unread unfailed few header_same files_same begun changes bay_count others list reader_count sink_count =
       record {
         means = m;
         bad_header = λ bad. bad_question bad cause m;
         due = λ fault d. due_ends fault d cause m;
+        bad_header_store = λ bad five. asked_first (store_cause cause m five) (λ u. not_bad header _ u bad);
+        due_store = λ fault d of five. asked_first (store_cause cause m five) (never_plans fault d of);
         complete = λ sound bay_quiet quiet taken. sound_ends sound bay_quiet quiet taken cause m;
         store_answered = store_answered;
         reader_answered = reader_answered;
         sink_answered = sink_answered;
+        store_outage = λ five. outage (store_cause cause m five);
+        unfailed = unfailed;
         unread = unread;
-        header = header_same;
-        files = files_same;
-        begins_none = begins_none;
+        few_reads = few;
+        unchanged = record { header = header_same; files = files_same; begun = begun; changes = changes };
         bay_count = bay_count;
         others = others;
         reader_list = list;

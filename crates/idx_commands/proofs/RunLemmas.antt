@@ -9,14 +9,13 @@ use Rattle.idx_words.specs.QueryValue.{QueryValue}
 use Rattle.idx_words.specs.declared.command.Command.{Command}
 use Rattle.idx_words.specs.declared.command.Command.TheVariants.{Cut, Info, Convert, Query}
 use Rattle.idx_words.specs.Words.{Give, GiveConvert, GiveCut, GiveInfo, GiveQuery, IsConvert, IsCut, IsInfo, IsQuery}
-use Rattle.idx_extract.specs.declared.extract_fault.ExtractFault.TheVariants as faults
 use Rattle.idx_commands.specs.declared.causes.Cause.{Cause}
 use Rattle.idx_commands.specs.declared.causes.Cause.TheVariants as causes
 use Rattle.idx_commands.specs.Cause.{status_of}
 use Rattle.idx_commands.specs.CutRun.{CutEnds, CutMeans}
 use Rattle.idx_commands.specs.InfoRun.{InfoEnds, InfoMeans}
 use Rattle.idx_commands.specs.ConvertRun.{ConvertEnds, ConvertMeans}
-use Rattle.idx_commands.specs.QueryRun.{HasCause, QueryEnds, QueryMeans}
+use Rattle.idx_commands.specs.QueryRun.{IsBayOutage, IsReaderOutage, QueryEnds, QueryMeans}
 use Rattle.idx_commands.specs.Known.{Known, known}
 use Rattle.idx_commands.specs.Seen.{BaySeen, IsUnchanged, raw_after, raw_before, raw_bytes, reader_counts}
 use Rattle.idx_commands.specs.Run.{AreNamed, CommandEnds, CountsFaults, LeavesRest, RunSeen, Writes, WroteAnswer, WrotePrefix}
@@ -203,7 +202,7 @@ module _ {V B R K : Type 0} (words : List (List ℕ)) (seen : RunSeen V B R K) w
       record {
         raw_fault = λ four. absurd (m causes.RawFault (raw_fault_is cause four));
         raw_used = λ four. absurd (m causes.RawFault (raw_fault_is cause four));
-        store_fault = λ five. outage (m causes.StoreFault (store_fault_is cause five)).0;
+        store_fault = λ five. outage (e.0.store_outage five);
         store_used = λ five. inr (inr (q, gives));
         sink_fault = λ nine. (m causes.SinkFault (sink_fault_is cause nine)).0;
         raw_answered = λ more. absurd (not_more raw_count seen.raws.old seen.raws.new e.1 more);
@@ -212,11 +211,11 @@ module _ {V B R K : Type 0} (words : List (List ℕ)) (seen : RunSeen V B R K) w
         sink_answered = λ more. ap status_of (e.0.sink_answered more);
       }
     where
-      outage : HasCause q seen.bay (reader_counts seen.readers) faults.StoreFault →
+      outage : IsBayOutage seen.bay ⊎ IsReaderOutage seen.bay seen.readers →
           Rose (seen.bay.faults seen.bay.old) (seen.bay.faults seen.bay.new)
           ⊎ (GiveQuery words × Rose (reader_count seen.readers.old) (reader_count seen.readers.new))
-      outage (inl rose) = inl rose
-      outage (inr both) = inr ((q, gives), both.0)
+      outage (inl bay) = inl bay.rose
+      outage (inr reader) = inr ((q, gives), reader.rose)
 
   -- ---- what is left
 

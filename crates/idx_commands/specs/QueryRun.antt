@@ -1,25 +1,31 @@
 -- How a run of `query` ends, by what is seen of the bay, of the readers and of the sink.
-use Rattle.std.specs.Prelude.{◌≡◌, ◌⊎◌, ℕ, ◌<◌, List, Option, Some, None, IsSomeAnd, Ok, length}
+use Rattle.std.specs.Prelude.{◌≡◌, ◌≢◌, ◌⊎◌, ℕ, ◌<◌, List, Option, Some, None, IsSomeAnd, Ok, length}
 use Rattle.idx_outside.specs.Cause.{NeverFalls, Rose}
 use Rattle.idx_outside.specs.Contents.{appended, AppendsPrefix}
-use Rattle.idx_outside.specs.Files.{StillAdmits}
 use Rattle.idx_outside.specs.Objects.{OthersUntouched}
+use Rattle.idx_outside.specs.declared.bay_call.BayCall.TheVariants as calls
 use Rattle.idx_outside.specs.declared.mem_file.MemFile.{MemFile}
 use Rattle.idx_header.specs.Header.{HeaderValue}
 use Rattle.idx_header.specs.HeaderOf.{header_of}
+use Rattle.idx_plan.specs.QuestionValue.{QuestionValue}
 use Rattle.idx_plan.specs.declared.plan_fault.PlanFault.{PlanFault}
 use Rattle.idx_plan.specs.declared.plan_fault.PlanFault.TheVariants as plans
+use Rattle.idx_edition.specs.Loaded.{AsksStep}
 use Rattle.idx_edition.specs.Stored.{Stands, first_bad}
 use Rattle.idx_edition.specs.declared.load_fault.LoadFault.TheVariants as load_faults
 use Rattle.idx_words.specs.QueryValue.{QueryValue}
 use Rattle.idx_extract.specs.declared.extract_fault.ExtractFault.{ExtractFault}
 use Rattle.idx_extract.specs.declared.extract_fault.ExtractFault.TheVariants as faults
-use Rattle.idx_extract.specs.Extract.{Extracted, HasPlan, IsCause, IsStop}
+use Rattle.idx_extract.specs.Extract.{Extracted, HasPlan, IsCause, IsStop, Known, ReadsFew}
 use Rattle.idx_commands.specs.declared.causes.Cause.{Cause}
 use Rattle.idx_commands.specs.declared.causes.Cause.TheVariants as causes
 use Rattle.idx_commands.specs.Cause.{status_of}
 use Rattle.idx_commands.specs.InfoRun.{HasBadHeader}
-use Rattle.idx_commands.specs.Seen.{BaySeen, ReaderCounts, ReadersSeen, SinkSeen, bay_after, bay_before, reader_after, reader_before, reader_counts, sink_after, sink_before}
+use Rattle.idx_commands.specs.Seen.{BaySeen, IsUnchanged, ReaderCounts, ReadersSeen, SinkSeen, bay_after, bay_before, reader_after, reader_before, reader_counts, sink_after, sink_before}
+
+-- the question that the words ask
+abbrev pub question_of : QueryValue → QuestionValue
+question_of q = record { time = q.time; field = q.field; region = q.region; lo = q.lo; hi = q.hi }
 
 -- the cause of a run whose question has no plan
 abbrev pub cause_of_plan : PlanFault → Cause
@@ -43,13 +49,29 @@ cause_of_extract step faults.NoMemory = causes.NoMemory
 abbrev pub HasAnswer : {B : Type 0} → QueryValue → BaySeen B → ReaderCounts → (List ℕ → Type 0) → Type 0
 HasAnswer q bay counts P =
     (bytes : List ℕ)
-    × (Extracted q (bay.header bay.old) (bay.files bay.old) counts.reads_before counts.reads_after bytes × P bytes)
+    × (Extracted (question_of q) (bay.header bay.old) (bay.files bay.old) counts.reads_before counts.reads_after bytes × P bytes)
+
+-- what is known of the dataset, and what its bay and the reader counted
+abbrev pub known_of : {B : Type 0} → BaySeen B → ReaderCounts → Known
+known_of bay counts =
+    record {
+      header = bay.header bay.old;
+      files = bay.files bay.old;
+      counts = record {
+        bay_before = bay_before bay;
+        bay_after = bay_after bay;
+        failed_before = bay.failed bay.old;
+        failed_after = bay.failed bay.new;
+        reader_before = counts.faults_before;
+        reader_after = counts.faults_after;
+      };
+      reads_before = counts.reads_before;
+      reads_after = counts.reads_after;
+    }
 
 -- the fault has its cause
 abbrev pub HasCause : {B : Type 0} → QueryValue → BaySeen B → ReaderCounts → ExtractFault → Type 0
-HasCause q bay counts fault =
-    IsCause q (bay.header bay.old) (bay.files bay.old) (bay_before bay) (bay_after bay) counts.faults_before
-    counts.faults_after fault
+HasCause q bay counts fault = IsCause (question_of q) (known_of bay counts) fault
 
 -- What each cause says, by the counts of the reader that is used. No other cause comes.
 abbrev pub QueryMeans : {B K : Type 0} → QueryValue → BaySeen B → ReaderCounts → SinkSeen K → Cause → Type 0
@@ -94,20 +116,38 @@ ReadsAs known P = IsSomeAnd known (λ text. (h : HeaderValue) × ((header_of tex
 -- Each refusal of a question is due, by what is known of the header text and of the committed files.
 abbrev pub IsDue : QueryValue → Option (List ℕ) → Option (List MemFile) → ExtractFault → Type 0
 IsDue q header files faults.NotPublished =
-    ReadsAs header (λ h. HasPlan q h × IsSomeAnd files (λ files. ¬ Stands h q.time files))
+    ReadsAs header (λ h. HasPlan (question_of q) h × IsSomeAnd files (λ files. ¬ Stands h q.time files))
 IsDue q header files (faults.BadTable file row kind) =
-    ReadsAs header (λ h. HasPlan q h × IsSomeAnd files (λ files. Stands h q.time files
+    ReadsAs header (λ h. HasPlan (question_of q) h × IsSomeAnd files (λ files. Stands h q.time files
     × (first_bad h q.time files ≡ Some (load_faults.BadTable file row kind))))
-IsDue q header files fault = ReadsAs header (λ h. IsStop h q files fault)
+IsDue q header files fault = ReadsAs header (λ h. IsStop h (question_of q) files fault)
 
 -- None is due: the header reads, the question has a plan, the step stands, and no row of its files is faulty.
 abbrev pub HasSoundStep : QueryValue → Option (List ℕ) → Option (List MemFile) → Type 0
 HasSoundStep q header files =
-    ReadsAs header (λ h. HasPlan q h
+    ReadsAs header (λ h. HasPlan (question_of q) h
     × IsSomeAnd files (λ files. Stands h q.time files × (first_bad h q.time files ≡ None)))
 
--- How a run ends with this cause. `admits` is the ghost member of bays.
-pub record QueryEnds {B R K : Type 0} (admits : B → List ℕ → Type 0) (q : QueryValue) (bay : BaySeen B) (readers : ReadersSeen R) (sink : SinkSeen K) (cause : Cause) : Type 0 where
+-- The refusal is one of the question, by the header alone.
+abbrev pub IsOfQuestion : ExtractFault → Type 0
+IsOfQuestion faults.OtherAxes = Unit {0}
+IsOfQuestion faults.UnknownField = Unit {0}
+IsOfQuestion (faults.Plan fault) = Unit {0}
+IsOfQuestion fault = ⊥
+
+-- The bay counted a fault when it was asked for the header, or for the step or a file of it.
+pub record IsBayOutage {B : Type 0} (bay : BaySeen B) : Type 0 where
+  pub rose : Rose (bay_before bay) (bay_after bay)
+  pub call : (bay.failed bay.new ≡ Some calls.Header) ⊎ AsksStep (bay.failed bay.new)
+
+-- The first reader counted a fault, and the bay none.
+pub record IsReaderOutage {B R : Type 0} (bay : BaySeen B) (readers : ReadersSeen R) : Type 0 where
+  pub rose : Rose (reader_before readers) (reader_after readers)
+  pub count : bay_after bay ≡ bay_before bay
+  pub call : bay.failed bay.new ≡ bay.failed bay.old
+
+-- How a run ends with this cause.
+pub record QueryEnds {B R K : Type 0} (q : QueryValue) (bay : BaySeen B) (readers : ReadersSeen R) (sink : SinkSeen K) (cause : Cause) : Type 0 where
   -- what the cause says
   pub means : QueryMeans q bay (reader_counts readers) sink cause
   -- each refusal comes where it is due, but for a fault of the store that comes before, and want of memory
@@ -115,6 +155,10 @@ pub record QueryEnds {B R K : Type 0} (admits : B → List ℕ → Type 0) (q : 
       (status_of cause ≡ 2) ⊎ ((status_of cause ≡ 5) ⊎ (status_of cause ≡ 11))
   pub due : (fault : ExtractFault) → IsDue q (bay.header bay.old) (bay.files bay.old) fault →
       (cause ≡ cause_of_extract q.time fault) ⊎ ((status_of cause ≡ 5) ⊎ (status_of cause ≡ 11))
+  -- before a refusal of the header or of the question the bay is asked for the header alone
+  pub bad_header_store : HasBadHeader (bay.header bay.old) → status_of cause ≡ 5 → bay.failed bay.new ≡ Some calls.Header
+  pub due_store : (fault : ExtractFault) → IsDue q (bay.header bay.old) (bay.files bay.old) fault → IsOfQuestion fault →
+      status_of cause ≡ 5 → bay.failed bay.new ≡ Some calls.Header
   -- where nothing is wrong and no fault was counted, all is written, unless there is not enough memory
   pub complete : HasSoundStep q (bay.header bay.old) (bay.files bay.old) →
       ¬ Rose (bay_before bay) (bay_after bay) → ¬ Rose (reader_before readers) (reader_after readers) →
@@ -123,12 +167,16 @@ pub record QueryEnds {B R K : Type 0} (admits : B → List ℕ → Type 0) (q : 
   pub store_answered : bay_before bay < bay_after bay → cause ≡ causes.StoreFault
   pub reader_answered : reader_before readers < reader_after readers → cause ≡ causes.StoreFault
   pub sink_answered : sink_before sink < sink_after sink → cause ≡ causes.SinkFault
+  -- a fault of the store is one of these, and at every other end no call of the bay counted one
+  pub store_outage : status_of cause ≡ 5 → IsBayOutage bay ⊎ IsReaderOutage bay readers
+  pub unfailed : status_of cause ≢ 5 → bay.failed bay.new ≡ bay.failed bay.old
   -- no leaf is read before the question is accepted and the step known to stand
   pub unread : IsUnreadCause cause → readers.new ≡ readers.old
-  -- the header text and the committed files stay, no step is begun, no reader but the first was touched, and no count fell
-  pub header : bay.header bay.new ≡ bay.header bay.old
-  pub files : bay.files bay.new ≡ bay.files bay.old
-  pub begins_none : StillAdmits admits bay.old bay.new
+  -- a refusal comes after few reads
+  pub few_reads : status_of cause ≢ 0 → status_of cause ≢ 9 → ReadsFew (question_of q) (known_of bay (reader_counts readers))
+  -- the bay was not changed, its header text and its committed files among it, no reader but the first was touched, and no
+  -- count fell
+  pub unchanged : IsUnchanged bay
   pub bay_count : NeverFalls (bay_before bay) (bay_after bay)
   pub others : OthersUntouched readers.old readers.new 0
   pub reader_list : length readers.new ≡ length readers.old

@@ -17,7 +17,7 @@ use Rattle.idx_commands.specs.Summary.{summary}
 use Rattle.idx_commands.specs.InfoRun.{InfoEnds, KnownReads}
 use Rattle.idx_commands.specs.CutRun.{CutEnds}
 use Rattle.idx_commands.specs.ConvertRun.{ConvertEnds}
-use Rattle.idx_commands.specs.QueryRun.{QueryEnds}
+use Rattle.idx_commands.specs.QueryRun.{QueryEnds, question_of}
 use Rattle.idx_commands.specs.Seen.{BaySeen, IsUnchanged, RawsSeen, ReadersSeen, SinkSeen, bay_after, bay_before, raw_after, raw_before, reader_after, reader_before, sink_after, sink_before}
 
 -- The bytes of no raw volume are known, or those of all, and then they are the same.
@@ -36,7 +36,7 @@ Writes (Cut c) raw header files P Nothing = IfSome raw (λ bytes. P (cut_output 
 Writes Info raw header files P Nothing = KnownReads header (λ h. P (summary h))
 Writes (Convert c) raw header files P Nothing = Nothing
 Writes (Query q) raw header files P Nothing =
-    KnownReads header (λ h. Asks q h (λ ask. IfSome files (λ files. P (answer_of h ask (stored_block h q.time files)))))
+    KnownReads header (λ h. Asks (question_of q) h (λ ask. IfSome files (λ files. P (answer_of h ask (stored_block h q.time files)))))
 
 -- The words are in the grammar. Where what the command reads is known, and what was written to the sink, all of the answer
 -- was written and nothing else.

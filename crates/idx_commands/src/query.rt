@@ -1,18 +1,18 @@
-ghost use Rattle.std.specs.Prelude.{◌≡◌, ◌↔◌, ℕ, ◌<◌, codes, map, string_bytes, vec_len};
+ghost use Rattle.std.specs.Prelude.{◌≡◌, ◌≢◌, ◌↔◌, ℕ, ◌<◌, codes, map, string_bytes, vec_len};
 ghost use Rattle.idx_outside.specs.Cause.{NeverFalls};
-ghost use Rattle.idx_outside.specs.Files.{StillAdmits};
 ghost use Rattle.idx_words.specs.declared.command.Command.{Command};
 ghost use Rattle.idx_words.specs.QueryValue.{QueryValue};
+ghost use Rattle.idx_extract.specs.Extract.{ReadsFew};
 ghost use Rattle.idx_words.specs.Words.{Give, GiveQuery, IsUsagePlace};
 ghost use Rattle.idx_commands.specs.Cause.{status_of};
-ghost use Rattle.idx_commands.specs.QueryRun.{IsUnreadCause, QueryEnds, QueryMeans, cause_of_extract, cause_of_plan};
+ghost use Rattle.idx_commands.specs.QueryRun.{IsUnreadCause, QueryEnds, QueryMeans, cause_of_extract, cause_of_plan, known_of, question_of};
 ghost use Rattle.idx_commands.specs.Run.{AreNamed};
 ghost use Rattle.idx_commands.specs.Seen.{bay_seen, readers_seen, sink_seen};
 
 use crate::causes::{Cause, Done};
 use idx_extract::{ExtractFault, extract};
 use idx_outside::{Bay, Reader, Sink};
-use idx_plan::PlanFault;
+use idx_plan::{PlanFault, Question};
 use idx_words::{Command, QueryWords, read_words};
 use std::alloc::Global;
 
@@ -31,7 +31,7 @@ pub fn run_query<B: Bay, R: Reader<B::Leaf>, K: Sink>(
     requires named { AreNamed (map string_bytes words.now) (codes "query") }
     ensures status { result.status ≡ status_of result.cause }
     ensures query { (q : QueryValue) → Give (map string_bytes words.now) (Command.Query q) →
-        QueryEnds B.admits q (bay_seen B.header B.files B.faults bay.old bay.new)
+        QueryEnds q (bay_seen B.header B.files B.begun B.changes B.failed B.faults bay.old bay.new)
         (readers_seen R.faults R.reads readers.old.items readers.new.items)
         (sink_seen K.contents K.faults out.old out.new) result.cause }
 
@@ -61,7 +61,7 @@ fn query_first<B: Bay, R: Reader<B::Leaf>, K: Sink>(
     out: &mut K,
 ) -> Cause
     requires { 0 < vec_len readers.old }
-    ensures { QueryEnds B.admits words.now (bay_seen B.header B.files B.faults bay.old bay.new)
+    ensures { QueryEnds words.now (bay_seen B.header B.files B.begun B.changes B.failed B.faults bay.old bay.new)
         (readers_seen R.faults R.reads readers.old.items readers.new.items)
         (sink_seen K.contents K.faults out.old out.new) result }
 {
@@ -76,16 +76,26 @@ fn query<B: Bay, R: Reader<B::Leaf>, K: Sink>(
     reader: &mut R,
     out: &mut K,
 ) -> Cause
-    ensures means { QueryMeans words.now (bay_seen B.header B.files B.faults bay.old bay.new) (record {
+    ensures means { QueryMeans words.now
+        (bay_seen B.header B.files B.begun B.changes B.failed B.faults bay.old bay.new) (record {
       faults_before = R.faults reader.old;
       faults_after = R.faults reader.new;
       reads_before = R.reads reader.old;
       reads_after = R.reads reader.new;
     }) (sink_seen K.contents K.faults out.old out.new) result }
+    ensures few_reads { status_of result ≢ 0 → status_of result ≢ 9 → ReadsFew (question_of words.now) (known_of
+        (bay_seen B.header B.files B.begun B.changes B.failed B.faults bay.old bay.new) (record {
+      faults_before = R.faults reader.old;
+      faults_after = R.faults reader.new;
+      reads_before = R.reads reader.old;
+      reads_after = R.reads reader.new;
+    })) }
     ensures unread { IsUnreadCause result → reader.new ≡ reader.old }
+    ensures unfailed { status_of result ≢ 5 → B.failed bay.new ≡ B.failed bay.old }
     ensures header { B.header bay.new ≡ B.header bay.old }
     ensures files { B.files bay.new ≡ B.files bay.old }
-    ensures admits { StillAdmits B.admits bay.old bay.new }
+    ensures begun { B.begun bay.new ≡ B.begun bay.old }
+    ensures changes { B.changes bay.new ≡ B.changes bay.old }
     ensures bay_count { NeverFalls (B.faults bay.old) (B.faults bay.new) }
     ensures bay_answered { B.faults bay.old < B.faults bay.new → result ≡ Cause.StoreFault }
     ensures reader_count { NeverFalls (R.faults reader.old) (R.faults reader.new) }
@@ -93,13 +103,26 @@ fn query<B: Bay, R: Reader<B::Leaf>, K: Sink>(
     ensures sink_count { NeverFalls (K.faults out.old) (K.faults out.new) }
     ensures sink_answered { K.faults out.old < K.faults out.new → result ≡ Cause.SinkFault }
 {
-    let samples = match extract(alloc, words, bay, reader) {
+    let samples = match extract(alloc, &question_of(words), bay, reader) {
         Ok(samples) => samples,
         Err(fault) => return cause_of(words.time, fault),
     };
     match out.write(samples.as_slice()) {
         Ok(()) => Cause::Done,
         Err(_) => Cause::SinkFault,
+    }
+}
+
+/// The question that the words ask.
+fn question_of<'w>(words: &QueryWords<'w>) -> Question<'w>
+    ensures { result ≡ question_of words.now }
+{
+    Question {
+        time: words.time,
+        field: words.field,
+        region: words.region,
+        lo: words.lo,
+        hi: words.hi,
     }
 }
 

@@ -24,7 +24,7 @@ pub fn read_target(
     header: &Header,
     name: &[u8],
 ) -> Result<Ask, TargetFault>
-    ensures read { IsRead header.now name.now target.now result }
+    ensures { IsRead header.now name.now target.now result }
 {
     let (path, query) = cut(target);
     if path != b"/mod_visus".as_slice() {
