@@ -6,3 +6,4 @@ pub mod InfoLemmas
 pub mod ConvertLemmas
 pub mod QueryLemmas
 pub mod RunLemmas
+pub mod AnswerLemmas

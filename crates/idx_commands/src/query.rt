@@ -103,26 +103,20 @@ fn query<B: Bay, R: Reader<B::Leaf>, K: Sink>(
     ensures sink_count { NeverFalls (K.faults out.old) (K.faults out.new) }
     ensures sink_answered { K.faults out.old < K.faults out.new → result ≡ Cause.SinkFault }
 {
-    let samples = match extract(alloc, &question_of(words), bay, reader) {
+    let question = Question {
+        time: words.time,
+        field: words.field,
+        region: words.region,
+        lo: words.lo,
+        hi: words.hi,
+    };
+    let samples = match extract(alloc, &question, bay, reader) {
         Ok(samples) => samples,
         Err(fault) => return cause_of(words.time, fault),
     };
     match out.write(samples.as_slice()) {
         Ok(()) => Cause::Done,
         Err(_) => Cause::SinkFault,
-    }
-}
-
-/// The question that the words ask.
-fn question_of<'w>(words: &QueryWords<'w>) -> Question<'w>
-    ensures { result ≡ question_of words.now }
-{
-    Question {
-        time: words.time,
-        field: words.field,
-        region: words.region,
-        lo: words.lo,
-        hi: words.hi,
     }
 }
 
