@@ -20,7 +20,7 @@ means_of_fault q bay counts sink (faults.Plan (plans.OutsideVolume axis)) cause 
 means_of_fault q bay counts sink (faults.Plan (plans.BadLevels lo hi max)) cause silent = (cause, silent)
 means_of_fault q bay counts sink (faults.Plan (plans.TooLarge bytes)) cause silent = (cause, silent)
 means_of_fault q bay counts sink (faults.Plan plans.NoMemory) cause silent = silent
-means_of_fault q bay counts sink faults.NotPublished cause silent = (refl, (cause, silent))
+means_of_fault q bay counts sink faults.NotPublished cause silent = (refl, cause, silent)
 means_of_fault q bay counts sink (faults.BadTable file row kind) cause silent = (cause, silent)
 means_of_fault q bay counts sink faults.StoreFault cause silent = (cause, silent)
 means_of_fault q bay counts sink faults.NoMemory cause silent = silent

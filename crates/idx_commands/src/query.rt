@@ -78,18 +78,18 @@ fn query<B: Bay, R: Reader<B::Leaf>, K: Sink>(
 ) -> Cause
     ensures means { QueryMeans words.now
         (bay_seen B.header B.files B.begun B.changes B.failed B.faults bay.old bay.new) (record {
-      faults_before = R.faults reader.old;
-      faults_after = R.faults reader.new;
-      reads_before = R.reads reader.old;
-      reads_after = R.reads reader.new;
-    }) (sink_seen K.contents K.faults out.old out.new) result }
+          faults_before = R.faults reader.old;
+          faults_after = R.faults reader.new;
+          reads_before = R.reads reader.old;
+          reads_after = R.reads reader.new;
+        }) (sink_seen K.contents K.faults out.old out.new) result }
     ensures few_reads { status_of result ≢ 0 → status_of result ≢ 9 → ReadsFew (question_of words.now) (known_of
         (bay_seen B.header B.files B.begun B.changes B.failed B.faults bay.old bay.new) (record {
-      faults_before = R.faults reader.old;
-      faults_after = R.faults reader.new;
-      reads_before = R.reads reader.old;
-      reads_after = R.reads reader.new;
-    })) }
+          faults_before = R.faults reader.old;
+          faults_after = R.faults reader.new;
+          reads_before = R.reads reader.old;
+          reads_after = R.reads reader.new;
+        })) }
     ensures unread { IsUnreadCause result → reader.new ≡ reader.old }
     ensures unfailed { status_of result ≢ 5 → B.failed bay.new ≡ B.failed bay.old }
     ensures header { B.header bay.new ≡ B.header bay.old }
@@ -103,20 +103,26 @@ fn query<B: Bay, R: Reader<B::Leaf>, K: Sink>(
     ensures sink_count { NeverFalls (K.faults out.old) (K.faults out.new) }
     ensures sink_answered { K.faults out.old < K.faults out.new → result ≡ Cause.SinkFault }
 {
-    let question = Question {
-        time: words.time,
-        field: words.field,
-        region: words.region,
-        lo: words.lo,
-        hi: words.hi,
-    };
-    let samples = match extract(alloc, &question, bay, reader) {
+    let samples = match extract(alloc, &question_of(words), bay, reader) {
         Ok(samples) => samples,
         Err(fault) => return cause_of(words.time, fault),
     };
     match out.write(samples.as_slice()) {
         Ok(()) => Cause::Done,
         Err(_) => Cause::SinkFault,
+    }
+}
+
+/// The question that the words ask.
+fn question_of<'w>(words: &QueryWords<'w>) -> Question<'w>
+    ensures { result ≡ question_of words.now }
+{
+    Question {
+        time: words.time,
+        field: words.field,
+        region: words.region,
+        lo: words.lo,
+        hi: words.hi,
     }
 }
 
