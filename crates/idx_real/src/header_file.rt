@@ -13,7 +13,12 @@ const STAGED_NAMES: u64 = 1000;
 
 /// Puts a text under a path where nothing stands, or an empty file. It is written beside it first, so that the path
 /// has all of it or nothing.
-pub fn put_new<R: Files>(rt: &R, alloc: Global, path: &str, text: &[u8]) -> Result<(), Reason>
+pub(crate) fn put_new<R: Files>(
+    rt: &R,
+    alloc: Global,
+    path: &str,
+    text: &[u8],
+) -> Result<(), Reason>
 where
     R::File: Lockable,
 {

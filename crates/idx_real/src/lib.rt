@@ -22,7 +22,6 @@ pub use file_leaf::FileLeaf;
 pub use file_reader::FileReader;
 pub use file_source::FileSource;
 pub use folder_bay::{FolderBay, HEADER_READ};
-pub use header_file::put_new;
 pub use lock::Lockable;
 pub use placed::read_range;
 pub use std_sink::StdSink;

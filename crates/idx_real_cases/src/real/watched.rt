@@ -1,6 +1,5 @@
 //! A runtime that looks at a header's file when it gets its name.
 use super::*;
-use idx_real::put_new;
 use std::alloc::Allocator;
 use std::cell::Cell;
 use std::fs::{File, Metadata, OpenOptions};
@@ -79,7 +78,9 @@ fn a_header_gets_its_name_with_all_its_bytes(rt: HostRuntime) -> Result<(), Fail
         rt: &rt,
         named: &named,
     };
-    assert!(rt; put_new(&watched, rt.alloc(), "watched.idx", b"text").is_ok());
+    let mut bay = FolderBay::new(watched, String::from_str(rt.alloc(), "watched.idx")?);
+    assert!(rt; bay.set_header(b"text").is_ok());
+    drop(bay);
     assert_eq!(rt; named.get(), 4);
     fs::remove_file(&rt, "watched.idx")?;
     Ok(())
