@@ -3,6 +3,8 @@ pub mod Calls
 pub mod Cause
 pub mod Contents
 pub mod Counts
+pub mod Doors
 pub mod Files
+pub mod Input
 pub mod Objects
 pub mod Shape

@@ -1,5 +1,5 @@
-//! What lies outside: sources of bytes, sinks for bytes, bays, where datasets stand, and readers of their files, each
-//! with a count of its faults.
+//! What lies outside: sources of bytes, sinks for bytes, bays, where datasets stand, readers of their files, and doors
+//! with the links that they hand out, each with a count of its faults.
 #![tactic(auto)]
 
 mod bay;
@@ -7,13 +7,16 @@ mod bay_call;
 mod bay_fault;
 mod blocks;
 mod bytes;
+mod door;
 mod draft;
 mod gate;
 mod leaf;
+mod link;
 mod mem_file;
 mod no_memory;
 mod outage;
 mod reader;
+mod served;
 mod sink;
 mod source;
 
@@ -22,12 +25,15 @@ pub use bay_call::BayCall;
 pub use bay_fault::BayFault;
 pub use blocks::{Blocks, Fetched};
 pub use bytes::Bytes;
+pub use door::Door;
 pub use draft::Draft;
 pub use gate::{FreeGate, Gate, GatePlace};
 pub use leaf::Leaf;
+pub use link::Link;
 pub use mem_file::MemFile;
 pub use no_memory::NoMemory;
 pub use outage::Outage;
 pub use reader::Reader;
+pub use served::Served;
 pub use sink::Sink;
 pub use source::Source;
