@@ -1,0 +1,5 @@
+pub mod Heads
+pub mod Read
+pub mod Reply
+pub mod Values
+pub mod Worked
