@@ -1,3 +1,4 @@
+pub mod AsRead
 pub mod Heads
 pub mod Read
 pub mod Reply

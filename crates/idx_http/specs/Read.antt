@@ -31,7 +31,8 @@ IsLook buffer L.Bad = HasNoRequest buffer × NeverHasRequest buffer
 -- The answer to an input s, of which `rest` is left. A head is taken off the input, and nothing else is.
 abbrev pub IsHeadRead : List ℕ → Option (List ℕ) → HeadRead → Type 0
 IsHeadRead s rest (R.Head head) =
-    (h : RequestHead) × NextHead s (whole h) × (head ≡ values_of h) × (rest ≡ Some (drop (length (print_request h)) s))
+    (h : RequestHead) × NextHead s (whole h) × (head ≡ values_of h)
+    × (rest ≡ Some (drop (length (print_request h)) s))
 IsHeadRead s rest R.Ended = NextHead s ended × (rest ≡ Some s)
 IsHeadRead s rest (R.Cut kept) = NextHead s (cut kept) × (rest ≡ Some s)
 IsHeadRead s rest R.Bad = NextHead s bad × (rest ≡ Some s)

@@ -9,8 +9,8 @@ lines_text lines = flat_map (λ line. line ++ 13 ∷ 10 ∷ []) lines
 -- the fields of an answer of four samples behind its first two
 abbrev pub answer_fields : List (List ℕ × List ℕ)
 answer_fields =
-    (codes "visus-compression", codes "raw") ∷ (codes "visus-dtype", codes "uint8") ∷ (codes "visus-samples", codes "4")
-    ∷ (codes "visus-post", codes "0") ∷ []
+    (codes "visus-compression", codes "raw") ∷ (codes "visus-dtype", codes "uint8")
+    ∷ (codes "visus-samples", codes "4") ∷ (codes "visus-post", codes "0") ∷ []
 
 -- the head of that answer
 abbrev pub answer_head : List ℕ
