@@ -1,8 +1,9 @@
-ghost use Rattle.std.specs.Prelude.{◌≡◌, ◌↔◌, IsErr, OnOk, OnErr, is_ok};
+ghost use Rattle.std.specs.Prelude.{◌≡◌, ◌↔◌, IsErr, IfOk, OnOk, OnErr, is_ok};
 ghost use Rattle.idx_outside.specs.Cause.{counted, NeverFalls, Rose};
 ghost use Rattle.idx_memory.specs.Memory.{untouched, NextFails, after_call};
 
-use idx_outside::Outage;
+use idx_outside::{NoMemory, Outage};
+use std::alloc::Global;
 use std::marker::Model;
 
 /// Which calls of a form in memory are to fail, and how many calls and faults there were.
@@ -31,6 +32,16 @@ impl FaultScript {
             calls: 0,
             faults: 0,
         }
+    }
+
+    pub(crate) fn copy(&self, alloc: Global) -> Result<FaultScript, NoMemory>
+        ensures { IfOk result (λ script. script ≡ self.now) }
+    {
+        Ok(FaultScript {
+            fails: Vec::from_slice(alloc, self.fails.as_slice())?,
+            calls: self.calls,
+            faults: self.faults,
+        })
     }
 
     /// Counts a call, and a fault where this call is to fail.
