@@ -4,3 +4,4 @@ pub mod Steps
 pub mod Fault
 pub mod Answered
 pub mod Reads
+pub mod Capacity

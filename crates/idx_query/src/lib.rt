@@ -2,6 +2,7 @@
 #![tactic(auto)]
 
 mod answering;
+mod capacity;
 mod copying;
 mod loading;
 mod query_fault;
@@ -10,5 +11,6 @@ mod rounds;
 mod taking;
 
 pub use answering::answer;
+pub use capacity::capacity_of;
 pub use query_fault::QueryFault;
 pub use report::Report;

@@ -1,4 +1,4 @@
-use idx_words::{Command, ConvertWords, read_words};
+use idx_words::{Command, ConvertWords, read_serve, read_words};
 use std::alloc::{AllocError, Global};
 
 /// Words of `cut` and `info` and of no command, each behind the place of the first that is wrong or missing.
@@ -56,6 +56,10 @@ const CONVERT: &str = "\
 10 convert|v|r|b|f|m|b|p|t|t|00000000000000000000\n\
 11 convert|v|r|b|f|m|b|p|t|t|0000000000000000000|0\n\
 11 convert|v|r|b|f|m|b|p|t|t|0||\n\
+11 convert|v|r|b|f|m|b|p|t|t|0|--cache|64\n\
+12 convert|v|r|b|f|m|b|p|t|t|0|--ranks\n\
+12 convert|v|r|b|f|m|b|p|t|t|0|--ranks|257\n\
+13 convert|v|r|b|f|m|b|p|t|t|0|--ranks|256|--ranks|256\n\
 ";
 
 /// The same of `query`.
@@ -85,7 +89,15 @@ const QUERY: &str = "\
 6 query|v.idx|0|a|0 3 0 3|0|\n\
 7 query|v.idx|0|a|0 3 0 3|0|2|3\n\
 7 query|v.idx|0|a|0 3 0 3|0|2|\n\
-7 query|v.idx|0|a|0 3 0 3|0|2|--cache|64\n\
+7 query|v.idx|0|a|0 3 0 3|0|2|--\n\
+7 query|v.idx|0|a|0 3 0 3|0|2|--cache=64\n\
+7 query|v.idx|0|a|0 3 0 3|0|2|--workers|2\n\
+8 query|v.idx|0|a|0 3 0 3|0|2|--cache\n\
+8 query|v.idx|0|a|0 3 0 3|0|2|--cache|0\n\
+8 query|v.idx|0|a|0 3 0 3|0|2|--cache|65537\n\
+8 query|v.idx|0|a|0 3 0 3|0|2|--cache|--cache\n\
+9 query|v.idx|0|a|0 3 0 3|0|2|--cache|064|--cache|64\n\
+9 query|v.idx|0|a|0 3 0 3|0|2|--cache|64|3\n\
 ";
 
 /// The words of a line, which stand between its bars.
@@ -128,8 +140,8 @@ fn right_rows(alloc: Global, table: &str) -> usize {
 fn the_first_word_after_which_nothing_goes_is_the_place(rt: HostRuntime) {
     assert_eq!(rt; wrong_place(&[]), Some(0));
     assert_eq!(rt; right_rows(rt.alloc(), CUT), 36);
-    assert_eq!(rt; right_rows(rt.alloc(), CONVERT), 13);
-    assert_eq!(rt; right_rows(rt.alloc(), QUERY), 26);
+    assert_eq!(rt; right_rows(rt.alloc(), CONVERT), 17);
+    assert_eq!(rt; right_rows(rt.alloc(), QUERY), 34);
 }
 
 /// The bytes and the levels that words of `cut` ask for.
@@ -141,12 +153,17 @@ fn cut_of(alloc: Global, line: &str) -> Option<(u64, (u32, u32))> {
     }
 }
 
-/// The step, the points of the region, and the levels that words of `query` ask for.
-fn query_of(alloc: Global, line: &str) -> Option<(u64, u64, (u32, u32))> {
+/// The step, the points of the region, the levels, and the blocks that words of `query` ask for.
+fn query_of(alloc: Global, line: &str) -> Option<(u64, u64, (u32, u32), u32)> {
     let words = words_in(alloc, line).ok()?;
     match read_words(&words) {
         Ok(Command::Query(query)) => {
-            Some((query.time, query.region.count(), (query.lo, query.hi)))
+            Some((
+                query.time,
+                query.region.count(),
+                (query.lo, query.hi),
+                query.cache,
+            ))
         }
         _ => None,
     }
@@ -157,7 +174,36 @@ fn right_words_are_read(rt: HostRuntime) {
     let cut = "cut|r|0000000000000000064| 0\t3  00 03\t|V0101|1 1 1 1|04|4";
     assert!(rt; cut_of(rt.alloc(), cut) == Some((1024, (4, 4))));
     let query = "query|v.idx|0000000000000000009|pressure (mean)| 1\t2  01 03\t|00|02";
-    assert!(rt; query_of(rt.alloc(), query) == Some((9, 6, (0, 2))));
+    assert!(rt; query_of(rt.alloc(), query) == Some((9, 6, (0, 2), 64)));
+    let query = "query|v.idx|0|a|0 3 0 3|0|2|--cache|00065536";
+    assert!(rt; query_of(rt.alloc(), query) == Some((0, 16, (0, 2), 65_536)));
+}
+
+/// How many ranks words of `convert` ask for.
+fn ranks_of(alloc: Global, line: &str) -> Option<u32> {
+    let words = words_in(alloc, line).ok()?;
+    match read_words(&words) {
+        Ok(Command::Convert(convert)) => Some(convert.ranks),
+        _ => None,
+    }
+}
+
+/// The blocks, the workers and the links that the words behind `serve` ask for.
+fn serve_of(alloc: Global, line: &str) -> Option<(u32, u32, Option<u64>)> {
+    let words = words_in(alloc, line).ok()?;
+    match read_serve(&words) {
+        Ok(serve) => Some((serve.cache, serve.workers, serve.links)),
+        Err(_) => None,
+    }
+}
+
+#[test]
+fn options_are_read(rt: HostRuntime) {
+    let convert = "convert|v|r|b|f|m|b|p|t|t|0|--ranks|0256";
+    assert!(rt; ranks_of(rt.alloc(), convert) == Some(256));
+    assert!(rt; serve_of(rt.alloc(), "v|a") == Some((64, 1, None)));
+    let serve = "v|[::1]:80|--links|9999999999999999999|--cache|2|--workers|64";
+    assert!(rt; serve_of(rt.alloc(), serve) == Some((2, 64, Some(9_999_999_999_999_999_999))));
 }
 
 /// Whether words of `convert` ask for a header with these bits.

@@ -1,5 +1,6 @@
 pub mod PathLemmas
 pub mod PlaceLemmas
+pub mod OptionLemmas
 pub mod BoxLemmas
 pub mod HasMaskLemmas
 pub mod WitnessLemmas
@@ -8,5 +9,6 @@ pub mod InfoLemmas
 pub mod RightLemmas
 pub mod ConvertLemmas
 pub mod QueryLemmas
+pub mod ServeLemmas
 pub mod BuiltLemmas
 pub mod WordsLemmas

@@ -4,6 +4,11 @@ use Rattle.std.proofs.lemmas.Bool.{cases_lt}
 use Rattle.std.proofs.lemmas.List.{take-append-drop, take-take}
 use Rattle.idx_words.specs.Place.{SomeListBegins, IsPlace}
 
+-- the list is not of the grammar, and its first word that is wrong or missing is at this place
+pub record Fault (G : List (List ℕ) → Type 0) (ws : List (List ℕ)) (at : ℕ) : Type 0 where
+  pub place : IsPlace G ws at
+  pub none : ¬ G ws
+
 -- the place of a fault is one
 pub IsPlace-once : (G : List (List ℕ) → Type 0) (words : List (List ℕ)) (a b : ℕ) → IsPlace G words a → IsPlace G words b → a ≡ b
 IsPlace-once G words a b here there = ⊎_elim

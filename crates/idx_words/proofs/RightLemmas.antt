@@ -1,17 +1,18 @@
--- Words that are right or wrong by their places alone: the place of a fault is that of the first wrong one.
-use Rattle.std.proofs.Common.{◌≡◌, ◌↔◌, ℕ, zero, suc, ◌+◌, ◌<◌, ◌≤◌, List, [], ◌∷◌, length, Option, Some, None, IsTrue, refl, ap, subst, arith}
+-- Words that are right or wrong by their places alone, with the words of another grammar behind them: the place of a fault is that
+-- of the first wrong one.
+use Rattle.std.proofs.Common.{◌≡◌, ◌↔◌, ℕ, zero, suc, ◌+◌, ◌<◌, List, [], ◌∷◌, drop, length, Option, Some, None, IsTrue, refl, ap, subst, arith}
 use Rattle.std.specs.List.{slice_index_or}
 use Rattle.std.specs.Option.{is_some}
 use Rattle.std.proofs.lemmas.Bool.{false≢true}
-use Rattle.idx_words.specs.Place.{SomeListBegins, IsPlace}
+use Rattle.idx_words.specs.Place.{SomeListBegins}
 use Rattle.idx_words.specs.WordAt.{word_at}
-use Rattle.idx_words.proofs.PlaceLemmas.{IsPlace-first, IsPlace-behind, IsPlace-same}
+use Rattle.idx_words.proofs.PlaceLemmas.{Fault, IsPlace-first, IsPlace-behind, IsPlace-same}
 
--- as many words as places, each right at its own
-abbrev pub AreRight : {P : Type 0} → (P → List ℕ → Type 0) → List P → List (List ℕ) → Type 0
-AreRight Right [] [] = Unit {0}
-AreRight Right (p ∷ places) (w ∷ ws) = Right p w × AreRight Right places ws
-AreRight Right _ _ = ⊥
+-- a word for each place, right there, and behind them words of another grammar
+abbrev pub AreRight : {P : Type 0} → (P → List ℕ → Type 0) → (List (List ℕ) → Type 0) → List P → List (List ℕ) → Type 0
+AreRight Right Behind [] ws = Behind ws
+AreRight Right Behind (p ∷ places) [] = ⊥
+AreRight Right Behind (p ∷ places) (w ∷ ws) = Right p w × AreRight Right Behind places ws
 
 -- one of the places, or another one where there is none
 abbrev pub nth : {P : Type 0} → P → List P → ℕ → P
@@ -21,79 +22,73 @@ nth other places k = slice_index_or places k other
 abbrev pub AreRightBelow : {P : Type 0} → (P → List ℕ → Type 0) → P → ℕ → List P → List (List ℕ) → Type 0
 AreRightBelow Right other n places ws = (k : ℕ) → k < n → Right (nth other places k) (word_at ws k)
 
--- what is known where the words before a place are right, and the one at it is not
-pub record Fault (G : List (List ℕ) → Type 0) (ws : List (List ℕ)) (at : ℕ) : Type 0 where
-  pub place : IsPlace G ws at
-  pub none : ¬ G ws
-
--- the word at a place is wrong or missing; at the end there is one
-pub record IsWrong {P : Type 0} (Right : P → List ℕ → Type 0) (other : P) (places : List P) (ws : List (List ℕ)) (at : ℕ) : Type 0 where
-  pub within : at ≤ length places
-  pub word : at < length places → ¬ Right (nth other places at) (word_at ws at)
-  pub end : at ≡ length places → at < length ws
-
 -- the empty word is right nowhere
-module _ {P : Type 0} (Right : P → List ℕ → Type 0) (other : P) (empty : (p : P) → ¬ Right p []) where
-  all_right : (places : List P) (ws : List (List ℕ)) → AreRightBelow Right other (length places) places ws → length ws ≤ length places → AreRight Right places ws
-  all_right [] [] right few = tt
-  all_right [] (w ∷ ws) right few = absurd (omega arith)
-  all_right (p ∷ places) [] right few = absurd (empty p (right 0 (omega arith)))
-  all_right (p ∷ places) (w ∷ ws) right few =
-      (right 0 (omega arith), all_right places ws (λ k less. right (suc k) (omega arith)) (omega arith))
+module _ {P : Type 0} (Right : P → List ℕ → Type 0) (Behind : List (List ℕ) → Type 0) (other : P) (empty : (p : P) → ¬ Right p []) where
+  all_right : (places : List P) (ws : List (List ℕ)) → AreRightBelow Right other (length places) places ws → Behind (drop (length places) ws) → AreRight Right Behind places ws
+  all_right [] ws right behind = behind
+  all_right (p ∷ places) [] right behind = absurd (empty p (right 0 (omega arith)))
+  all_right (p ∷ places) (w ∷ ws) right behind = (right 0 (omega arith), all_right places ws (λ k less. right (suc k) (omega arith)) behind)
 
-  first_wrong : (places : List P) (some : List (List ℕ)) → AreRight Right places some → (ws : List (List ℕ)) (at : ℕ) →
-      AreRightBelow Right other at places ws → IsWrong Right other places ws at → Fault (AreRight Right places) ws at
-  first_wrong [] (x ∷ xs) some ws at right wrong = absurd some
-  first_wrong (p ∷ places) [] some ws at right wrong = absurd some
-  first_wrong [] [] some [] zero right wrong = absurd (omega (arith, wrong.end refl))
-  first_wrong [] [] some (w ∷ ws) zero right wrong = record {
-    place = IsPlace-first (AreRight Right []) (w ∷ ws) (λ within begins. begins.1);
+  -- a fault behind a right word
+  fault_behind : (p : P) (places : List P) (some : List (List ℕ)) → AreRight Right Behind places some → (w : List ℕ) → Right p w → (ws : List (List ℕ)) (at : ℕ) →
+      Fault (AreRight Right Behind places) ws at → Fault (AreRight Right Behind (p ∷ places)) (w ∷ ws) (at + 1)
+  fault_behind p places some are w right ws at fault = record {
+    place = IsPlace-behind (AreRight Right Behind places) (AreRight Right Behind (p ∷ places)) w ws at (λ list are. (right, are)) (λ list are. are.1) (some, are) fault.place;
+    none = λ are. fault.none are.1;
+  }
+
+  first_wrong : (places : List P) (some : List (List ℕ)) → AreRight Right Behind places some → (ws : List (List ℕ)) (at : ℕ) →
+      AreRightBelow Right other at places ws → at < length places → ¬ Right (nth other places at) (word_at ws at) → Fault (AreRight Right Behind places) ws at
+  first_wrong [] some are ws at right less wrong = absurd (omega (arith, less))
+  first_wrong (p ∷ places) [] are ws at right less wrong = absurd are
+  first_wrong (p ∷ places) (x ∷ xs) are [] zero right less wrong = record {
+    place = IsPlace-first (AreRight Right Behind (p ∷ places)) [] (λ within begins. absurd (omega arith));
     none = λ are. are;
   }
-  first_wrong [] [] some ws (suc at) right wrong = absurd (omega (arith, wrong.within))
-  first_wrong (p ∷ places) (x ∷ xs) some [] zero right wrong = record {
-    place = IsPlace-first (AreRight Right (p ∷ places)) [] (λ within begins. absurd (omega arith));
-    none = λ are. are;
+  first_wrong (p ∷ places) (x ∷ xs) are (w ∷ ws) zero right less wrong = record {
+    place = IsPlace-first (AreRight Right Behind (p ∷ places)) (w ∷ ws) (λ within begins. wrong begins.1.0);
+    none = λ are. wrong are.0;
   }
-  first_wrong (p ∷ places) (x ∷ xs) some (w ∷ ws) zero right wrong =
-      let bad : ¬ Right p w = wrong.word (omega arith) in
-      record {
-        place = IsPlace-first (AreRight Right (p ∷ places)) (w ∷ ws) (λ within begins. bad begins.1.0);
-        none = λ are. bad are.0;
-      }
-  first_wrong (p ∷ places) (x ∷ xs) some [] (suc at) right wrong = absurd (empty p (right 0 (omega arith)))
-  first_wrong (p ∷ places) (x ∷ xs) some (w ∷ ws) (suc at) right wrong =
-      let behind : Fault (AreRight Right places) ws at = first_wrong places xs some.1 ws at (λ k less. right (suc k) (omega arith)) (record {
-        within = omega (arith, wrong.within);
-        word = λ less. wrong.word (omega arith);
-        end = λ same. omega (arith, wrong.end (omega arith));
-      }) in
+  first_wrong (p ∷ places) (x ∷ xs) are [] (suc at) right less wrong = absurd (empty p (right 0 (omega arith)))
+  first_wrong (p ∷ places) (x ∷ xs) are (w ∷ ws) (suc at) right less wrong =
       let next : at + 1 ≡ suc at = omega arith in
-      record {
-        place = subst (IsPlace (AreRight Right (p ∷ places)) (w ∷ ws)) next
-            (IsPlace-behind (AreRight Right places) (AreRight Right (p ∷ places)) w ws at (λ list are. (right 0 (omega arith), are)) (λ list are. are.1) (xs, some.1) behind.place);
-        none = λ are. behind.none are.1;
-      }
+      subst (Fault (AreRight Right Behind (p ∷ places)) (w ∷ ws)) next (fault_behind p places xs are.1 w (right 0 (omega arith)) ws at
+      (first_wrong places xs are.1 ws at (λ k less. right (suc k) (omega arith)) (omega arith) wrong))
 
-  -- the lists of a grammar are those whose words are right at these places, and there is one
-  module _ (places : List P) (G : List (List ℕ) → Type 0) (to : (ws : List (List ℕ)) → G ws → AreRight Right places ws)
-      (from : (ws : List (List ℕ)) → AreRight Right places ws → G ws) (some : List (List ℕ)) (are : AreRight Right places some) where
+  wrong_behind : (places : List P) (some : List (List ℕ)) → AreRight Right Behind places some → (ws : List (List ℕ)) (at : ℕ) →
+      AreRightBelow Right other (length places) places ws → Fault Behind (drop (length places) ws) at → Fault (AreRight Right Behind places) ws (at + length places)
+  wrong_behind [] some are ws at right fault = let none : at ≡ at + 0 = omega arith in subst (Fault Behind ws) none fault
+  wrong_behind (p ∷ places) [] are ws at right fault = absurd are
+  wrong_behind (p ∷ places) (x ∷ xs) are [] at right fault = absurd (empty p (right 0 (omega arith)))
+  wrong_behind (p ∷ places) (x ∷ xs) are (w ∷ ws) at right fault =
+      let next : at + length places + 1 ≡ at + length (p ∷ places) = omega arith in
+      subst (Fault (AreRight Right Behind (p ∷ places)) (w ∷ ws)) next (fault_behind p places xs are.1 w (right 0 (omega arith)) ws (at + length places)
+      (wrong_behind places xs are.1 ws at (λ k less. right (suc k) (omega arith)) fault))
+
+  -- The lists of a grammar are those whose words are right at these places, and behind them those of the other, and there is one.
+  module _ (places : List P) (G : List (List ℕ) → Type 0) (to : (ws : List (List ℕ)) → G ws → AreRight Right Behind places ws)
+      (from : (ws : List (List ℕ)) → AreRight Right Behind places ws → G ws) (some : List (List ℕ)) (are : AreRight Right Behind places some) where
+    same : (ws : List (List ℕ)) (at : ℕ) → Fault (AreRight Right Behind places) ws at → Fault G ws at
+    same ws at fault = record {
+      place = IsPlace-same (AreRight Right Behind places) G ws at from to fault.place;
+      none = λ in_grammar. fault.none (to ws in_grammar);
+    }
+
     -- some list begins with no words
     pub goes_on : (ws : List (List ℕ)) → SomeListBegins G ws 0
     goes_on ws = (some, from some are)
 
     -- the words are right
-    pub right_words : (ws : List (List ℕ)) → AreRightBelow Right other (length places) places ws → length ws ≤ length places → G ws
-    right_words ws right few = from ws (all_right places ws right few)
+    pub right_words : (ws : List (List ℕ)) → AreRightBelow Right other (length places) places ws → Behind (drop (length places) ws) → G ws
+    right_words ws right behind = from ws (all_right places ws right behind)
 
-    -- the first word that is wrong or missing
-    pub wrong_word : (ws : List (List ℕ)) (at : ℕ) → AreRightBelow Right other at places ws → IsWrong Right other places ws at → Fault G ws at
-    wrong_word ws at right wrong =
-        let fault = first_wrong places some are ws at right wrong in
-        record {
-          place = IsPlace-same (AreRight Right places) G ws at from to fault.place;
-          none = λ in_grammar. fault.none (to ws in_grammar);
-        }
+    -- the word at a place is the first that is wrong or missing
+    pub wrong_word : (ws : List (List ℕ)) (at : ℕ) → AreRightBelow Right other at places ws → at < length places → ¬ Right (nth other places at) (word_at ws at) → Fault G ws at
+    wrong_word ws at right less wrong = same ws at (first_wrong places some are ws at right less wrong)
+
+    -- the first that is wrong or missing stands behind the places
+    pub wrong_end : (ws : List (List ℕ)) (at : ℕ) → AreRightBelow Right other (length places) places ws → Fault Behind (drop (length places) ws) at → Fault G ws (at + length places)
+    wrong_end ws at right fault = same ws (at + length places) (wrong_behind places some are ws at right fault)
 
 -- ---- the places themselves
 

@@ -1,6 +1,5 @@
--- The places of the words behind the command `convert`, counted from 0, and of the end behind them; and which words are
--- right there.
-use Rattle.std.specs.Prelude.{ℕ, Bool, false, List}
+-- The places of the words behind the command `convert`, counted from 0, and which words are right there.
+use Rattle.std.specs.Prelude.{ℕ, Bool, List}
 use Rattle.std.specs.Option.{is_some}
 use Rattle.idx_text.specs.Number.{number_of}
 use Rattle.idx_words.specs.declared.convert_word.ConvertWord.{ConvertWord}
@@ -19,9 +18,8 @@ place_of words.PerFile = 6
 place_of words.Template = 7
 place_of words.Time = 8
 place_of words.Step = 9
-place_of words.End = 10
 
--- the word is right at this place; none is at the end
+-- the word is right at this place
 abbrev pub is_right_at : ConvertWord → List ℕ → Bool
 is_right_at words.Dataset word = is_path word
 is_right_at words.Raw word = is_path word
@@ -33,4 +31,3 @@ is_right_at words.PerFile word = is_text word
 is_right_at words.Template word = is_text word
 is_right_at words.Time word = is_text word
 is_right_at words.Step word = is_some (number_of word)
-is_right_at words.End word = false

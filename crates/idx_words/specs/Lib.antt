@@ -1,5 +1,7 @@
 pub mod PathWord
 pub mod WordAt
+pub mod Options
+pub mod Settings
 pub mod CutWord
 pub mod CutGrammar
 pub mod CutSteps
@@ -9,6 +11,8 @@ pub mod ConvertWord
 pub mod QueryValue
 pub mod QueryGrammar
 pub mod QueryWord
+pub mod ServeValue
+pub mod ServeGrammar
 pub mod Built
 pub mod Place
 pub mod Words

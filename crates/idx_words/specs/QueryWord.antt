@@ -1,5 +1,4 @@
--- The places of the words behind the command `query`, counted from 0, and of the end behind them; and which words are right
--- there.
+-- The places of the words behind the command `query`, counted from 0, and which words are right there.
 use Rattle.std.specs.Prelude.{ℕ, List, IsTrue}
 use Rattle.std.specs.Option.{is_some}
 use Rattle.idx_text.specs.Number.{number_of}
@@ -16,9 +15,8 @@ place_of words.Field = 2
 place_of words.Region = 3
 place_of words.Lo = 4
 place_of words.Hi = 5
-place_of words.End = 6
 
--- the word is right at this place; none is at the end
+-- the word is right at this place
 abbrev pub IsRightAt : QueryWord → List ℕ → Type 0
 IsRightAt words.Dataset word = IsTrue (is_path word)
 IsRightAt words.Time word = IsTrue (is_some (number_of word))
@@ -26,4 +24,3 @@ IsRightAt words.Field word = IsTrue (is_path word)
 IsRightAt words.Region word = (region : List (ℕ × ℕ)) × SpellsRegion word region
 IsRightAt words.Lo word = (level : ℕ) × SpellsLevel word level
 IsRightAt words.Hi word = (level : ℕ) × SpellsLevel word level
-IsRightAt words.End word = ⊥

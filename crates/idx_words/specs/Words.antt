@@ -1,5 +1,5 @@
 -- What a list of words stands for: a command with its values.
-use Rattle.std.specs.Prelude.{◌≡◌, ℕ, List, [], ◌∷◌, IsTrue, codes}
+use Rattle.std.specs.Prelude.{◌≡◌, ℕ, ◌≤◌, List, [], ◌∷◌, IsTrue, codes}
 use Rattle.idx_words.specs.declared.command.Command.{Command}
 use Rattle.idx_words.specs.declared.command.Command.TheVariants.{Cut, Info, Convert, Query}
 use Rattle.idx_words.specs.PathWord.{is_path}
@@ -48,8 +48,8 @@ GiveQuery words = (c : QueryValue) × Give words (Query c)
 abbrev pub IsSoundCommand : Command → Type 0
 IsSoundCommand (Cut c) = IsSound c
 IsSoundCommand Info = Unit {0}
-IsSoundCommand (Convert c) = Unit {0}
-IsSoundCommand (Query c) = Unit {0}
+IsSoundCommand (Convert c) = (1 ≤ c.ranks) × (c.ranks ≤ 256)
+IsSoundCommand (Query c) = (1 ≤ c.cache) × (c.cache ≤ 65536)
 
 -- which command it is
 abbrev pub IsCut : Command → Type 0

@@ -14,4 +14,5 @@ small_words =
       template = codes "./%01x.bin";
       time = codes "0 9 time%04d/";
       step = 0;
+      ranks = 1;
     }

@@ -1,18 +1,23 @@
-ghost use Rattle.std.specs.Prelude.{◌≡◌, ◌≢◌, ◌↔◌, map, IfErr, IfNone, IfSome, IfOk, Ok, string_bytes};
+ghost use Rattle.std.specs.Prelude.{◌≡◌, ◌≢◌, ◌↔◌, drop, map, IfErr, IfOk, Ok, OnErr, OnOk, string_bytes};
 ghost use Rattle.idx_words.specs.declared.command.Command.{Command};
 ghost use Rattle.idx_words.specs.declared.cut_words.CutWords.{CutWords};
 ghost use Rattle.idx_words.specs.ConvertGrammar.{AreConvertWords};
 ghost use Rattle.idx_words.specs.ConvertValue.{ConvertValue};
-ghost use Rattle.idx_words.specs.ConvertWord.{place_of};
-ghost use Rattle.idx_words.specs.Place.{IsPlace, IsPlaceBehind};
+ghost use Rattle.idx_words.specs.Options.{given};
+ghost use Rattle.idx_words.specs.Place.{IsPlaceBehind};
 ghost use Rattle.idx_words.specs.QueryValue.{QueryValue};
+ghost use Rattle.idx_words.specs.Settings.{AreWithin};
+ghost use Rattle.idx_words.specs.declared.setting.Setting.{Setting};
 ghost use Rattle.idx_words.specs.Words.{AreSomeConvertWords, IsSoundCommand};
 
 use crate::command::Command;
 use crate::convert_word::ConvertWord;
 use crate::convert_words::ConvertWords;
-use crate::given::word_at;
+use crate::given::{word_at, words_from};
 use crate::misread::Misread;
+use crate::options::read_options;
+use crate::setting::Setting;
+use crate::settings::Settings;
 use idx_text::read_number;
 
 /// The words behind the command.
@@ -29,6 +34,13 @@ const ORDER: [ConvertWord; 10] = [
     ConvertWord::Step,
 ];
 
+/// The options behind them.
+const OPTIONS: [Setting; 1] = [Setting::Ranks];
+
+/// What is expected where no option stands that may stand there.
+const END: &str = "--ranks, at most once, or the end of the words: \
+     convert DATASET RAW BOX FIELDS MASK BITS PERFILE TEMPLATE TIME STEP [--ranks RANKS]";
+
 /// The command `convert` with the values of the words behind it. The place of a word that is wrong or missing counts
 /// the command too.
 pub fn convert_command(words: &[String]) -> Result<Command<'_>, Misread>
@@ -41,47 +53,41 @@ pub fn convert_command(words: &[String]) -> Result<Command<'_>, Misread>
     ensures place { IfErr result (λ misread.
         IsPlaceBehind AreSomeConvertWords (map string_bytes words.now) misread.at) }
 {
-    match read_convert(words) {
-        Ok(convert) => Ok(Command::Convert(convert)),
-        Err(word) => Err(Misread {
-            at: word.place() as u64 + 1,
-            expected: word.expected(),
-        }),
-    }
+    let settings = check_words(words)?;
+    Ok(Command::Convert(values(words, &settings)))
 }
 
-/// The values that the words behind the command stand for. Where they are no words of `convert`, the first that is
-/// wrong or missing.
-fn read_convert(words: &[String]) -> Result<ConvertWords<'_>, ConvertWord>
-    ensures read { (c : ConvertValue) → (result ≡ Ok c) ↔ AreConvertWords (map string_bytes words.now) c }
-    ensures place { IfErr result (λ word. IsPlace AreSomeConvertWords (map string_bytes words.now) (place_of word)) }
-{
-    match first_fault(words) {
-        Some(word) => Err(word),
-        None => Ok(values(words)),
-    }
-}
-
-/// The first word that is wrong or missing, or the end where words stand behind it.
-fn first_fault(words: &[String]) -> Option<ConvertWord>
-    ensures right { IfNone result (AreSomeConvertWords (map string_bytes words.now)) }
-    ensures wrong { IfSome result (λ _. ¬ AreSomeConvertWords (map string_bytes words.now)) }
-    ensures place { IfSome result (λ word. IsPlace AreSomeConvertWords (map string_bytes words.now) (place_of word)) }
+/// The values of the options where the words behind the command are right. Otherwise the first that is wrong or
+/// missing, whose place counts the command too.
+fn check_words(words: &[String]) -> Result<Settings, Misread>
+    ensures right { OnOk result (AreSomeConvertWords (map string_bytes words.now)) }
+    ensures ranks { IfOk result (λ settings.
+        settings.ranks ≡ given (drop 10 (map string_bytes words.now)) Setting.Ranks) }
+    ensures within { IfOk result AreWithin }
+    ensures wrong { OnErr result (¬ AreSomeConvertWords (map string_bytes words.now)) }
+    ensures place { IfErr result (λ misread.
+        IsPlaceBehind AreSomeConvertWords (map string_bytes words.now) misread.at) }
 {
     for word in ORDER {
-        if !word.accepts(word_at(words, word.place())) {
-            return Some(word);
+        let place = word.place();
+        if !word.accepts(word_at(words, place)) {
+            return Err(Misread {
+                at: place as u64 + 1,
+                expected: word.expected(),
+            });
         }
     }
-    if words.len() > ORDER.len() {
-        return Some(ConvertWord::End);
+    match read_options(&OPTIONS, words_from(words, ORDER.len()), END) {
+        Ok(settings) => Ok(settings),
+        Err(misread) => Err(misread.behind(ORDER.len() as u64 + 1)),
     }
-    None
 }
 
 /// The values that right words stand for.
-fn values(words: &[String]) -> ConvertWords<'_>
-    requires { AreSomeConvertWords (map string_bytes words.now) }
+fn values<'w>(words: &'w [String], settings: &Settings) -> ConvertWords<'w>
+    requires right { AreSomeConvertWords (map string_bytes words.now) }
+    requires ranks { settings.now.ranks ≡ given (drop 10 (map string_bytes words.now)) Setting.Ranks }
+    requires within { AreWithin settings.now }
     ensures { (c : ConvertValue) → (result ≡ c) ↔ AreConvertWords (map string_bytes words.now) c }
 {
     ConvertWords {
@@ -93,5 +99,6 @@ fn values(words: &[String]) -> ConvertWords<'_>
         template: word_at(words, ConvertWord::Template.place()),
         time: word_at(words, ConvertWord::Time.place()),
         step: read_number(word_at(words, ConvertWord::Step.place())).unwrap_or(0),
+        ranks: settings.ranks(),
     }
 }

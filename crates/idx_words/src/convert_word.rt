@@ -5,7 +5,7 @@ use crate::path::is_path;
 use crate::text::is_text;
 use idx_text::read_number;
 
-/// The words behind the command `convert` in their order, and the end behind them.
+/// The words behind the command `convert` in their order.
 #[derive(Clone, Copy, Debug, PartialEq, Eq)]
 pub enum ConvertWord {
     Dataset,
@@ -18,7 +18,6 @@ pub enum ConvertWord {
     Template,
     Time,
     Step,
-    End,
 }
 
 impl ConvertWord {
@@ -29,14 +28,13 @@ impl ConvertWord {
         self as usize
     }
 
-    /// Whether a word is right at its place. None is at the end.
+    /// Whether a word is right at its place.
     pub fn accepts(self, word: &[u8]) -> bool
         ensures { result ≡ is_right_at self word.now }
     {
         match self {
             ConvertWord::Dataset | ConvertWord::Raw => is_path(word),
             ConvertWord::Step => read_number(word).is_some(),
-            ConvertWord::End => false,
             _ => is_text(word),
         }
     }
@@ -76,8 +74,6 @@ impl ConvertWord {
             }
             ConvertWord::Step =>
                 "STEP, the step that the raw volume becomes: a number of 1 to 19 digits",
-            ConvertWord::End =>
-                "the end of the words: convert DATASET RAW BOX FIELDS MASK BITS PERFILE TEMPLATE TIME STEP",
         }
     }
 }

@@ -1,6 +1,6 @@
 use std::marker::Model;
 
-/// The values that the words of `convert` stand for: the texts as they were given, and the step.
+/// The values that the words of `convert` stand for: the texts as they were given, the step, and the option.
 #[derive(Debug, Drop)]
 pub struct ConvertWords<'w> {
     /// BOX, the value of `(box)`.
@@ -19,6 +19,8 @@ pub struct ConvertWords<'w> {
     pub time: &'w [u8],
     /// The number of the step.
     pub step: u64,
+    /// How many ranks convert, 1 to 256.
+    pub ranks: u32,
 }
 
 impl<'w> Model for ConvertWords<'w> {
@@ -35,5 +37,6 @@ impl<'w> Model for ConvertWords<'w> {
       template = c.template.now;
       time = c.time.now;
       step = c.step;
+      ranks = c.ranks;
     } };
 }

@@ -1,7 +1,9 @@
 //! Worked values of the definitions.
-ghost use Rattle.std.specs.Prelude.{◌≡◌, ◌++◌, ◌∷◌, codes};
+ghost use Rattle.std.specs.Prelude.{◌≡◌, [], ◌∷◌, Some, true, false, codes};
 ghost use Rattle.idx_header.specs.Worked.{small_text, with_line_at};
 ghost use Rattle.idx_words.specs.Built.{built_with};
+ghost use Rattle.idx_words.specs.declared.setting.Setting.{Setting};
+ghost use Rattle.idx_words.specs.Options.{are_options, cache_of, given, query_options, serve_options};
 ghost use Rattle.idx_words.specs.Worked.{small_words};
 
 /// The header text of a small dataset is that of the small header which is known to be read.
@@ -9,4 +11,19 @@ ghost use Rattle.idx_words.specs.Worked.{small_words};
 pub fn worked_words()
     ensures given { built_with small_words (codes "V0101") ≡ small_text }
     ensures none { built_with small_words (codes "V") ≡ with_line_at 7 (codes "V") }
+{}
+
+/// Options have leading zeros and limits, and stand in any order, each at most once.
+#[tactic(auto, unfolding(idx_text::specs::Number::number_of))]
+pub fn worked_options()
+    ensures zeros { cache_of (codes "--cache" ∷ codes "064" ∷ []) ≡ 64 }
+    ensures most { are_options query_options (codes "--cache" ∷ codes "65536" ∷ []) ≡ true }
+    ensures more { are_options query_options (codes "--cache" ∷ codes "65537" ∷ []) ≡ false }
+    ensures order { are_options serve_options
+        (codes "--links" ∷ codes "1" ∷ codes "--cache" ∷ codes "2" ∷ []) ≡ true }
+    ensures second { given (codes "--links" ∷ codes "1" ∷ codes "--cache" ∷ codes "2" ∷ []) Setting.Cache ≡ Some 2 }
+    ensures twice { are_options serve_options
+        (codes "--links" ∷ codes "1" ∷ codes "--links" ∷ codes "1" ∷ []) ≡ false }
+    ensures other { are_options query_options (codes "--workers" ∷ codes "2" ∷ []) ≡ false }
+    ensures missing { are_options query_options (codes "--cache" ∷ []) ≡ false }
 {}

@@ -1,4 +1,4 @@
-ghost use Rattle.std.specs.Prelude.{◌≡◌, [], map, string_bytes};
+ghost use Rattle.std.specs.Prelude.{◌≡◌, [], drop, map, string_bytes};
 ghost use Rattle.std.specs.List.{slice_index_or};
 ghost use Rattle.idx_words.specs.WordAt.{word_at};
 
@@ -8,6 +8,16 @@ pub(crate) fn word_at(words: &[String], place: usize) -> &[u8]
 {
     match words.get(place) {
         Some(word) => word.as_bytes(),
+        None => &[],
+    }
+}
+
+/// The words from a place on, counted from 0; none where there are not so many.
+pub(crate) fn words_from(words: &[String], place: usize) -> &[String]
+    ensures { result.now ≡ drop place words.now }
+{
+    match words.get(place..) {
+        Some(behind) => behind,
         None => &[],
     }
 }

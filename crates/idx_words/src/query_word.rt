@@ -5,7 +5,7 @@ use crate::level::read_level;
 use crate::path::is_path;
 use idx_text::{read_box, read_number};
 
-/// The words behind the command `query` in their order, and the end behind them.
+/// The words behind the command `query` in their order.
 #[derive(Clone, Copy, Debug, PartialEq, Eq)]
 pub enum QueryWord {
     Dataset,
@@ -14,7 +14,6 @@ pub enum QueryWord {
     Region,
     Lo,
     Hi,
-    End,
 }
 
 impl QueryWord {
@@ -25,7 +24,7 @@ impl QueryWord {
         self as usize
     }
 
-    /// Whether a word is right at its place. None is at the end.
+    /// Whether a word is right at its place.
     pub fn accepts(self, word: &[u8]) -> bool
         ensures { IsTrue result ↔ IsRightAt self word.now }
     {
@@ -34,7 +33,6 @@ impl QueryWord {
             QueryWord::Time => read_number(word).is_some(),
             QueryWord::Region => read_box(word).is_some(),
             QueryWord::Lo | QueryWord::Hi => read_level(word).is_some(),
-            QueryWord::End => false,
         }
     }
 
@@ -52,7 +50,6 @@ impl QueryWord {
             }
             QueryWord::Lo => "LO, the coarsest level: a number up to 4294967295",
             QueryWord::Hi => "HI, the finest level: a number up to 4294967295",
-            QueryWord::End => "the end of the words: query DATASET TIME FIELD REGION LO HI",
         }
     }
 }

@@ -14,6 +14,8 @@ pub struct QueryWords<'w> {
     pub lo: u32,
     /// HI, the finest level that is asked for.
     pub hi: u32,
+    /// How many blocks the cache keeps at most, 1 to 65,536.
+    pub cache: u32,
 }
 
 impl<'w> Model for QueryWords<'w> {
@@ -27,5 +29,6 @@ impl<'w> Model for QueryWords<'w> {
       region = c.region;
       lo = c.lo;
       hi = c.hi;
+      cache = c.cache;
     } };
 }

@@ -32,6 +32,7 @@ idxtool: samples, headers and files of ViSUS IDX data, with proved answers
       DATASET  the header file, as run.idx
 
   idxtool convert DATASET RAW BOX FIELDS MASK BITS PERFILE TEMPLATE TIME STEP
+                  [--ranks RANKS]
       writes a step of a dataset out of a raw volume: the files of the step, all
       at once, and the header where none stands. A header that stands has to
       agree, and the step must not stand yet. Nothing else is changed
@@ -50,8 +51,9 @@ idxtool: samples, headers and files of ViSUS IDX data, with proved answers
       TIME      the first and the last step and the name of a step's folder, as
                 \"0 99 time%04d/\": %0Nd is the step in N decimal digits
       STEP      the step that is written
+      RANKS     1 to 256, else 1; it has no effect yet
 
-  idxtool query DATASET TIME FIELD REGION LO HI
+  idxtool query DATASET TIME FIELD REGION LO HI [--cache BLOCKS]
       writes to standard output the samples of a field of a step at the points
       of a region whose level is LO to HI, in row-major order, axis 0 fastest.
       It reads the tables of the step's files, and the blocks that hold a sample
@@ -65,6 +67,8 @@ idxtool: samples, headers and files of ViSUS IDX data, with proved answers
       LO HI    the coarsest and the finest level: 0 and a small HI for a coarse
                version, 0 and the dataset's levels for every sample, HI + 1 and
                a finer level for what a coarse version lacks
+      BLOCKS   how many blocks the cache keeps, 1 to 65536, else 64; no more
+               than have 2^31 bytes in all
 
   idxtool --help
   idxtool --version

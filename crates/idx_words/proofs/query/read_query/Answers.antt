@@ -7,10 +7,10 @@ use Rattle.idx_words.specs.QueryValue.{QueryValue}
 use Rattle.idx_words.proofs.QueryLemmas.{six_words, query_found, query_refused}
 use Rattle.idx_words.proofs.query.read_query.Goals as goal
 
-pub returns-in_err-read_box : goal.returns-in_err-read_box
-returns-in_err-read_box c =
+pub returns-in_err-read_box-clause-values : goal.returns-in_err-read_box-clause-values
+returns-in_err-read_box-clause-values c =
     let ws : List (List ℕ) = map string_bytes c.args.words.now in
-    let six = six_words string_bytes c.args.words.now _ _ _ _ _ _ c.in-len6.len_at_least c.in-len6.len_below
+    let six = six_words string_bytes c.args.words.now _ _ _ _ _ _ c.in-len6-up.len_at_least
     c.dataset-item.is c.time-item.is c.field-item.is c.region-item.is c.lo-item.is c.hi-item.is in
     query_refused c.from_residual-in_err-read_box.result ws c.from_residual-in_err-read_box.ensures (λ value are.
     let spelled = subst (λ t. AreQueryWords t value) six are in
@@ -18,10 +18,10 @@ returns-in_err-read_box c =
     let none = c.in_err-read_box.was in
     cc)
 
-pub returns-in_err-read_level : goal.returns-in_err-read_level
-returns-in_err-read_level c =
+pub returns-in_err-read_level-clause-values : goal.returns-in_err-read_level-clause-values
+returns-in_err-read_level-clause-values c =
     let ws : List (List ℕ) = map string_bytes c.args.words.now in
-    let six = six_words string_bytes c.args.words.now _ _ _ _ _ _ c.in-len6.len_at_least c.in-len6.len_below
+    let six = six_words string_bytes c.args.words.now _ _ _ _ _ _ c.in-len6-up.len_at_least
     c.dataset-item.is c.time-item.is c.field-item.is c.region-item.is c.lo-item.is c.hi-item.is in
     query_refused c.from_residual-in_err-read_level.result ws c.from_residual-in_err-read_level.ensures (λ value are.
     let spelled = subst (λ t. AreQueryWords t value) six are in
@@ -29,10 +29,10 @@ returns-in_err-read_level c =
     let none = c.in_err-read_level.was in
     cc)
 
-pub returns-in_err-read_level-2 : goal.returns-in_err-read_level-2
-returns-in_err-read_level-2 c =
+pub returns-in_err-read_level-2-clause-values : goal.returns-in_err-read_level-2-clause-values
+returns-in_err-read_level-2-clause-values c =
     let ws : List (List ℕ) = map string_bytes c.args.words.now in
-    let six = six_words string_bytes c.args.words.now _ _ _ _ _ _ c.in-len6.len_at_least c.in-len6.len_below
+    let six = six_words string_bytes c.args.words.now _ _ _ _ _ _ c.in-len6-up.len_at_least
     c.dataset-item.is c.time-item.is c.field-item.is c.region-item.is c.lo-item.is c.hi-item.is in
     query_refused c.from_residual-in_err-read_level-2.result ws c.from_residual-in_err-read_level-2.ensures (λ value are.
     let spelled = subst (λ t. AreQueryWords t value) six are in
@@ -40,10 +40,21 @@ returns-in_err-read_level-2 c =
     let none = c.in_err-read_level-2.was in
     cc)
 
-pub returns : goal.returns
-returns c =
+pub returns-in_err-read_cache-clause-values : goal.returns-in_err-read_cache-clause-values
+returns-in_err-read_cache-clause-values c =
     let ws : List (List ℕ) = map string_bytes c.args.words.now in
-    let six = six_words string_bytes c.args.words.now _ _ _ _ _ _ c.in-len6.len_at_least c.in-len6.len_below
+    let six = six_words string_bytes c.args.words.now _ _ _ _ _ _ c.in-len6-up.len_at_least
+    c.dataset-item.is c.time-item.is c.field-item.is c.region-item.is c.lo-item.is c.hi-item.is in
+    query_refused c.from_residual-in_err-read_cache.result ws c.from_residual-in_err-read_cache.ensures (λ value are.
+    let spelled = subst (λ t. AreQueryWords t value) six are in
+    let found = (c.read_cache.ensures.value value.cache).1 spelled.1.cache_word in
+    let none = c.in_err-read_cache.was in
+    cc)
+
+pub returns-clause-values : goal.returns-clause-values
+returns-clause-values c =
+    let ws : List (List ℕ) = map string_bytes c.args.words.now in
+    let six = six_words string_bytes c.args.words.now _ _ _ _ _ _ c.in-len6-up.len_at_least
     c.dataset-item.is c.time-item.is c.field-item.is c.region-item.is c.lo-item.is c.hi-item.is in
     let value : QueryValue = record {
       time = c.in_ok-read_number.field-0;
@@ -51,6 +62,7 @@ returns c =
       region = c.in_ok-read_box.field-0;
       lo = c.in_ok-read_level.field-0;
       hi = c.in_ok-read_level-2.field-0;
+      cache = c.in_ok-read_cache.field-0;
     } in
     query_found ws value (subst (λ t. AreQueryWords t value) (sym six) (
       ap is_path (sym c.as_bytes.ensures.value) ∙ sym c.is_path.ensures ∙ c.if-not-is_path.false,
@@ -64,5 +76,6 @@ returns c =
         region_word = subst (λ w. SpellsRegion w c.in_ok-read_box.field-0) c.as_bytes-4.ensures.value ((c.read_box.ensures c.in_ok-read_box.field-0).0 c.in_ok-read_box.was);
         lo_word = subst (λ w. SpellsLevel w c.in_ok-read_level.field-0) c.as_bytes-5.ensures.value ((c.read_level.ensures c.in_ok-read_level.field-0).0 c.in_ok-read_level.was);
         hi_word = subst (λ w. SpellsLevel w c.in_ok-read_level-2.field-0) c.as_bytes-6.ensures.value ((c.read_level-2.ensures c.in_ok-read_level-2.field-0).0 c.in_ok-read_level-2.was);
+        cache_word = (c.read_cache.ensures.value c.in_ok-read_cache.field-0).0 c.in_ok-read_cache.was;
       },
     ))

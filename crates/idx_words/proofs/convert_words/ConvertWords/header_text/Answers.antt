@@ -19,6 +19,7 @@ returns c =
       template = kept.template.now;
       time = kept.time.now;
       step = kept.step;
+      ranks = kept.ranks;
     } in
     let text = c.write_entry-8.new.out in
     let written : text ≡ built_with words c.in_ok-bits.bits =
