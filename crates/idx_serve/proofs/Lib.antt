@@ -1,0 +1,4 @@
+pub mod FindLemmas
+pub mod AskLemmas
+pub mod TextLemmas
+pub mod DoorLemmas
