@@ -5,8 +5,8 @@ use crate::input::Input;
 use idx_outside::{Bytes, Link, Outage};
 use std::marker::Model;
 
-/// A link in memory, of which nothing is told and no call of which fails. It drops what is written. A contract sees what
-/// is still to come.
+/// A link in memory, of which nothing is told and no call of which fails. It drops what is written. A contract sees
+/// what is still to come.
 #[derive(Drop)]
 pub struct SureLink {
     input: Input,

@@ -1,7 +1,9 @@
+pub mod DoorState
 pub mod Faults
 pub mod FileState
 pub mod FolderState
 pub mod Front
+pub mod LinkState
 pub mod Placed
 pub mod ReaderState
 pub mod SinkState

@@ -32,6 +32,15 @@ pub enum Reason {
     /// A file was to be committed under another path than it was written for.
     #[error("a file was written for another path")]
     OtherPath,
+    /// A text is no socket address.
+    #[error("not a socket address, as 127.0.0.1:8080 or [::1]:8080")]
+    NotAddress,
+    /// The peer of a link sent nothing, or took nothing of what was written, for as long as it may.
+    #[error("the peer let the link wait for too long")]
+    Silent,
+    /// The peer of a link sent its bytes so slowly that no reply could be written in time.
+    #[error("the peer sent its bytes too slowly")]
+    TooSlow,
 }
 
 impl From<io::Error> for Reason {

@@ -1,5 +1,6 @@
 //! The real forms of what lies outside: a file as a source, a writer of std, as standard output, as a sink, and the
-//! folder of a header file as a bay, with the files that are written there and read again.
+//! folder of a header file as a bay, with the files that are written there and read again, and connections over TCP
+//! with the doors that they come by.
 #![tactic(auto)]
 
 mod fault;
@@ -11,10 +12,15 @@ mod file_source;
 mod folder_bay;
 mod header_file;
 mod lock;
+mod patience;
 mod placed;
 mod regular_file;
+mod shared_listener;
+mod sockets;
 mod std_sink;
 mod step_folder;
+mod tcp_door;
+mod tcp_link;
 
 pub use fault::{Fault, Reason};
 pub use file_draft::FileDraft;
@@ -23,5 +29,10 @@ pub use file_reader::FileReader;
 pub use file_source::FileSource;
 pub use folder_bay::{FolderBay, HEADER_READ};
 pub use lock::Lockable;
+pub use patience::Patience;
 pub use placed::read_range;
+pub use shared_listener::SharedListener;
+pub use sockets::Sockets;
 pub use std_sink::StdSink;
+pub use tcp_door::TcpDoor;
+pub use tcp_link::TcpLink;

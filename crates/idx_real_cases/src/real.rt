@@ -10,6 +10,7 @@ use std::{fs, io};
 mod files;
 mod headers;
 mod sinks;
+mod sockets;
 mod steps;
 mod watched;
 

@@ -1,0 +1,207 @@
+ghost use Rattle.std.specs.Prelude.{◌≡◌, ◌↔◌, ◌<◌, ◌≤◌, None, IsSome, IfOk, OnOk, OnErr, length};
+ghost use Rattle.std.specs.Io.KnownBytes.{Appends, ReadConsumes};
+ghost use Rattle.idx_outside.specs.Cause.{counted, NeverFalls, Rose};
+ghost use Rattle.idx_real.specs.Faults.{no_faults};
+
+use crate::fault_log::FaultLog;
+use crate::{Patience, Reason};
+use idx_outside::{Link, Outage};
+use std::io::{self, ErrorKind, Read, Write};
+use std::marker::Model;
+use std::net::{OpenStream, Shutdown};
+use std::time::{Clock, Duration, Instant};
+
+/// How many bytes are dropped at most of what a peer still sends at the end.
+const MOST_DROPPED: usize = 65_536;
+
+/// How often a read is made again at most that a signal interrupted.
+const MOST_INTERRUPTED: u32 = 1_000;
+
+/// A connection over TCP, of which nothing is known. Pieces are sent at once. A contract sees the stream and the
+/// faults.
+///
+/// Each is one fault: a peer that is gone, one that lets the link wait longer than its patience, and any other answer
+/// of the system to a read or a write but bytes and the end of the input.
+#[derive(Drop)]
+pub struct TcpLink<S: Read + Write + OpenStream + Drop, R: Clock + Drop> {
+    rt: R,
+    stream: S,
+    patience: Patience,
+    /// How long a read waits, as the system was told.
+    waits: Duration,
+    /// When the last piece was written, or the link began.
+    since: Instant,
+    /// Whether the input has ended.
+    ended: bool,
+    log: FaultLog,
+}
+
+impl<S: Read + Write + OpenStream + Drop, R: Clock + Drop> Model for TcpLink<S, R> {
+    ghost use Rattle.idx_real.specs.LinkState.{LinkState};
+
+    ghost Value = { LinkState S };
+
+    ghost view = { λ s. record { stream = s.stream; faults = s.log } };
+}
+
+impl<S: Read + Write + OpenStream + Drop, R: Clock + Drop> TcpLink<S, R> {
+    /// A connection that begins now.
+    pub(crate) fn begin(rt: R, stream: S, patience: Patience) -> io::Result<TcpLink<S, R>>
+        ensures { IfOk result (λ link. link ≡ record { stream = stream; faults = no_faults }) }
+    {
+        stream.set_nodelay(true)?;
+        stream.set_read_timeout(Some(patience.silence))?;
+        stream.set_write_timeout(Some(patience.silence))?;
+        let since = Instant::now(&rt)?;
+        Ok(TcpLink {
+            rt,
+            stream,
+            patience,
+            waits: patience.silence,
+            since,
+            ended: false,
+            log: FaultLog::new(),
+        })
+    }
+
+    /// Why the last fault came; `None` exactly where there was none.
+    pub fn last_fault(&self) -> Option<Reason>
+        ensures reason { result ≡ self.now.faults.last }
+        ensures some { IsSome result ↔ (0 < self.now.faults.count) }
+    {
+        self.log.last()
+    }
+
+    /// Ends the connection. Where its input has not ended and no fault was counted, the write side is shut first, and
+    /// what the peer still sends is read and dropped, up to a limit and for no longer than its time, so that the last
+    /// piece is not lost to a reset.
+    pub(crate) fn end(mut self) {
+        if self.ended || self.log.faults() > 0 || self.stream.shutdown(Shutdown::Write).is_err() {
+            return;
+        }
+        let mut piece = [0u8; 4096];
+        let mut left = MOST_DROPPED;
+        for _ in 0..MOST_DROPPED {
+            match self.read_in_time(&mut piece) {
+                Ok(count) if 0 < count && count < left => left -= count,
+                _ => return,
+            }
+        }
+    }
+
+    /// The time until the next piece has to be written.
+    fn time_left(&self) -> Result<Duration, Reason> {
+        let spent = self.since.elapsed(&self.rt)?;
+        match self.patience.turn.checked_sub(spent) {
+            Some(left) if !left.is_zero() => Ok(left),
+            _ => Err(Reason::TooSlow),
+        }
+    }
+
+    /// Lets a read wait so long and no longer.
+    fn wait_at_most(&mut self, time: Duration) -> Result<(), Reason>
+        ensures { self.new ≡ self.old }
+    {
+        if self.waits != time {
+            self.stream.set_read_timeout(Some(time))?;
+            self.waits = time;
+        }
+        Ok(())
+    }
+
+    /// Reads once, for no longer than the peer has time.
+    fn read_in_time(&mut self, into: &mut [u8]) -> Result<usize, Reason>
+        requires { 0 < length into.old }
+        ensures within { IfOk result (λ n. n ≤ length into.old) }
+        ensures read { ReadConsumes (S.remaining self.old.stream) (S.remaining self.new.stream) result into.new }
+        ensures faults { self.new.faults ≡ self.old.faults }
+    {
+        let left = self.time_left()?;
+        let silence = self.patience.silence;
+        self.wait_at_most(left.min(silence))?;
+        let late = if left < silence {
+            Reason::TooSlow
+        } else {
+            Reason::Silent
+        };
+        match read_once(&mut self.stream, into) {
+            Ok(count) => {
+                self.ended = count == 0;
+                Ok(count)
+            }
+            Err(error) => Err(reason_of(error, late)),
+        }
+    }
+
+    /// Writes the whole piece, and begins the time to the next.
+    fn write_whole(&mut self, piece: &[u8]) -> Result<(), Reason>
+        ensures taken { OnOk result (Appends (S.contents self.old.stream) (S.contents self.new.stream) piece.now) }
+        ensures faults { self.new.faults ≡ self.old.faults }
+    {
+        match self.stream.write_all(piece) {
+            Ok(()) => {
+                self.since = Instant::now(&self.rt)?;
+                Ok(())
+            }
+            Err(error) => Err(reason_of(error, Reason::Silent)),
+        }
+    }
+}
+
+impl<S: Read + Write + OpenStream + Drop, R: Clock + Drop> Link for TcpLink<S, R> {
+    ghost incoming = { λ _. None };
+
+    ghost written = { λ _. None };
+
+    ghost faults = { λ s. s.faults.count };
+
+    fn read(&mut self, into: &mut [u8]) -> Result<usize, Outage>
+        requires { 0 < length into.old }
+        ensures within { IfOk result (λ n. n ≤ length into.old) }
+        ensures read { ReadConsumes (S.remaining self.old.stream) (S.remaining self.new.stream) result into.new }
+        ensures quiet { OnOk result (self.new.faults ≡ self.old.faults) }
+        ensures err { OnErr result (self.new.faults.count ≡ counted self.old.faults.count) }
+        ensures count { NeverFalls self.old.faults.count self.new.faults.count }
+        ensures cause { OnErr result (Rose self.old.faults.count self.new.faults.count) }
+    {
+        let found = self.read_in_time(into);
+        self.log.answer(found)
+    }
+
+    fn write(&mut self, piece: &[u8]) -> Result<(), Outage>
+        ensures taken { OnOk result (Appends (S.contents self.old.stream) (S.contents self.new.stream) piece.now) }
+        ensures quiet { OnOk result (self.new.faults ≡ self.old.faults) }
+        ensures err { OnErr result (self.new.faults.count ≡ counted self.old.faults.count) }
+        ensures count { NeverFalls self.old.faults.count self.new.faults.count }
+        ensures cause { OnErr result (Rose self.old.faults.count self.new.faults.count) }
+    {
+        let taken = self.write_whole(piece);
+        self.log.answer(taken)
+    }
+
+    fn faults(&self) -> u64 {
+        self.log.faults()
+    }
+}
+
+/// Reads once, and again where a signal interrupted the call.
+fn read_once<S: Read>(stream: &mut S, into: &mut [u8]) -> io::Result<usize>
+    ensures within { IfOk result (λ n. n ≤ length into.old) }
+    ensures read { ReadConsumes (S.remaining stream.old) (S.remaining stream.new) result into.new }
+{
+    for again in 0..MOST_INTERRUPTED {
+        match stream.read(into) {
+            Err(error) if error.kind() == ErrorKind::Interrupted => {}
+            ended => return ended,
+        }
+    }
+    Err(io::Error::from(ErrorKind::Interrupted))
+}
+
+/// Why a call failed, where it is late for this reason once its time is over.
+fn reason_of(error: io::Error, late: Reason) -> Reason {
+    match error.kind() {
+        ErrorKind::WouldBlock | ErrorKind::TimedOut => late,
+        _ => Reason::System(error),
+    }
+}

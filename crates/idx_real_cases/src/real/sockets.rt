@@ -1,0 +1,203 @@
+//! Doors and their links over the loopback. The backlog takes a connection before it is accepted, so one thread is both
+//! peers.
+use super::*;
+use idx_outside::{Door, Link};
+use std::io::{Read, Write};
+use std::net::{Net, Shutdown, SocketAddr, TcpStream};
+use std::sync::atomic::{AtomicU64, Ordering};
+use std::sync::{Arc, Wait};
+use std::time::{Clock, Duration};
+
+mod patience;
+
+fn is_sent<T: Send>(_: &T) {}
+
+/// A listener that is not open yet.
+fn listener(alloc: Global, address: &str) -> Result<Arc<SharedListener, Global>, Fail> {
+    let address = String::from_str(alloc, address)?;
+    Ok(Arc::new(alloc, SharedListener::new(address))?)
+}
+
+/// A peer that waits for no longer than five seconds.
+fn peer_of<R: Sockets>(rt: &R, address: SocketAddr) -> Result<TcpStream, Fail> {
+    let peer = TcpStream::connect(rt, address)?;
+    peer.set_read_timeout(Some(Duration::from_secs(5)))?;
+    Ok(peer)
+}
+
+/// A door of so many links at a free port, and a peer that waits there.
+fn door_and_peer<R: Sockets>(
+    rt: &R,
+    alloc: Global,
+    links: Option<u64>,
+    patience: Patience,
+) -> Result<(TcpDoor<R>, TcpStream), Fail> {
+    let shared = listener(alloc, "127.0.0.1:0")?;
+    let peer = peer_of(rt, shared.bind(rt)?)?;
+    Ok((TcpDoor::new(*rt, shared, links, patience), peer))
+}
+
+fn next_link<D: Door>(door: &mut D) -> Result<D::Link, Fail>
+where
+    D::Link: Drop,
+{
+    match door.accept() {
+        Ok(Some(link)) => Ok(link),
+        Ok(None) => Err(Fail::from("no link is to come")),
+        Err(outage) => Err(Fail::from(outage)),
+    }
+}
+
+/// Whether a door has no further link.
+fn gave_all<D: Door>(door: &mut D) -> bool
+where
+    D::Link: Drop,
+{
+    matches!(door.accept(), Ok(None))
+}
+
+/// What a server has, but for a shorter silence.
+fn hasty() -> Patience {
+    Patience {
+        silence: Duration::from_millis(100),
+        turn: Duration::from_secs(60),
+    }
+}
+
+/// Writes a piece, and tells whether it was taken.
+fn gives<L: Link>(link: &mut L, piece: &[u8]) -> bool {
+    link.write(piece).is_ok()
+}
+
+/// Reads once, and tells how many bytes came; none where that failed.
+fn takes<L: Link>(link: &mut L) -> Option<usize> {
+    let mut into = [0u8; 8];
+    link.read(&mut into).ok()
+}
+
+/// What a stream has up to its end.
+fn rest_of(alloc: Global, stream: &mut TcpStream) -> Result<Vec<u8>, Fail> {
+    let mut rest = Vec::new(alloc);
+    let _count = stream.read_to_end(&mut rest)?;
+    Ok(rest)
+}
+
+/// Why a link failed last, or nothing.
+fn why<R: Clock + Drop>(alloc: Global, link: &TcpLink<TcpStream, R>) -> Result<String, Fail> {
+    match link.last_fault() {
+        Some(reason) => Ok(format!(in alloc; "{reason}")?),
+        None => Ok(String::new(alloc)),
+    }
+}
+
+#[test]
+fn bytes_go_both_ways(rt: HostRuntime) -> Result<(), Fail> {
+    let (mut door, mut peer) = door_and_peer(&rt, rt.alloc(), Some(1), Patience::of_a_server())?;
+    let mut link = next_link(&mut door)?;
+    peer.write_all(b"ask")?;
+    assert_eq!(rt; takes(&mut link), Some(3));
+    assert!(rt; gives(&mut link, b"answer"));
+    peer.shutdown(Shutdown::Write)?;
+    assert_eq!(rt; takes(&mut link), Some(0));
+    door.finish(link, Vec::new(rt.alloc()));
+    assert_eq!(rt;
+        rest_of(rt.alloc(), &mut peer)?.as_slice(),
+        b"answer".as_slice()
+    );
+    assert!(rt; gave_all(&mut door));
+    assert_eq!(rt; door.faults(), 0);
+    is_sent(&door);
+    Ok(())
+}
+
+#[test]
+fn a_last_piece_reaches_a_peer_that_still_sends(rt: HostRuntime) -> Result<(), Fail> {
+    let (mut door, mut peer) = door_and_peer(&rt, rt.alloc(), None, hasty())?;
+    let mut link = next_link(&mut door)?;
+    peer.write_all(&[7; 20_000])?;
+    assert_eq!(rt; takes(&mut link), Some(8));
+    assert!(rt; gives(&mut link, b"last"));
+    door.finish(link, Vec::new(rt.alloc()));
+    assert_eq!(rt;
+        rest_of(rt.alloc(), &mut peer)?.as_slice(),
+        b"last".as_slice()
+    );
+    Ok(())
+}
+
+#[test]
+fn doors_share_a_listener(rt: HostRuntime) -> Result<(), Fail> {
+    let shared = listener(rt.alloc(), "127.0.0.1:0")?;
+    let address = shared.bind(&rt)?;
+    let mut first = TcpDoor::new(rt, Arc::try_clone(&shared)?, None, hasty());
+    let mut second = TcpDoor::new(rt, shared, None, hasty());
+    let (mut one, mut other) = (peer_of(&rt, address)?, peer_of(&rt, address)?);
+    one.write_all(b"one")?;
+    other.write_all(b"other")?;
+    assert_eq!(rt; takes(&mut next_link(&mut first)?), Some(3));
+    assert_eq!(rt; takes(&mut next_link(&mut second)?), Some(5));
+    Ok(())
+}
+
+/// The fault of a door's first `accept`.
+fn refused<R: Sockets>(rt: &R, alloc: Global, address: &str) -> Result<String, Fail> {
+    let shared = listener(alloc, address)?;
+    let mut door = TcpDoor::new(*rt, shared, None, hasty());
+    if door.accept().is_ok() || door.faults() != 1 {
+        return Ok(String::new(alloc));
+    }
+    text(alloc, door.last_fault())
+}
+
+#[test]
+fn what_cannot_be_listened_at_is_told(rt: HostRuntime) -> Result<(), Fail> {
+    let alloc = rt.alloc();
+    let (_door, peer) = door_and_peer(&rt, alloc, None, hasty())?;
+    let taken = format!(in alloc; "{}", peer.peer_addr()?)?;
+    for (address, reason) in [
+        (taken.as_str(), "Address already in use (os error 98)"),
+        (
+            "192.0.2.1:0",
+            "Cannot assign requested address (os error 99)",
+        ),
+        (
+            "localhost:80",
+            "not a socket address, as 127.0.0.1:8080 or [::1]:8080",
+        ),
+        (
+            "127.0.0.1",
+            "not a socket address, as 127.0.0.1:8080 or [::1]:8080",
+        ),
+    ] {
+        assert_eq!(rt;
+            refused(&rt, alloc, address)?,
+            format!(in alloc; "{address}: {reason}")?
+        );
+    }
+    Ok(())
+}
+
+/// Writes again and again, until a write fails.
+fn gives_until_refused<L: Link>(link: &mut L) -> bool {
+    for _ in 0..100 {
+        if !gives(link, b"piece") {
+            return true;
+        }
+    }
+    false
+}
+
+#[test]
+fn a_peer_that_is_gone_is_a_fault(rt: HostRuntime) -> Result<(), Fail> {
+    let (mut door, peer) = door_and_peer(&rt, rt.alloc(), None, hasty())?;
+    let mut link = next_link(&mut door)?;
+    drop(peer);
+    assert!(rt; gives_until_refused(&mut link));
+    assert_eq!(rt; link.faults(), 1);
+    let gone = [
+        "Broken pipe (os error 32)",
+        "Connection reset by peer (os error 104)",
+    ];
+    assert!(rt; gone.contains(&why(rt.alloc(), &link)?.as_str()));
+    Ok(())
+}
