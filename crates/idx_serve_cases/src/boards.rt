@@ -1,0 +1,143 @@
+//! Halls of the steps that stand.
+use crate::dataset::{
+    BASE, FIRST_OF_0, FIRST_OF_9, SECOND_OF_9, STEP, STEPS, Stored, UNTIMED, bay_of, header_of,
+    reader_of,
+};
+use idx_board::hall_of;
+use idx_edition::LoadFault;
+use idx_table::TableKind;
+use std::alloc::Global;
+use std::process::Abort;
+use std::test::Fail;
+
+/// A dataset whose steps are published: its header and files; the call of the bay and the read that fail, or 0; how
+/// many steps stand, or why not; and how many reads are tried.
+#[derive(Clone, Copy)]
+struct Case {
+    text: &'static [u8],
+    files: &'static [Stored],
+    fails: (u64, u64),
+    answer: Result<u64, LoadFault>,
+    reads: u64,
+}
+
+/// The steps 0 and 9.
+const BOTH: Case = Case {
+    text: BASE,
+    files: STEPS,
+    fails: (0, 0),
+    answer: Ok(2),
+    reads: 4,
+};
+
+/// Whether a case comes out as it is to.
+fn comes_out(alloc: Global, rt: &impl Abort, case: &Case) -> Result<bool, Fail> {
+    let header = header_of(alloc, rt, case.text);
+    let mut bay = bay_of(alloc, case.files, &[case.fails.0])?;
+    let mut reader = reader_of(alloc, &[case.fails.1])?;
+    let answer = match hall_of(alloc, &header, 4, &mut bay, &mut reader) {
+        Ok(hall) => Ok(hall.board_len()),
+        Err(fault) => Err(fault),
+    };
+    Ok(answer == case.answer && reader.reads() == case.reads)
+}
+
+/// The place of the first case that does not come out as it is to, if there is one.
+fn first_other(alloc: Global, rt: &impl Abort, cases: &[Case]) -> Result<Option<usize>, Fail> {
+    for (place, case) in cases.iter().enumerate() {
+        if !comes_out(alloc, rt, case)? {
+            return Ok(Some(place));
+        }
+    }
+    Ok(None)
+}
+
+static STANDING: [Case; 5] = [
+    BOTH,
+    Case {
+        files: STEP,
+        answer: Ok(1),
+        reads: 2,
+        ..BOTH
+    },
+    Case {
+        files: &[SECOND_OF_9],
+        answer: Ok(1),
+        reads: 1,
+        ..BOTH
+    },
+    Case {
+        files: &[],
+        answer: Ok(0),
+        reads: 0,
+        ..BOTH
+    },
+    Case {
+        text: UNTIMED,
+        files: &[],
+        answer: Ok(1),
+        reads: 0,
+        ..BOTH
+    },
+];
+
+#[test]
+fn the_steps_that_stand_are_published(rt: HostRuntime) -> Result<(), Fail> {
+    assert_eq!(rt; first_other(rt.alloc(), &rt, &STANDING)?, None);
+    Ok(())
+}
+
+static FAULTY: [Case; 4] = [
+    Case {
+        files: &[
+            FIRST_OF_0,
+            Stored {
+                kept: 127,
+                ..FIRST_OF_9
+            },
+            SECOND_OF_9,
+        ],
+        answer: Err(LoadFault::BadTable {
+            file: 0,
+            row: 1,
+            kind: TableKind::OutsideFile,
+        }),
+        reads: 2,
+        ..BOTH
+    },
+    Case {
+        files: &[
+            FIRST_OF_0,
+            FIRST_OF_9,
+            Stored {
+                kept: 79,
+                ..SECOND_OF_9
+            },
+        ],
+        answer: Err(LoadFault::BadTable {
+            file: 2,
+            row: 0,
+            kind: TableKind::CutShort,
+        }),
+        reads: 3,
+        ..BOTH
+    },
+    Case {
+        fails: (0, 3),
+        answer: Err(LoadFault::StoreFault { faults: 1 }),
+        reads: 3,
+        ..BOTH
+    },
+    Case {
+        fails: (1, 0),
+        answer: Err(LoadFault::StoreFault { faults: 1 }),
+        reads: 0,
+        ..BOTH
+    },
+];
+
+#[test]
+fn a_faulty_step_ends_it(rt: HostRuntime) -> Result<(), Fail> {
+    assert_eq!(rt; first_other(rt.alloc(), &rt, &FAULTY)?, None);
+    Ok(())
+}

@@ -1,0 +1,163 @@
+//! Datasets in memory, with halls of their steps.
+ghost use Rattle.std.specs.Prelude.{◌≡◌, ◌≤◌};
+ghost use Rattle.idx_layout.specs.Shape.{shape_of};
+
+use idx_board::hall_of;
+use idx_edition::Edition;
+use idx_hall::Hall;
+use idx_header::Header;
+use idx_memory::{MemBay, MemLeaf, MemReader};
+use idx_outside::{Bytes, MemFile, NoMemory};
+use idx_serve::Site;
+use std::alloc::Global;
+use std::process::Abort;
+use std::sync::Arc;
+use std::test::Fail;
+
+/// The header of a dataset of one byte a sample, of two axes with two bits each, in blocks of four samples and files of
+/// two blocks.
+pub const BASE: &[u8] =
+    b"(version)\n6\n(box)\n0 3 0 3\n(fields)\na uint8\n(bits)\nV0101\n(bitsperblock)\n2\n(blocksperfile)\n2\n(filename_template)\n./%01x.bin\n(time)\n0 9 time%04d/\n";
+
+/// The same without a time.
+pub const UNTIMED: &[u8] =
+    b"(version)\n6\n(box)\n0 3 0 3\n(fields)\na uint8\n(bits)\nV0101\n(bitsperblock)\n2\n(blocksperfile)\n2\n(filename_template)\n./%01x.bin\n";
+
+/// What stands in front of the blocks of a file: ten words, and the rows of two blocks of four bytes.
+static TABLE: &[u8] = b"\
+    \0\0\0\0\0\0\0\0\0\0\0\0\0\0\0\0\0\0\0\0\0\0\0\0\0\0\0\0\0\0\0\0\0\0\0\0\0\0\0\0\
+    \0\0\0\0\0\0\0\0\0\0\0\x78\0\0\0\0\0\0\0\x04\0\0\0\0\0\0\0\0\0\0\0\0\0\0\0\0\0\0\0\0\
+    \0\0\0\0\0\0\0\0\0\0\0\x7c\0\0\0\0\0\0\0\x04\0\0\0\0\0\0\0\0\0\0\0\0\0\0\0\0\0\0\0\0";
+
+/// The blocks of the first file, where sample number n is the byte n.
+const FIRST: &[u8] = &[0, 2, 8, 10, 1, 9, 3, 11];
+
+/// Those of the second file.
+const SECOND: &[u8] = &[4, 5, 12, 13, 6, 7, 14, 15];
+
+/// A file of a step: its folder, its path, its blocks, and how many of its bytes are kept.
+#[derive(Clone, Copy)]
+pub struct Stored {
+    pub folder: &'static [u8],
+    pub path: &'static [u8],
+    pub blocks: &'static [u8],
+    pub kept: usize,
+}
+
+/// The first file of the step 0.
+pub const FIRST_OF_0: Stored = Stored {
+    folder: b"time0000",
+    path: b"time0000/0.bin",
+    blocks: FIRST,
+    kept: 128,
+};
+
+/// The second one.
+pub const SECOND_OF_0: Stored = Stored {
+    folder: b"time0000",
+    path: b"time0000/2.bin",
+    blocks: SECOND,
+    kept: 128,
+};
+
+/// The first file of the step 9.
+pub const FIRST_OF_9: Stored = Stored {
+    folder: b"time0009",
+    path: b"time0009/0.bin",
+    blocks: FIRST,
+    kept: 128,
+};
+
+/// The second one.
+pub const SECOND_OF_9: Stored = Stored {
+    folder: b"time0009",
+    path: b"time0009/2.bin",
+    blocks: SECOND,
+    kept: 128,
+};
+
+/// The step 0 alone.
+pub const STEP: &[Stored] = &[FIRST_OF_0, SECOND_OF_0];
+
+/// The steps 9 and 0.
+pub const STEPS: &[Stored] = &[FIRST_OF_9, SECOND_OF_9, FIRST_OF_0, SECOND_OF_0];
+
+/// A file in memory.
+fn file_of(alloc: Global, stored: &Stored) -> Result<MemFile, NoMemory> {
+    let mut bytes = Vec::from_slice(alloc, TABLE)?;
+    bytes.extend_from_slice(stored.blocks)?;
+    bytes.truncate(stored.kept);
+    Ok(MemFile {
+        folder: Bytes::from_slice(alloc, stored.folder)?,
+        path: Bytes::from_slice(alloc, stored.path)?,
+        bytes: Bytes::from_vec(bytes),
+    })
+}
+
+/// A bay with these files, of which these calls fail.
+pub fn bay_of(alloc: Global, files: &[Stored], fails: &[u64]) -> Result<MemBay, NoMemory> {
+    let mut committed = Vec::new(alloc);
+    for stored in files {
+        committed.push(file_of(alloc, stored)?)?;
+    }
+    let fails = Vec::from_slice(alloc, fails)?;
+    Ok(MemBay::new(Bytes::new(alloc), committed, fails, Vec::new(alloc)))
+}
+
+/// A header of this text.
+pub fn header_of(alloc: Global, rt: &impl Abort, text: &[u8]) -> Header {
+    Header::read(alloc, text).ok().expect(rt, "a header")
+}
+
+/// A reader of which these calls fail.
+pub fn reader_of(alloc: Global, fails: &[u64]) -> Result<MemReader, NoMemory> {
+    Ok(MemReader::new(Vec::from_slice(alloc, fails)?))
+}
+
+/// A dataset that is served, with the hall of its steps.
+#[derive(Drop)]
+pub struct Stage {
+    pub site: Site,
+    pub hall: Hall<Edition<MemLeaf>>,
+    ghost fits: { hall.shape ≡ shape_of site.header },
+}
+
+/// The dataset `v` with this header and these files. Its hall has room for so many cached blocks.
+pub fn stage_of(
+    alloc: Global,
+    rt: &impl Abort,
+    text: &[u8],
+    files: &[Stored],
+    room: u32,
+) -> Result<Stage, Fail> {
+    assert!(rt; 1 <= room && room <= 65536);
+    let header = header_of(alloc, rt, text);
+    let mut bay = bay_of(alloc, files, &[])?;
+    let mut reader = reader_of(alloc, &[])?;
+    let hall = hall_of(alloc, &header, room, &mut bay, &mut reader)
+        .ok()
+        .expect(rt, "a hall");
+    let name = Bytes::from_slice(alloc, b"v")?;
+    Ok(Stage {
+        site: Site { header, name },
+        hall,
+    })
+}
+
+/// The same once the step of this time is published, out of these files.
+pub fn with_step(
+    alloc: Global,
+    rt: &impl Abort,
+    stage: Stage,
+    time: u64,
+    files: &[Stored],
+) -> Result<Stage, Fail> {
+    let Stage { site, mut hall } = stage;
+    let mut bay = bay_of(alloc, files, &[])?;
+    let mut reader = reader_of(alloc, &[])?;
+    let loaded = Edition::load(alloc, &site.header, time, &mut bay, &mut reader);
+    let edition = loaded.ok().expect(rt, "an answer").expect(rt, "a step");
+    let edition = Arc::new(alloc, edition)?;
+    assert!(rt; hall.publish(edition).is_ok());
+    Ok(Stage { site, hall })
+}

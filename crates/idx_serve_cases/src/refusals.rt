@@ -1,0 +1,170 @@
+//! Targets that are refused.
+use crate::dataset::{BASE, STEP, stage_of};
+use crate::serving::{Outcome, link_of, serve};
+use idx_outside::{Bytes, NoMemory};
+use std::alloc::Global;
+use std::process::Abort;
+use std::test::Fail;
+
+/// A target, and its reply: the status and its reason, the length, and the text.
+type Case = (&'static [u8], &'static [u8], &'static [u8], &'static [u8]);
+
+/// What came of a head with this target.
+fn outcome_of(alloc: Global, rt: &impl Abort, target: &[u8]) -> Result<Outcome, Fail> {
+    let mut input = Bytes::from_slice(alloc, b"GET ")?;
+    input.append(target)?;
+    input.append(b" HTTP/1.1\r\n\r\n")?;
+    let stage = stage_of(alloc, rt, BASE, STEP, 4)?;
+    Ok(serve(
+        alloc,
+        stage,
+        link_of(alloc, input.as_slice(), 8192, &[])?,
+        &[],
+    )?)
+}
+
+/// A reply with this status and reason, length and text.
+fn reply_of(alloc: Global, line: &[u8], length: &[u8], text: &[u8]) -> Result<Bytes, NoMemory> {
+    let mut reply = Bytes::from_slice(alloc, b"HTTP/1.1 ")?;
+    reply.append(line)?;
+    reply.append(b"\r\nContent-Type: text/plain\r\nContent-Length: ")?;
+    reply.append(length)?;
+    reply.append(b"\r\n\r\n")?;
+    reply.append(text)?;
+    reply.push(b'\n')?;
+    Ok(reply)
+}
+
+/// Whether a target gets its reply, and no read is made for it.
+fn is_refused(alloc: Global, rt: &impl Abort, case: &Case) -> Result<bool, Fail> {
+    let (target, line, length, text) = *case;
+    let outcome = outcome_of(alloc, rt, target)?;
+    let reply = reply_of(alloc, line, length, text)?;
+    Ok(
+        outcome.link.written().as_slice() == reply.as_slice()
+            && outcome.served.len() == 1
+            && outcome.served[0].target.as_slice() == target
+            && outcome.reads == 0,
+    )
+}
+
+/// The place of the first case that is not refused as it is to be, if there is one.
+fn first_other(alloc: Global, rt: &impl Abort, cases: &[Case]) -> Result<Option<usize>, Fail> {
+    for (place, case) in cases.iter().enumerate() {
+        if !is_refused(alloc, rt, case)? {
+            return Ok(Some(place));
+        }
+    }
+    Ok(None)
+}
+
+/// What is not found.
+static NOT_FOUND: [Case; 4] = [
+    (b"/", b"404 Not Found", b"10", b"OtherPath"),
+    (
+        b"/mod%5Fvisus?action=boxquery",
+        b"404 Not Found",
+        b"10",
+        b"OtherPath",
+    ),
+    (
+        b"/mod_visus?action=boxquery&dataset=w",
+        b"404 Not Found",
+        b"13",
+        b"OtherDataset",
+    ),
+    (
+        b"/mod_visus?action=boxquery&dataset=v&box=0+3+0+3&time=10",
+        b"404 Not Found",
+        b"13",
+        b"NotPublished",
+    ),
+];
+
+#[test]
+fn what_is_not_there_is_not_found(rt: HostRuntime) -> Result<(), Fail> {
+    assert_eq!(rt; first_other(rt.alloc(), &rt, &NOT_FOUND)?, None);
+    Ok(())
+}
+
+/// Parameters that cannot be read.
+static BAD_PARAMETERS: [Case; 6] = [
+    (b"/mod_visus?x=%ff", b"400 Bad Request", b"8", b"BadText"),
+    (
+        b"/mod_visus?time=0&time=0",
+        b"400 Bad Request",
+        b"16",
+        b"DoubleParameter",
+    ),
+    (b"/mod_visus", b"400 Bad Request", b"9", b"NoAction"),
+    (
+        b"/mod_visus?action=readdataset",
+        b"400 Bad Request",
+        b"14",
+        b"UnknownAction",
+    ),
+    (
+        b"/mod_visus?action=boxquery",
+        b"400 Bad Request",
+        b"10",
+        b"NoDataset",
+    ),
+    (
+        b"/mod_visus?action=boxquery&dataset=v&compression=zip",
+        b"400 Bad Request",
+        b"7",
+        b"NotRaw",
+    ),
+];
+
+#[test]
+fn bad_parameters_are_told(rt: HostRuntime) -> Result<(), Fail> {
+    assert_eq!(rt; first_other(rt.alloc(), &rt, &BAD_PARAMETERS)?, None);
+    Ok(())
+}
+
+/// Questions that cannot be asked of the dataset.
+static BAD_QUESTIONS: [Case; 6] = [
+    (
+        b"/mod_visus?action=boxquery&dataset=v&field=b",
+        b"400 Bad Request",
+        b"13",
+        b"UnknownField",
+    ),
+    (
+        b"/mod_visus?action=boxquery&dataset=v&time=5.",
+        b"400 Bad Request",
+        b"8",
+        b"BadTime",
+    ),
+    (
+        b"/mod_visus?action=boxquery&dataset=v",
+        b"400 Bad Request",
+        b"7",
+        b"BadBox",
+    ),
+    (
+        b"/mod_visus?action=boxquery&dataset=v&box=0+3+0+3&maxh=3",
+        b"400 Bad Request",
+        b"10",
+        b"BadLevels",
+    ),
+    (
+        b"/mod_visus?action=boxquery&dataset=v&box=0+3+0+3&fromh=3&toh=2",
+        b"400 Bad Request",
+        b"10",
+        b"BadLevels",
+    ),
+    (
+        b"/mod_visus?action=boxquery&dataset=v&box=0+4+0+3",
+        b"400 Bad Request",
+        b"14",
+        b"OutsideVolume",
+    ),
+];
+
+#[test]
+fn bad_questions_are_told(rt: HostRuntime) -> Result<(), Fail> {
+    assert_eq!(rt; first_other(rt.alloc(), &rt, &BAD_QUESTIONS)?, None);
+    Ok(())
+}

@@ -1,0 +1,64 @@
+//! Links in memory that are served.
+ghost use Rattle.std.specs.Prelude.{◌<◌};
+
+use crate::dataset::{Stage, reader_of};
+use idx_memory::MemLink;
+use idx_outside::{Bytes, NoMemory, Served};
+use idx_serve::serve_link;
+use idx_session::LinkEnd;
+use idx_turn::Solo;
+use std::alloc::Global;
+
+/// What came of a link: how it ended, the link, its entries, how many reads were tried, and the dataset.
+#[derive(Drop)]
+pub struct Outcome {
+    pub end: LinkEnd,
+    pub link: MemLink,
+    pub served: Vec<Served>,
+    pub reads: u64,
+    pub stage: Stage,
+}
+
+/// Serves a link, with a reader of which these calls fail.
+pub fn serve(
+    alloc: Global,
+    stage: Stage,
+    mut link: MemLink,
+    fails: &[u64],
+) -> Result<Outcome, NoMemory> {
+    let mut reader = reader_of(alloc, fails)?;
+    let mut served = Vec::new(alloc);
+    let Stage { site, hall } = stage;
+    let mut solo = Solo::new(hall);
+    let end = serve_link(alloc, &site, &mut solo, &mut reader, &mut link, &mut served);
+    let hall = solo.end();
+    Ok(Outcome {
+        end,
+        link,
+        served,
+        reads: reader.reads(),
+        stage: Stage { site, hall },
+    })
+}
+
+/// A link whose input comes in pieces of this length, and of whose calls these fail.
+pub fn link_of(alloc: Global, input: &[u8], piece: u64, fails: &[u64]) -> Result<MemLink, NoMemory>
+    requires { 0 < piece }
+{
+    let pieces = vec![in alloc; piece; input.len()]?;
+    let fails = Vec::from_slice(alloc, fails)?;
+    Ok(MemLink::new(Bytes::from_slice(alloc, input)?, pieces, fails))
+}
+
+/// What is noted of a head, its target apart: the status, the board, and the faults.
+pub type Noted = (u16, u64, u64);
+
+/// Whether the entries are these, but for their targets.
+pub fn are_noted(served: &[Served], noted: &[Noted]) -> bool {
+    served.len() == noted.len()
+        && served.iter().zip(noted.iter()).all(|(entry, noted)| (
+            entry.status,
+            entry.seen,
+            entry.faults,
+        ) == *noted)
+}
