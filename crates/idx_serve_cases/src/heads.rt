@@ -218,8 +218,8 @@ fn many(alloc: Global, count: usize) -> Result<MemLink, NoMemory> {
 }
 
 /// Whether bytes are so many replies, and the last one behind them.
-fn are_replies(written: &[u8], count: usize) -> bool {
-    let Some((front, last)) = written.split_at_checked(count * REPLY.len()) else {
+fn are_replies(written: &[u8], count: u16) -> bool {
+    let Some((front, last)) = written.split_at_checked(usize::from(count) * REPLY.len()) else {
         return false;
     };
     last == LAST && front.chunks(REPLY.len()).all(|reply| reply == REPLY)

@@ -1,7 +1,8 @@
 //! Targets that are refused.
 use crate::dataset::{BASE, STEP, stage_of};
 use crate::serving::{Outcome, link_of, serve};
-use idx_outside::{Bytes, NoMemory};
+use idx_memory::MemLink;
+use idx_outside::{Bytes, NoMemory, Served};
 use std::alloc::Global;
 use std::process::Abort;
 use std::test::Fail;
@@ -9,30 +10,50 @@ use std::test::Fail;
 /// A target, and its reply: the status and its reason, the length, and the text.
 type Case = (&'static [u8], &'static [u8], &'static [u8], &'static [u8]);
 
+/// These pieces, one behind the other.
+fn joined(alloc: Global, pieces: &[&[u8]]) -> Result<Bytes, NoMemory> {
+    let mut all = Bytes::new(alloc);
+    for piece in pieces {
+        all.append(piece)?;
+    }
+    Ok(all)
+}
+
+/// A link with a head of this target.
+fn link_to(alloc: Global, target: &[u8]) -> Result<MemLink, NoMemory> {
+    let input = joined(alloc, &[b"GET ", target, b" HTTP/1.1\r\n\r\n"])?;
+    link_of(alloc, input.as_slice(), 8192, &[])
+}
+
 /// What came of a head with this target.
 fn outcome_of(alloc: Global, rt: &impl Abort, target: &[u8]) -> Result<Outcome, Fail> {
-    let mut input = Bytes::from_slice(alloc, b"GET ")?;
-    input.append(target)?;
-    input.append(b" HTTP/1.1\r\n\r\n")?;
     let stage = stage_of(alloc, rt, BASE, STEP, 4)?;
-    Ok(serve(
-        alloc,
-        stage,
-        link_of(alloc, input.as_slice(), 8192, &[])?,
-        &[],
-    )?)
+    Ok(serve(alloc, stage, link_to(alloc, target)?, &[])?)
 }
 
 /// A reply with this status and reason, length and text.
 fn reply_of(alloc: Global, line: &[u8], length: &[u8], text: &[u8]) -> Result<Bytes, NoMemory> {
-    let mut reply = Bytes::from_slice(alloc, b"HTTP/1.1 ")?;
-    reply.append(line)?;
-    reply.append(b"\r\nContent-Type: text/plain\r\nContent-Length: ")?;
-    reply.append(length)?;
-    reply.append(b"\r\n\r\n")?;
-    reply.append(text)?;
-    reply.push(b'\n')?;
-    Ok(reply)
+    let content: &[u8] = b"\r\nContent-Type: text/plain\r\nContent-Length: ";
+    joined(
+        alloc,
+        &[
+            b"HTTP/1.1 ",
+            line,
+            content,
+            length,
+            b"\r\n\r\n",
+            text,
+            b"\n",
+        ],
+    )
+}
+
+/// Whether there is one entry, of this target.
+fn is_of(served: &[Served], target: &[u8]) -> bool {
+    match served {
+        [entry] => entry.target.as_slice() == target,
+        _ => false,
+    }
 }
 
 /// Whether a target gets its reply, and no read is made for it.
@@ -42,8 +63,7 @@ fn is_refused(alloc: Global, rt: &impl Abort, case: &Case) -> Result<bool, Fail>
     let reply = reply_of(alloc, line, length, text)?;
     Ok(
         outcome.link.written().as_slice() == reply.as_slice()
-            && outcome.served.len() == 1
-            && outcome.served[0].target.as_slice() == target
+            && is_of(&outcome.served, target)
             && outcome.reads == 0,
     )
 }
