@@ -24,6 +24,7 @@ status_of (causes.NoStep time) = 8
 status_of causes.SinkFault = 9
 status_of (causes.BadTable file row kind) = 10
 status_of causes.NoMemory = 11
+status_of causes.DoorFault = 12
 
 -- the line that is printed of a cause
 abbrev pub line_of : Cause → List ℕ
@@ -46,6 +47,7 @@ line_of causes.SinkFault = codes "sink fault"
 line_of (causes.BadTable file row kind) =
     codes "table file " ++ decimal file ++ codes " row " ++ decimal row ++ codes " " ++ table_kind_text kind
 line_of causes.NoMemory = codes "no memory"
+line_of causes.DoorFault = codes "door fault"
 
 -- the line as it is written to standard error; 10 is the line feed
 abbrev pub message_of : Cause → List ℕ

@@ -9,4 +9,7 @@ pub mod CutRun
 pub mod Due
 pub mod ConvertRun
 pub mod QueryRun
+pub mod SiteName
+pub mod Totals
+pub mod ServeRun
 pub mod Run

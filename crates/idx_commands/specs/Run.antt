@@ -1,12 +1,12 @@
--- What a run promises, by its words and by what is seen of the raw volumes, the bay, the readers and the sink.
+-- What a run promises, by its words and by what is seen of the raw volumes, the bay, the readers, the sink and the doors.
 use Rattle.std.specs.Prelude.{◌≡◌, ◌⊎◌, ℕ, ◌<◌, List, [], ◌∷◌, length, Option, IfSome}
 use Rattle.idx_outside.specs.Cause.{NeverFalls, Rose}
 use Rattle.idx_outside.specs.Contents.{appended, AppendsPrefix}
 use Rattle.idx_outside.specs.Objects.{OthersUntouched, UsesOnly, contents_at}
 use Rattle.idx_outside.specs.declared.mem_file.MemFile.{MemFile}
 use Rattle.idx_words.specs.declared.command.Command.{Command}
-use Rattle.idx_words.specs.declared.command.Command.TheVariants.{Cut, Info, Convert, Query}
-use Rattle.idx_words.specs.Words.{Give, GiveConvert, GiveCut, GiveInfo, GiveQuery}
+use Rattle.idx_words.specs.declared.command.Command.TheVariants.{Cut, Info, Convert, Query, Serve}
+use Rattle.idx_words.specs.Words.{Give, GiveConvert, GiveCut, GiveInfo, GiveQuery, GiveServe}
 use Rattle.idx_plan.specs.Answer.{answer_of}
 use Rattle.idx_edition.specs.Stored.{stored_block}
 use Rattle.idx_extract.specs.Extract.{Asks}
@@ -18,7 +18,9 @@ use Rattle.idx_commands.specs.InfoRun.{InfoEnds, KnownReads}
 use Rattle.idx_commands.specs.CutRun.{CutEnds}
 use Rattle.idx_commands.specs.ConvertRun.{ConvertEnds}
 use Rattle.idx_commands.specs.QueryRun.{QueryEnds, question_of}
-use Rattle.idx_commands.specs.Seen.{BaySeen, IsUnchanged, RawsSeen, ReadersSeen, SinkSeen, bay_after, bay_before, raw_after, raw_before, reader_after, reader_before, sink_after, sink_before}
+use Rattle.idx_commands.specs.ServeRun.{ServeEnds}
+use Rattle.idx_commands.specs.Totals.{totals}
+use Rattle.idx_commands.specs.Seen.{BaySeen, DoorsSeen, IsUnchanged, RawsSeen, ReadersSeen, SinkSeen, bay_after, bay_before, door_after, door_before, raw_after, raw_before, reader_after, reader_before, sink_after, sink_before}
 
 -- The bytes of no raw volume are known, or those of all, and then they are the same.
 abbrev pub HaveSameContents : {V : Type 0} → (V → Option (List ℕ)) → List V → Type 0
@@ -30,13 +32,15 @@ AreNamed [] name = ⊥
 AreNamed (first ∷ words) name = first ≡ name
 
 -- What a command writes is what P holds of, where what it reads is known: a raw volume's bytes, or the header text of a bay,
--- which then reads, and its committed files. Of a command that writes nothing, this holds in its place.
+-- which then reads, and its committed files. Of a command that writes nothing, this holds in its place. A server writes a line with two
+-- numbers, which its own record has.
 abbrev pub Writes : Command → Option (List ℕ) → Option (List ℕ) → Option (List MemFile) → (List ℕ → Type 0) → Type 0 → Type 0
 Writes (Cut c) raw header files P Nothing = IfSome raw (λ bytes. P (cut_output c bytes))
 Writes Info raw header files P Nothing = KnownReads header (λ h. P (summary h))
 Writes (Convert c) raw header files P Nothing = Nothing
 Writes (Query q) raw header files P Nothing =
     KnownReads header (λ h. Asks (question_of q) h (λ ask. IfSome files (λ files. P (answer_of h ask (stored_block h q.time files)))))
+Writes (Serve v) raw header files P Nothing = (links : ℕ) × (replies : ℕ) × P (totals links replies)
 
 -- The words are in the grammar. Where what the command reads is known, and what was written to the sink, all of the answer
 -- was written and nothing else.
@@ -50,62 +54,79 @@ WrotePrefix words raw header files old new =
     (command : Command) × (Give words command × Writes command raw header files (λ answer. AppendsPrefix old new answer) ⊥)
 
 -- what is seen of all objects of a run
-pub record RunSeen (V B R K : Type 0) : Type 0 where
+pub record RunSeen (V B R K D L : Type 0) : Type 0 where
   pub raws : RawsSeen V
   pub bay : BaySeen B
   pub readers : ReadersSeen R
   pub sink : SinkSeen K
+  pub doors : DoorsSeen D L
 
-abbrev pub run_seen : {V B R K : Type 0} → RawsSeen V → BaySeen B → ReadersSeen R → SinkSeen K → RunSeen V B R K
-run_seen raws bay readers sink = record { raws = raws; bay = bay; readers = readers; sink = sink }
+abbrev pub run_seen : {V B R K D L : Type 0} → RawsSeen V → BaySeen B → ReadersSeen R → SinkSeen K → DoorsSeen D L → RunSeen V B R K D L
+run_seen raws bay readers sink doors = record { raws = raws; bay = bay; readers = readers; sink = sink; doors = doors }
 
 -- How a run of a command ends with this cause: as its record says, and the objects that it does not use are as they were.
-abbrev pub CommandEnds : {V B R K : Type 0} → RunSeen V B R K → Command → Cause → Type 0
+abbrev pub CommandEnds : {V B R K D L : Type 0} → RunSeen V B R K D L → Command → Cause → Type 0
 CommandEnds seen (Cut c) cause =
     CutEnds c seen.raws seen.sink cause × (seen.bay.new ≡ seen.bay.old) × (seen.readers.new ≡ seen.readers.old)
+    × (seen.doors.new ≡ seen.doors.old)
 CommandEnds seen Info cause =
     InfoEnds seen.bay seen.sink cause × (seen.raws.new ≡ seen.raws.old) × (seen.readers.new ≡ seen.readers.old)
+    × (seen.doors.new ≡ seen.doors.old)
 CommandEnds seen (Convert c) cause =
     ConvertEnds c seen.raws seen.bay cause × (seen.readers.new ≡ seen.readers.old) × (seen.sink.new ≡ seen.sink.old)
+    × (seen.doors.new ≡ seen.doors.old)
 CommandEnds seen (Query q) cause =
-    QueryEnds q seen.bay seen.readers seen.sink cause × (seen.raws.new ≡ seen.raws.old)
+    QueryEnds q seen.bay seen.readers seen.sink cause × (seen.raws.new ≡ seen.raws.old) × (seen.doors.new ≡ seen.doors.old)
+CommandEnds seen (Serve v) cause =
+    ServeEnds v seen.bay seen.readers seen.sink seen.doors cause × (seen.raws.new ≡ seen.raws.old)
 
 -- A fault of an object comes only where it was counted in this call, by a command that uses the object; and one that was counted
 -- is answered.
-pub record CountsFaults {V B R K : Type 0} (words : List (List ℕ)) (seen : RunSeen V B R K) (cause : Cause) : Type 0 where
+pub record CountsFaults {V B R K D L : Type 0} (words : List (List ℕ)) (seen : RunSeen V B R K D L) (cause : Cause) : Type 0 where
   pub raw_fault : status_of cause ≡ 4 → Rose (raw_before seen.raws) (raw_after seen.raws)
   pub raw_used : status_of cause ≡ 4 → GiveCut words ⊎ GiveConvert words
   pub store_fault : status_of cause ≡ 5 → Rose (bay_before seen.bay) (bay_after seen.bay)
-      ⊎ (GiveQuery words × Rose (reader_before seen.readers) (reader_after seen.readers))
-  pub store_used : status_of cause ≡ 5 → GiveInfo words ⊎ (GiveConvert words ⊎ GiveQuery words)
+      ⊎ ((GiveQuery words ⊎ GiveServe words) × Rose (reader_before seen.readers) (reader_after seen.readers))
+  pub store_used : status_of cause ≡ 5 → GiveInfo words ⊎ (GiveConvert words ⊎ (GiveQuery words ⊎ GiveServe words))
   pub sink_fault : status_of cause ≡ 9 → Rose (sink_before seen.sink) (sink_after seen.sink)
+  pub door_fault : status_of cause ≡ 12 → Rose (door_before seen.doors) (door_after seen.doors)
+  pub door_used : status_of cause ≡ 12 → GiveServe words
   pub raw_answered : raw_before seen.raws < raw_after seen.raws → status_of cause ≡ 4
   pub store_answered : bay_before seen.bay < bay_after seen.bay → status_of cause ≡ 5
-  pub reader_answered : reader_before seen.readers < reader_after seen.readers → status_of cause ≡ 5
+  -- a reader's fault while `serve` answers links is told to the peer, as the record of `serve` says
+  pub reader_answered : ¬ GiveServe words → reader_before seen.readers < reader_after seen.readers → status_of cause ≡ 5
   pub sink_answered : sink_before seen.sink < sink_after seen.sink → status_of cause ≡ 9
+  pub door_answered : door_before seen.doors < door_after seen.doors → (status_of cause ≡ 12) ⊎ (status_of cause ≡ 11)
 
 -- What a run leaves as it was.
-pub record LeavesRest {V B R K : Type 0} (words : List (List ℕ)) (seen : RunSeen V B R K) : Type 0 where
-  -- what is known of the raw volumes' bytes stays, no raw volume and no reader but the first was touched, and no count fell
+pub record LeavesRest {V B R K D L : Type 0} (words : List (List ℕ)) (seen : RunSeen V B R K D L) : Type 0 where
+  -- what is known of the raw volumes' bytes stays, no raw volume, no reader and no door but the first was touched, and no count fell
   pub raws : UsesOnly seen.raws.contents seen.raws.faults 0 seen.raws.old seen.raws.new
   pub readers : OthersUntouched seen.readers.old seen.readers.new 0
   pub reader_list : length seen.readers.new ≡ length seen.readers.old
   pub reader_count : NeverFalls (reader_before seen.readers) (reader_after seen.readers)
   pub bay_count : NeverFalls (bay_before seen.bay) (bay_after seen.bay)
   pub sink_count : NeverFalls (sink_before seen.sink) (sink_after seen.sink)
+  pub doors : OthersUntouched seen.doors.old seen.doors.new 0
+  pub door_list : length seen.doors.new ≡ length seen.doors.old
+  pub door_count : NeverFalls (door_before seen.doors) (door_after seen.doors)
   -- `convert` alone changes the bay: its header text, its committed files and the folder last begun, and makes calls that change
   -- it at all; and it writes nothing to the sink
   pub unchanged : ¬ GiveConvert words → IsUnchanged seen.bay
   pub convert_silent : GiveConvert words → seen.sink.new ≡ seen.sink.old
-  -- `cut` leaves the bay as it was, `info` and `query` the raw volumes, and none but `query` reads a leaf
+  -- `cut` leaves the bay as it was, `info`, `query` and `serve` the raw volumes, none but `query` and `serve` reads a leaf, and none
+  -- but `serve` uses a door
   pub cut_alone : GiveCut words → seen.bay.new ≡ seen.bay.old
   pub info_alone : GiveInfo words → seen.raws.new ≡ seen.raws.old
   pub query_alone : GiveQuery words → seen.raws.new ≡ seen.raws.old
-  pub query_reads : ¬ GiveQuery words → seen.readers.new ≡ seen.readers.old
+  pub serve_alone : GiveServe words → seen.raws.new ≡ seen.raws.old
+  pub query_reads : ¬ GiveQuery words → ¬ GiveServe words → seen.readers.new ≡ seen.readers.old
+  pub serve_opens : ¬ GiveServe words → seen.doors.new ≡ seen.doors.old
 
 -- Nothing is asked of any object.
-pub record Unasked {V B R K : Type 0} (seen : RunSeen V B R K) : Type 0 where
+pub record Unasked {V B R K D L : Type 0} (seen : RunSeen V B R K D L) : Type 0 where
   pub raws : seen.raws.new ≡ seen.raws.old
   pub bay : seen.bay.new ≡ seen.bay.old
   pub readers : seen.readers.new ≡ seen.readers.old
   pub sink : seen.sink.new ≡ seen.sink.old
+  pub doors : seen.doors.new ≡ seen.doors.old

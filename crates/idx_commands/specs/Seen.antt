@@ -1,8 +1,10 @@
 -- What is seen of the objects of a run: each object as it was before and as it is after, with the ghost members of its trait.
-use Rattle.std.specs.Prelude.{◌≡◌, ℕ, List, Option}
+use Rattle.std.specs.Prelude.{◌≡◌, ℕ, List, Option, None, map, slice_index_or}
+use Rattle.idx_outside.specs.Doors.{DoorTold}
 use Rattle.idx_outside.specs.Objects.{contents_at, faults_at}
 use Rattle.idx_outside.specs.declared.bay_call.BayCall.{BayCall}
 use Rattle.idx_outside.specs.declared.mem_file.MemFile.{MemFile}
+use Rattle.idx_serve.specs.Visits.{LinkTells, link_tells}
 
 -- Raw volumes. What they hold is known or not, and how many faults were counted and how many bytes were asked for is told.
 pub record RawsSeen (V : Type 0) : Type 0 where
@@ -37,6 +39,14 @@ pub record SinkSeen (K : Type 0) : Type 0 where
   pub faults : K → ℕ
   pub old : K
   pub new : K
+
+-- Doors: what a door tells of the links that it hands out, and its count of faults; and what links tell.
+pub record DoorsSeen (D L : Type 0) : Type 0 where
+  pub told : D → Option (DoorTold L)
+  pub faults : D → ℕ
+  pub links : LinkTells L
+  pub old : List D
+  pub new : List D
 
 -- the bytes of the first raw volume, and its counts before and after
 abbrev pub raw_bytes : {V : Type 0} → RawsSeen V → Option (List ℕ)
@@ -100,6 +110,33 @@ sink_before sink = sink.faults sink.old
 abbrev pub sink_after : {K : Type 0} → SinkSeen K → ℕ
 sink_after sink = sink.faults sink.new
 
+-- What a door tells, and its count of faults, before and after.
+pub record DoorPair (L : Type 0) : Type 0 where
+  pub told_before : Option (DoorTold L)
+  pub told_after : Option (DoorTold L)
+  pub faults_before : ℕ
+  pub faults_after : ℕ
+
+-- what the door of this number tells, where it is known
+abbrev pub told_at : {D L : Type 0} → (D → Option (DoorTold L)) → List D → ℕ → Option (DoorTold L)
+told_at told doors number = slice_index_or (map told doors) number None
+
+-- those of the first door
+abbrev pub door_pair : {D L : Type 0} → DoorsSeen D L → DoorPair L
+door_pair doors =
+    record {
+      told_before = told_at doors.told doors.old 0;
+      told_after = told_at doors.told doors.new 0;
+      faults_before = faults_at doors.faults doors.old 0;
+      faults_after = faults_at doors.faults doors.new 0;
+    }
+
+abbrev pub door_before : {D L : Type 0} → DoorsSeen D L → ℕ
+door_before doors = faults_at doors.faults doors.old 0
+
+abbrev pub door_after : {D L : Type 0} → DoorsSeen D L → ℕ
+door_after doors = faults_at doors.faults doors.new 0
+
 -- what is seen of these objects, by the ghost members of their traits
 abbrev pub raws_seen : {V : Type 0} → (V → Option (List ℕ)) → (V → ℕ) → (V → ℕ) → List V → List V → RawsSeen V
 raws_seen contents faults asked old new =
@@ -123,3 +160,7 @@ readers_seen faults reads old new = record { faults = faults; reads = reads; old
 
 abbrev pub sink_seen : {K : Type 0} → (K → Option (List ℕ)) → (K → ℕ) → K → K → SinkSeen K
 sink_seen contents faults old new = record { contents = contents; faults = faults; old = old; new = new }
+
+abbrev pub doors_seen : {D L : Type 0} → (D → Option (DoorTold L)) → (D → ℕ) → (L → Option (List ℕ)) → (L → Option (List ℕ)) → (L → ℕ) → List D → List D → DoorsSeen D L
+doors_seen told faults incoming written link_faults old new =
+    record { told = told; faults = faults; links = link_tells incoming written link_faults; old = old; new = new }

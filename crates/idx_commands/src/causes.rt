@@ -76,6 +76,8 @@ pub enum Cause {
     },
     /// There was not enough memory.
     NoMemory,
+    /// No links could be accepted, or no further ones.
+    DoorFault,
 }
 
 impl Cause {
@@ -120,6 +122,7 @@ impl Done {
             Cause::SinkFault => 9,
             Cause::BadTable { .. } => 10,
             Cause::NoMemory => 11,
+            Cause::DoorFault => 12,
         };
         Done { status, cause }
     }
@@ -161,6 +164,7 @@ impl fmt::Display for Cause {
                 write!(f, "table file {file} row {row} {}", table_kind_text(*kind))
             }
             Cause::NoMemory => write!(f, "no memory"),
+            Cause::DoorFault => write!(f, "door fault"),
         }
     }
 }

@@ -41,6 +41,7 @@ pub(crate) fn run_convert<V: Source, B: Bay>(
         Ok(Command::Cut(_)) => unreachable!(),
         Ok(Command::Info) => unreachable!(),
         Ok(Command::Query(_)) => unreachable!(),
+        Ok(Command::Serve(_)) => unreachable!(),
         Err(misread) => Done::of(Cause::Usage { at: misread.at }),
     }
 }

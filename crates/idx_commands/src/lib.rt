@@ -1,4 +1,4 @@
-//! The commands of idxtool: what each does with a raw volume, a dataset and a sink, and how it ends.
+//! The commands of idxtool: what each does with a raw volume, a dataset, a sink and a door, and how it ends.
 #![tactic(auto)]
 
 mod causes;
@@ -9,7 +9,10 @@ mod info;
 mod kind_text;
 mod query;
 mod running;
+mod serve;
+mod site_name;
 mod summary;
+mod totals;
 
 pub use causes::{Cause, Done};
 pub use cut::run_cut;

@@ -4,36 +4,41 @@ ghost use Rattle.idx_words.specs.declared.command.Command.{Command};
 ghost use Rattle.idx_words.specs.declared.cut_words.CutWords.{CutWords};
 ghost use Rattle.idx_words.specs.ConvertValue.{ConvertValue};
 ghost use Rattle.idx_words.specs.QueryValue.{QueryValue};
+ghost use Rattle.idx_words.specs.ServeValue.{ServeValue};
 ghost use Rattle.idx_words.specs.Words.{Give, GiveCommand, GiveInfo, IsUsagePlace};
 ghost use Rattle.idx_commands.specs.Cause.{status_of};
 ghost use Rattle.idx_commands.specs.ConvertRun.{ConvertEnds};
 ghost use Rattle.idx_commands.specs.CutRun.{CutEnds};
 ghost use Rattle.idx_commands.specs.InfoRun.{InfoEnds};
 ghost use Rattle.idx_commands.specs.QueryRun.{QueryEnds};
+ghost use Rattle.idx_commands.specs.ServeRun.{ServeEnds};
 ghost use Rattle.idx_commands.specs.Run.{CommandEnds, CountsFaults, HaveSameContents, LeavesRest, Unasked, WroteAnswer, WrotePrefix, run_seen};
-ghost use Rattle.idx_commands.specs.Seen.{bay_seen, raws_seen, readers_seen, sink_seen};
+ghost use Rattle.idx_commands.specs.Seen.{bay_seen, doors_seen, raws_seen, readers_seen, sink_seen};
 
 use crate::causes::{Cause, Done};
 use crate::convert::run_convert;
 use crate::cut::run_cut;
 use crate::info::run_info;
 use crate::query::run_query;
-use idx_outside::{Bay, Reader, Sink, Source};
+use crate::serve::run_serve;
+use idx_outside::{Bay, Door, Reader, Sink, Source};
 use idx_words::{Command, read_words};
 use std::alloc::Global;
 
 /// Does what the words ask for, and says how it ended: as `run_cut`, `run_info` and `run_query` do, and likewise for
-/// `convert`. The first refusal ends it.
-pub fn run<V: Source, B: Bay, R: Reader<B::Leaf>, K: Sink>(
+/// `convert` and `serve`. The first refusal ends it. `serve` returns when the first door hands out no more links or fails.
+pub fn run<V: Source, B: Bay, R: Reader<B::Leaf>, K: Sink, D: Door>(
     alloc: Global,
     words: &[String],
     raws: &mut Vec<V>,
     bay: &mut B,
     readers: &mut Vec<R>,
     out: &mut K,
+    doors: &mut Vec<D>,
 ) -> Done
     requires some { 0 < vec_len raws.old }
     requires reader { 0 < vec_len readers.old }
+    requires door { 0 < vec_len doors.old }
     requires same { HaveSameContents V.contents raws.old.items }
 
     ensures status { result.status ≡ status_of result.cause }
@@ -62,6 +67,12 @@ pub fn run<V: Source, B: Bay, R: Reader<B::Leaf>, K: Sink>(
         QueryEnds q (bay_seen B.header B.files B.begun B.changes B.failed B.faults bay.old bay.new)
         (readers_seen R.faults R.reads readers.old.items readers.new.items)
         (sink_seen K.contents K.faults out.old out.new) result.cause }
+    ensures serve { (v : ServeValue) → Give (map string_bytes words.now) (Command.Serve v) →
+        ServeEnds v (bay_seen B.header B.files B.begun B.changes B.failed B.faults bay.old bay.new)
+        (readers_seen R.faults R.reads readers.old.items readers.new.items)
+        (sink_seen K.contents K.faults out.old out.new)
+        (doors_seen D.told D.faults D.Link.incoming D.Link.written D.Link.faults doors.old.items doors.new.items)
+        result.cause }
 
     // Usage comes exactly where the words are not in the grammar, and then nothing was asked of any object. Its place is
     // the least such that no list of the grammar begins with the words up to it and the word at it, and the number of
@@ -72,7 +83,8 @@ pub fn run<V: Source, B: Bay, R: Reader<B::Leaf>, K: Sink>(
         (raws_seen V.contents V.faults V.asked raws.old.items raws.new.items)
         (bay_seen B.header B.files B.begun B.changes B.failed B.faults bay.old bay.new)
         (readers_seen R.faults R.reads readers.old.items readers.new.items)
-        (sink_seen K.contents K.faults out.old out.new)) }
+        (sink_seen K.contents K.faults out.old out.new)
+        (doors_seen D.told D.faults D.Link.incoming D.Link.written D.Link.faults doors.old.items doors.new.items)) }
     ensures given { result.status ≢ 1 → GiveCommand (map string_bytes words.now) }
 
     // Each fault was counted, and each that was counted is answered; and what a run does not use stays as it was.
@@ -80,21 +92,23 @@ pub fn run<V: Source, B: Bay, R: Reader<B::Leaf>, K: Sink>(
         (raws_seen V.contents V.faults V.asked raws.old.items raws.new.items)
         (bay_seen B.header B.files B.begun B.changes B.failed B.faults bay.old bay.new)
         (readers_seen R.faults R.reads readers.old.items readers.new.items)
-        (sink_seen K.contents K.faults out.old out.new)) result.cause }
+        (sink_seen K.contents K.faults out.old out.new)
+        (doors_seen D.told D.faults D.Link.incoming D.Link.written D.Link.faults doors.old.items doors.new.items)) result.cause }
     ensures rest { LeavesRest (map string_bytes words.now) (run_seen
         (raws_seen V.contents V.faults V.asked raws.old.items raws.new.items)
         (bay_seen B.header B.files B.begun B.changes B.failed B.faults bay.old bay.new)
         (readers_seen R.faults R.reads readers.old.items readers.new.items)
-        (sink_seen K.contents K.faults out.old out.new)) }
+        (sink_seen K.contents K.faults out.old out.new)
+        (doors_seen D.told D.faults D.Link.incoming D.Link.written D.Link.faults doors.old.items doors.new.items)) }
 {
     match read_words(words) {
-        Ok(command) => run_command(alloc, words, &command, raws, bay, readers, out),
+        Ok(command) => run_command(alloc, words, &command, raws, bay, readers, out, doors),
         Err(misread) => Done::of(Cause::Usage { at: misread.at }),
     }
 }
 
 /// Does what the words ask for, which give this command, and says how it ended.
-fn run_command<V: Source, B: Bay, R: Reader<B::Leaf>, K: Sink>(
+fn run_command<V: Source, B: Bay, R: Reader<B::Leaf>, K: Sink, D: Door>(
     alloc: Global,
     words: &[String],
     command: &Command<'_>,
@@ -102,21 +116,25 @@ fn run_command<V: Source, B: Bay, R: Reader<B::Leaf>, K: Sink>(
     bay: &mut B,
     readers: &mut Vec<R>,
     out: &mut K,
+    doors: &mut Vec<D>,
 ) -> Done
     requires some { 0 < vec_len raws.old }
     requires reader { 0 < vec_len readers.old }
+    requires door { 0 < vec_len doors.old }
     requires given { Give (map string_bytes words.now) command.now }
     ensures status { result.status ≡ status_of result.cause }
     ensures ends { CommandEnds (run_seen
         (raws_seen V.contents V.faults V.asked raws.old.items raws.new.items)
         (bay_seen B.header B.files B.begun B.changes B.failed B.faults bay.old bay.new)
         (readers_seen R.faults R.reads readers.old.items readers.new.items)
-        (sink_seen K.contents K.faults out.old out.new)) command.now result.cause }
+        (sink_seen K.contents K.faults out.old out.new)
+        (doors_seen D.told D.faults D.Link.incoming D.Link.written D.Link.faults doors.old.items doors.new.items)) command.now result.cause }
 {
     match command {
         Command::Cut(_) => run_cut(alloc, words, raws, out),
         Command::Info => run_info(alloc, words, bay, out),
         Command::Convert(_) => run_convert(alloc, words, raws, bay),
         Command::Query(_) => run_query(alloc, words, bay, readers, out),
+        Command::Serve(_) => run_serve(alloc, words, bay, readers, out, doors),
     }
 }

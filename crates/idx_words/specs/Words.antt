@@ -1,7 +1,7 @@
 -- What a list of words stands for: a command with its values.
 use Rattle.std.specs.Prelude.{◌≡◌, ℕ, ◌≤◌, List, [], ◌∷◌, IsTrue, codes}
 use Rattle.idx_words.specs.declared.command.Command.{Command}
-use Rattle.idx_words.specs.declared.command.Command.TheVariants.{Cut, Info, Convert, Query}
+use Rattle.idx_words.specs.declared.command.Command.TheVariants.{Cut, Info, Convert, Query, Serve}
 use Rattle.idx_words.specs.PathWord.{is_path}
 use Rattle.idx_words.specs.declared.cut_words.CutWords.{CutWords}
 use Rattle.idx_words.specs.CutGrammar.{AreCutWords, IsSound}
@@ -9,6 +9,8 @@ use Rattle.idx_words.specs.ConvertValue.{ConvertValue}
 use Rattle.idx_words.specs.ConvertGrammar.{AreConvertWords}
 use Rattle.idx_words.specs.QueryValue.{QueryValue}
 use Rattle.idx_words.specs.QueryGrammar.{AreQueryWords}
+use Rattle.idx_words.specs.ServeValue.{ServeValue}
+use Rattle.idx_words.specs.ServeGrammar.{AreServeWords, IsSoundServe}
 use Rattle.idx_words.specs.Place.{IsPlace}
 
 -- the words behind the command are those of `info`: DATASET alone
@@ -23,6 +25,7 @@ Give (name ∷ words) (Cut c) = (name ≡ codes "cut") × AreCutWords words c
 Give (name ∷ words) Info = (name ≡ codes "info") × AreInfoWords words
 Give (name ∷ words) (Convert c) = (name ≡ codes "convert") × AreConvertWords words c
 Give (name ∷ words) (Query c) = (name ≡ codes "query") × AreQueryWords words c
+Give (name ∷ words) (Serve c) = (name ≡ codes "serve") × AreServeWords words c
 
 -- the words are in the grammar
 abbrev pub GiveCommand : List (List ℕ) → Type 0
@@ -44,12 +47,17 @@ GiveConvert words = (c : ConvertValue) × Give words (Convert c)
 abbrev pub GiveQuery : List (List ℕ) → Type 0
 GiveQuery words = (c : QueryValue) × Give words (Query c)
 
+-- the words are those of `serve`
+abbrev pub GiveServe : List (List ℕ) → Type 0
+GiveServe words = (c : ServeValue) × Give words (Serve c)
+
 -- what is so of the values of a command
 abbrev pub IsSoundCommand : Command → Type 0
 IsSoundCommand (Cut c) = IsSound c
 IsSoundCommand Info = Unit {0}
 IsSoundCommand (Convert c) = (1 ≤ c.ranks) × (c.ranks ≤ 256)
 IsSoundCommand (Query c) = (1 ≤ c.cache) × (c.cache ≤ 65536)
+IsSoundCommand (Serve c) = IsSoundServe c
 
 -- which command it is
 abbrev pub IsCut : Command → Type 0
@@ -57,24 +65,35 @@ IsCut (Cut c) = Unit {0}
 IsCut Info = ⊥
 IsCut (Convert c) = ⊥
 IsCut (Query c) = ⊥
+IsCut (Serve c) = ⊥
 
 abbrev pub IsInfo : Command → Type 0
 IsInfo (Cut c) = ⊥
 IsInfo Info = Unit {0}
 IsInfo (Convert c) = ⊥
 IsInfo (Query c) = ⊥
+IsInfo (Serve c) = ⊥
 
 abbrev pub IsConvert : Command → Type 0
 IsConvert (Cut c) = ⊥
 IsConvert Info = ⊥
 IsConvert (Convert c) = Unit {0}
 IsConvert (Query c) = ⊥
+IsConvert (Serve c) = ⊥
 
 abbrev pub IsQuery : Command → Type 0
 IsQuery (Cut c) = ⊥
 IsQuery Info = ⊥
 IsQuery (Convert c) = ⊥
 IsQuery (Query c) = Unit {0}
+IsQuery (Serve c) = ⊥
+
+abbrev pub IsServe : Command → Type 0
+IsServe (Cut c) = ⊥
+IsServe Info = ⊥
+IsServe (Convert c) = ⊥
+IsServe (Query c) = ⊥
+IsServe (Serve c) = Unit {0}
 
 -- the words behind the command are those of `cut`
 abbrev pub AreSomeCutWords : List (List ℕ) → Type 0

@@ -1,6 +1,7 @@
 use crate::convert_words::ConvertWords;
 use crate::cut_words::CutWords;
 use crate::query_words::QueryWords;
+use crate::serve_words::ServeWords;
 
 /// A command with the values that its words stand for.
 #[derive(Debug, Drop)]
@@ -13,4 +14,6 @@ pub enum Command<'w> {
     Convert(ConvertWords<'w>),
     /// `query DATASET TIME FIELD REGION LO HI`
     Query(QueryWords<'w>),
+    /// `serve DATASET ADDRESS`
+    Serve(ServeWords<'w>),
 }

@@ -8,6 +8,7 @@ ghost use Rattle.idx_words.specs.Place.{IsPlaceBehind};
 ghost use Rattle.idx_words.specs.QueryValue.{QueryValue};
 ghost use Rattle.idx_words.specs.Settings.{AreWithin};
 ghost use Rattle.idx_words.specs.declared.setting.Setting.{Setting};
+ghost use Rattle.idx_words.specs.ServeValue.{ServeValue};
 ghost use Rattle.idx_words.specs.Words.{AreSomeConvertWords, IsSoundCommand};
 
 use crate::command::Command;
@@ -49,6 +50,7 @@ pub fn convert_command(words: &[String]) -> Result<Command<'_>, Misread>
     ensures no_info { result ≢ Ok Command.Info }
     ensures no_cut { (c : CutWords) → result ≢ Ok (Command.Cut c) }
     ensures no_query { (c : QueryValue) → result ≢ Ok (Command.Query c) }
+    ensures no_serve { (c : ServeValue) → result ≢ Ok (Command.Serve c) }
     ensures sound { IfOk result IsSoundCommand }
     ensures place { IfErr result (λ misread.
         IsPlaceBehind AreSomeConvertWords (map string_bytes words.now) misread.at) }

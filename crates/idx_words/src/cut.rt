@@ -9,6 +9,7 @@ ghost use Rattle.idx_words.specs.CutWord.{place_of, word_of};
 ghost use Rattle.idx_words.specs.PathWord.{is_path};
 ghost use Rattle.idx_words.specs.Place.{IsPlace, IsPlaceBehind};
 ghost use Rattle.idx_words.specs.QueryValue.{QueryValue};
+ghost use Rattle.idx_words.specs.ServeValue.{ServeValue};
 ghost use Rattle.idx_words.specs.Words.{AreSomeCutWords, IsSoundCommand};
 
 use crate::command::Command;
@@ -36,6 +37,7 @@ pub fn cut_command(words: &[String]) -> Result<Command<'_>, Misread>
     ensures no_info { result ≢ Ok Command.Info }
     ensures no_convert { (c : ConvertValue) → result ≢ Ok (Command.Convert c) }
     ensures no_query { (c : QueryValue) → result ≢ Ok (Command.Query c) }
+    ensures no_serve { (c : ServeValue) → result ≢ Ok (Command.Serve c) }
     ensures sound { IfOk result IsSoundCommand }
     ensures place { IfErr result (λ misread. IsPlaceBehind AreSomeCutWords (map string_bytes words.now) misread.at) }
 {

@@ -4,6 +4,7 @@ ghost use Rattle.idx_words.specs.declared.cut_words.CutWords.{CutWords};
 ghost use Rattle.idx_words.specs.ConvertValue.{ConvertValue};
 ghost use Rattle.idx_words.specs.Place.{IsPlaceBehind};
 ghost use Rattle.idx_words.specs.QueryValue.{QueryValue};
+ghost use Rattle.idx_words.specs.ServeValue.{ServeValue};
 ghost use Rattle.idx_words.specs.Words.{AreInfoWords, IsSoundCommand};
 
 use crate::command::Command;
@@ -27,6 +28,7 @@ pub fn info_command(words: &[String]) -> Result<Command<'_>, Misread>
     ensures no_cut { (c : CutWords) → result ≢ Ok (Command.Cut c) }
     ensures no_convert { (c : ConvertValue) → result ≢ Ok (Command.Convert c) }
     ensures no_query { (c : QueryValue) → result ≢ Ok (Command.Query c) }
+    ensures no_serve { (c : ServeValue) → result ≢ Ok (Command.Serve c) }
     ensures place { IfErr result (λ misread. IsPlaceBehind AreInfoWords (map string_bytes words.now) misread.at) }
 {
     if !is_path(word_at(words, 0)) {

@@ -36,7 +36,6 @@ pub use laws::{built_texts_are_one, places_are_one};
 pub use misread::Misread;
 pub use path::is_path;
 pub use query_words::QueryWords;
-pub use serve::read_serve;
 pub use serve_words::ServeWords;
 pub use text::is_text;
 pub use words::read_words;

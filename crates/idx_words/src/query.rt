@@ -5,6 +5,7 @@ ghost use Rattle.idx_words.specs.ConvertValue.{ConvertValue};
 ghost use Rattle.idx_words.specs.Place.{IsPlaceBehind};
 ghost use Rattle.idx_words.specs.QueryGrammar.{AreQueryWords, SpellsCache};
 ghost use Rattle.idx_words.specs.QueryValue.{QueryValue};
+ghost use Rattle.idx_words.specs.ServeValue.{ServeValue};
 ghost use Rattle.idx_words.specs.Words.{AreSomeQueryWords, IsSoundCommand};
 
 use crate::command::Command;
@@ -43,6 +44,7 @@ pub fn query_command(words: &[String]) -> Result<Command<'_>, Misread>
     ensures no_cut { (c : CutWords) → result ≢ Ok (Command.Cut c) }
     ensures no_info { result ≢ Ok Command.Info }
     ensures no_convert { (c : ConvertValue) → result ≢ Ok (Command.Convert c) }
+    ensures no_serve { (c : ServeValue) → result ≢ Ok (Command.Serve c) }
     ensures sound { IfOk result IsSoundCommand }
     ensures place { IfErr result (λ misread.
         IsPlaceBehind AreSomeQueryWords (map string_bytes words.now) misread.at) }

@@ -1,11 +1,17 @@
-ghost use Rattle.std.specs.Prelude.{◌≡◌, ◌↔◌, drop, map, string_bytes, IfErr, IfOk, Ok, OnErr, OnOk};
+ghost use Rattle.std.specs.Prelude.{◌≡◌, ◌≢◌, ◌↔◌, drop, map, string_bytes, IfErr, IfOk, Ok, OnErr, OnOk};
+ghost use Rattle.idx_words.specs.declared.command.Command.{Command};
+ghost use Rattle.idx_words.specs.declared.cut_words.CutWords.{CutWords};
 ghost use Rattle.idx_words.specs.declared.setting.Setting.{Setting};
+ghost use Rattle.idx_words.specs.ConvertValue.{ConvertValue};
 ghost use Rattle.idx_words.specs.Options.{given};
 ghost use Rattle.idx_words.specs.Place.{IsPlaceBehind};
+ghost use Rattle.idx_words.specs.QueryValue.{QueryValue};
 ghost use Rattle.idx_words.specs.ServeGrammar.{AreServeWords, AreSomeServeWords, IsSoundServe};
 ghost use Rattle.idx_words.specs.ServeValue.{ServeValue};
 ghost use Rattle.idx_words.specs.Settings.{AreWithin, value_in};
+ghost use Rattle.idx_words.specs.Words.{IsSoundCommand};
 
+use crate::command::Command;
 use crate::given::{word_at, words_from};
 use crate::misread::Misread;
 use crate::options::read_options;
@@ -31,9 +37,26 @@ const OPTIONS: [Setting; 3] = [Setting::Cache, Setting::Workers, Setting::Links]
 const END: &str = "--cache, --workers or --links, each at most once, or the end of the words: \
      serve DATASET ADDRESS [--cache BLOCKS] [--workers WORKERS] [--links LINKS]";
 
-/// The values that the words behind the command `serve` stand for. Otherwise the first that is wrong or missing, whose
-/// place counts the command too.
-pub fn read_serve(words: &[String]) -> Result<ServeWords<'_>, Misread>
+/// The command `serve` with the values of the words behind it. The place of a word that is wrong or missing counts the
+/// command too.
+pub fn serve_command(words: &[String]) -> Result<Command<'_>, Misread>
+    ensures read { (c : ServeValue) →
+        (result ≡ Ok (Command.Serve c)) ↔ AreServeWords (map string_bytes words.now) c }
+    ensures no_cut { (c : CutWords) → result ≢ Ok (Command.Cut c) }
+    ensures no_info { result ≢ Ok Command.Info }
+    ensures no_convert { (c : ConvertValue) → result ≢ Ok (Command.Convert c) }
+    ensures no_query { (c : QueryValue) → result ≢ Ok (Command.Query c) }
+    ensures sound { IfOk result IsSoundCommand }
+    ensures place { IfErr result (λ misread.
+        IsPlaceBehind AreSomeServeWords (map string_bytes words.now) misread.at) }
+{
+    let serve = read_serve(words)?;
+    Ok(Command::Serve(serve))
+}
+
+/// The values that the words behind the command stand for. Otherwise the first that is wrong or missing, whose place
+/// counts the command too.
+fn read_serve(words: &[String]) -> Result<ServeWords<'_>, Misread>
     ensures read { (c : ServeValue) → (result ≡ Ok c) ↔ AreServeWords (map string_bytes words.now) c }
     ensures sound { IfOk result IsSoundServe }
     ensures place { IfErr result (λ misread.

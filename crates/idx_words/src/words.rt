@@ -8,10 +8,11 @@ use crate::cut::cut_command;
 use crate::info::info_command;
 use crate::misread::Misread;
 use crate::query::query_command;
+use crate::serve::serve_command;
 
 const NO_COMMAND: Misread = Misread {
     at: 0,
-    expected: "a command: cut, info, convert or query",
+    expected: "a command: cut, info, convert, query or serve",
 };
 
 /// The command that the words give. Where they are not in the grammar, the first word that is wrong or missing: no list
@@ -35,6 +36,9 @@ pub fn read_words(words: &[String]) -> Result<Command<'_>, Misread>
     }
     if is_query(name.as_bytes()) {
         return query_command(words);
+    }
+    if is_serve(name.as_bytes()) {
+        return serve_command(words);
     }
     Err(NO_COMMAND)
 }
@@ -61,4 +65,10 @@ fn is_query(word: &[u8]) -> bool
     ensures { IsTrue result ↔ (word.now ≡ codes "query") }
 {
     word == b"query".as_slice()
+}
+
+fn is_serve(word: &[u8]) -> bool
+    ensures { IsTrue result ↔ (word.now ≡ codes "serve") }
+{
+    word == b"serve".as_slice()
 }
