@@ -12,3 +12,11 @@ pub fn raw_path(words: &[String]) -> &str {
         _ => given_path(words),
     }
 }
+
+/// The address that the words name, or none.
+pub fn door_address(words: &[String]) -> &str {
+    match words.first() {
+        Some(name) if name.as_str() == "serve" => third_word(words),
+        _ => "",
+    }
+}
