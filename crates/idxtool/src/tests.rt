@@ -1,10 +1,13 @@
+use crate::notice::{standing_steps, write_notice};
 use crate::report::report;
 use crate::usage::{text_asked_for, write_text};
 use idx_commands::{Cause, Done};
 use idx_header::HeaderKind;
-use idx_memory::MemSink;
+use idx_memory::{MemBay, MemSink};
+use idx_outside::{Bytes, MemFile};
 use idx_real::{Fault, Reason};
 use std::alloc::{AllocError, Global};
+use std::net::SocketAddr;
 use std::test::Fail;
 
 /// The words of a line, which stand between its bars.
@@ -35,6 +38,10 @@ fn a_message_says_what_helps(rt: HostRuntime) -> Result<(), Fail> {
     let fault = Fault {
         path: "r.raw",
         reason: Reason::NotRegularFile,
+    };
+    let unlistened = Fault {
+        path: "localhost:80",
+        reason: Reason::NotAddress,
     };
     let refused = Cause::Header {
         line: 7,
@@ -95,6 +102,21 @@ fn a_message_says_what_helps(rt: HostRuntime) -> Result<(), Fail> {
             None,
             "idxtool: not published 5\n  v.idx: the step has not been written, or is none of its steps\n",
         ),
+        (
+            "serve|v.idx",
+            Cause::Usage { at: 2 },
+            None,
+            "idxtool: usage at 2\n  word 2 is missing\n  \
+             expected ADDRESS, as 127.0.0.1:8080: 1 to 4096 printable characters, not beginning with -\n  \
+             idxtool --help says more\n",
+        ),
+        (
+            "serve|v.idx|localhost:80",
+            Cause::DoorFault,
+            Some(unlistened),
+            "idxtool: door fault\n  \
+             localhost:80: not a socket address, as 127.0.0.1:8080 or [::1]:8080\n",
+        ),
         (split, Cause::Done, Some(fault), ""),
     ] {
         let shown = printed(rt.alloc(), line, cause, fault)?;
@@ -129,5 +151,58 @@ fn help_is_asked_for_alone(rt: HostRuntime) -> Result<(), Fail> {
     assert!(rt; text_asked_for(&words_in(rt.alloc(), "--help")?).is_some());
     assert!(rt; text_asked_for(&words_in(rt.alloc(), "--help|cut")?).is_none());
     assert!(rt; text_asked_for(&words_in(rt.alloc(), "cut|r.raw")?).is_none());
+    Ok(())
+}
+
+#[test]
+fn a_notice_is_one_line(rt: HostRuntime) -> Result<(), Fail> {
+    let mut err = Vec::new(rt.alloc());
+    let address = "[::1]:8080"
+        .parse::<SocketAddr>()
+        .ok()
+        .expect(&rt, "an address");
+    write_notice(&mut err, address, Some(2), "a\nb.idx")?;
+    write_notice(&mut err, address, None, "v.idx")?;
+    let want = "  listening on [::1]:8080, 2 steps of a\\nb.idx\n  listening on [::1]:8080\n";
+    assert_eq!(rt; err.as_slice(), want.as_bytes());
+    Ok(())
+}
+
+/// The header of a dataset of ten steps.
+const TIMED: &str =
+    "(version)\n6\n(box)\n0 3 0 3\n(fields)\na uint8\n(bits)\nV0101\n(bitsperblock)\n2\n\
+    (blocksperfile)\n2\n(filename_template)\n./%01x.bin\n(time)\n0 9 time%04d/\n";
+
+/// How many steps are counted of a dataset with this header of which the steps 0 and 9 stand. This call of it fails.
+fn counted(alloc: Global, header: &str, fails: u64) -> Result<Option<u64>, AllocError> {
+    let mut files = Vec::new(alloc);
+    for folder in ["time0000", "time0009"] {
+        let path = format!(in alloc; "{folder}/0.bin")?;
+        files.push(MemFile {
+            folder: Bytes::from_vec(Vec::from_slice(alloc, folder.as_bytes())?),
+            path: Bytes::from_vec(path.into_bytes()),
+            bytes: Bytes::new(alloc),
+        })?;
+    }
+    let header = Bytes::from_vec(Vec::from_slice(alloc, header.as_bytes())?);
+    let fails = Vec::from_slice(alloc, &[fails])?;
+    let mut bay = MemBay::new(header, files, fails, Vec::new(alloc));
+    Ok(standing_steps(alloc, &mut bay))
+}
+
+#[test]
+fn the_steps_that_stand_are_counted(rt: HostRuntime) -> Result<(), Fail> {
+    let untimed = TIMED
+        .strip_suffix("(time)\n0 9 time%04d/\n")
+        .expect(&rt, "a time");
+    for (header, fails, want) in [
+        (TIMED, 0, Some(2)),
+        (untimed, 0, Some(1)),
+        ("", 0, None),
+        (TIMED, 1, None),
+        (TIMED, 11, None),
+    ] {
+        assert_eq!(rt; counted(rt.alloc(), header, fails)?, want);
+    }
     Ok(())
 }

@@ -70,6 +70,24 @@ idxtool: samples, headers and files of ViSUS IDX data, with proved answers
       BLOCKS   how many blocks the cache keeps, 1 to 65536, else 64; no more
                than have 2^31 bytes in all
 
+  idxtool serve DATASET ADDRESS [--cache BLOCKS] [--workers WORKERS]
+                [--links LINKS]
+      answers, over HTTP at ADDRESS, GET /mod_visus?action=boxquery&dataset=NAME
+      &box=0+63+0+63+0+63 with the samples of the box between two levels, as
+      query writes them, out of the steps that stand when it begins. It says on
+      standard error where it listens
+
+      DATASET  the header file, as run.idx; NAME is its last part without .idx
+      ADDRESS  as 127.0.0.1:8080 or [::1]:8080; port 0 takes a free one
+      BLOCKS   as for query
+      WORKERS  1 to 64, else 1; it has no effect yet
+      LINKS    how many links are served; then it writes `links N replies Q` to
+               standard output and ends. Else it serves until it is stopped
+
+      A head may also have &time=, else the first step, &field=, else the first
+      field, and &fromh= and &toh=, the coarsest and the finest level, else 0 and
+      the dataset's levels
+
   idxtool --help
   idxtool --version
 
@@ -77,7 +95,8 @@ Exit statuses: 0 all was written, 1 wrong words, 2 a header is refused, 3 RAW
 has another size, 4 RAW could not be read, 5 DATASET could not be read or
 written, 6 the step stands already or another header stands, 7 the step does not
 stand, 8 no such field, region, levels or step, or too many bytes, 9 standard
-output did not take all, 10 a file of DATASET is damaged, 11 not enough memory.
+output did not take all, 10 a file of DATASET is damaged, 11 not enough memory,
+12 ADDRESS cannot be listened at, or no further link comes.
 ";
 
 /// The text that a list of words asks for, if it is `--help` or `--version` alone.
