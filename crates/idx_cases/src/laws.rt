@@ -5,13 +5,13 @@ ghost use Rattle.idx_words.specs.Words.{GiveCommand, GiveConvert};
 ghost use Rattle.idx_commands.specs.Run.{HaveSameContents, WroteAnswer};
 
 use idx_commands::{Done, run};
-use idx_outside::{Bay, Reader, Sink, Source};
+use idx_outside::{Bay, Door, Reader, Sink, Source};
 use std::alloc::Global;
 
 /// Runs a command that is not `convert` twice, each time over a sink of its own, and says how each run ended. Both are
 /// answered from what there was before the first: a question changes nothing that a later one is answered from. A sink is
 /// untouched where its run ends with neither 0 nor 9.
-pub fn ask_twice<V: Source, B: Bay, R: Reader<B::Leaf>, K: Sink>(
+pub fn ask_twice<V: Source, B: Bay, R: Reader<B::Leaf>, K: Sink, D: Door>(
     alloc: Global,
     words: &[String],
     raws: &mut Vec<V>,
@@ -19,9 +19,11 @@ pub fn ask_twice<V: Source, B: Bay, R: Reader<B::Leaf>, K: Sink>(
     readers: &mut Vec<R>,
     first: &mut K,
     second: &mut K,
+    doors: &mut Vec<D>,
 ) -> (Done, Done)
     requires some { 0 < vec_len raws.old }
     requires reader { 0 < vec_len readers.old }
+    requires door { 0 < vec_len doors.old }
     requires same { HaveSameContents V.contents raws.old.items }
     requires asks { ¬ GiveConvert (map string_bytes words.now) }
     ensures first { result.0.status ≡ 0 → WroteAnswer (map string_bytes words.now)
@@ -39,7 +41,7 @@ pub fn ask_twice<V: Source, B: Bay, R: Reader<B::Leaf>, K: Sink>(
     ensures files { B.files bay.new ≡ B.files bay.old }
     ensures changes { B.changes bay.new ≡ B.changes bay.old }
 {
-    let before = run(alloc, words, raws, bay, readers, first);
-    let after = run(alloc, words, raws, bay, readers, second);
+    let before = run(alloc, words, raws, bay, readers, first, doors);
+    let after = run(alloc, words, raws, bay, readers, second, doors);
     (before, after)
 }

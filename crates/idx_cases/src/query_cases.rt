@@ -327,9 +327,9 @@ fn first_other_failure(alloc: Global) -> Result<Option<usize>, AllocError> {
 }
 
 /// The first row of a file, and how many bytes of the file there are; the row that is then faulty, and how.
-type Damage = ([u32; 4], usize, u64, TableKind);
+pub(crate) type Damage = ([u32; 4], usize, u64, TableKind);
 
-static DAMAGES: [Damage; 8] = [
+pub(crate) static DAMAGES: [Damage; 8] = [
     ([120, 0, 4, 0], 127, 1, TableKind::OutsideFile),
     ([120, 0, 4, 0], 79, 0, TableKind::CutShort),
     ([120, 0, 4, 0], 0, 0, TableKind::CutShort),
@@ -351,7 +351,7 @@ fn first_other_damage(alloc: Global) -> Result<Option<usize>, AllocError> {
 }
 
 /// The first file is damaged.
-fn first_damaged((first, kept, row, kind): Damage) -> Case {
+pub(crate) fn first_damaged((first, kept, row, kind): Damage) -> Case {
     let zero = Stored {
         first,
         kept,
@@ -369,7 +369,7 @@ fn first_damaged((first, kept, row, kind): Damage) -> Case {
 }
 
 /// The second file is damaged.
-fn second_damaged((first, kept, row, kind): Damage) -> Case {
+pub(crate) fn second_damaged((first, kept, row, kind): Damage) -> Case {
     let two = Stored { first, kept, ..TWO };
     Case {
         step: Some(Step {

@@ -1,6 +1,6 @@
 //! A case: words, what stands before a run over forms in memory, and how the run is to end.
 use idx_commands::{Cause, Done, run};
-use idx_memory::{MemBay, MemReader, MemSink, MemSource};
+use idx_memory::{MemBay, MemDoor, MemReader, MemSink, MemSource};
 use idx_outside::{Bytes, MemFile};
 use std::alloc::{AllocError, Global};
 
@@ -87,22 +87,42 @@ pub(crate) fn first_other(alloc: Global, cases: &[Case]) -> Result<Option<usize>
     Ok(None)
 }
 
-/// Whether a case ends as it is to.
+/// Whether a case that uses no door ends as it is to.
 fn ends_as_wanted(alloc: Global, case: &Case) -> Result<bool, AllocError> {
-    let mut bay = bay_of(alloc, case)?;
-    if !case.earlier.is_empty() {
-        let _ = run_over(alloc, case.earlier, case.raw, NONE_FAILS, &mut bay)?;
-    }
-    let end = run_over(alloc, case.words, case.raw, case.fails, &mut bay)?;
-    Ok(is_wanted(&end, case) && leaves_as_wanted(alloc, case, &bay)?)
+    Ok(door_after(alloc, case, unused_door(alloc)?)?.is_some())
 }
 
-/// How a run ended, what it wrote to the sink, and how many leaves it read.
+/// The door after the run of a case over it. `None` where the run does not end as it is to.
+pub(crate) fn door_after(
+    alloc: Global,
+    case: &Case,
+    door: MemDoor,
+) -> Result<Option<MemDoor>, AllocError> {
+    let mut bay = bay_of(alloc, case)?;
+    if !case.earlier.is_empty() {
+        let earlier = unused_door(alloc)?;
+        let _ = run_over(alloc, case.earlier, case.raw, NONE_FAILS, &mut bay, earlier)?;
+    }
+    let end = run_over(alloc, case.words, case.raw, case.fails, &mut bay, door)?;
+    if is_wanted(&end, case) && leaves_as_wanted(alloc, case, &bay)? {
+        Ok(end.door)
+    } else {
+        Ok(None)
+    }
+}
+
+/// A door without links, whose first call fails.
+fn unused_door(alloc: Global) -> Result<MemDoor, AllocError> {
+    Ok(MemDoor::new(Vec::new(alloc), calls(alloc, 1)?))
+}
+
+/// How a run ended, what it wrote to the sink, how many leaves it read, and its door.
 #[derive(Drop)]
 struct End {
     done: Done,
     written: Vec<u8>,
     reads: u64,
+    door: Option<MemDoor>,
 }
 
 fn is_wanted(end: &End, case: &Case) -> bool {
@@ -146,27 +166,39 @@ fn is_same(found: &MemFile, wanted: &MemFile) -> bool {
         && found.bytes.as_slice() == wanted.bytes.as_slice()
 }
 
-/// A run on these words over a bay, this raw volume, a reader and a sink.
+/// A run on these words over a bay, this raw volume, a reader, a sink and a door.
 fn run_over(
     alloc: Global,
     line: &str,
     raw: (u8, usize),
     fails: Fails,
     bay: &mut MemBay,
+    door: MemDoor,
 ) -> Result<End, AllocError> {
     let words = words_in(alloc, line)?;
     let mut raws = Vec::with_capacity(alloc, 1)?;
     raws.push(raw_of(alloc, raw, fails.raw)?)?;
     let mut readers = Vec::with_capacity(alloc, 1)?;
     readers.push(MemReader::new(calls(alloc, fails.reader)?))?;
+    let mut doors = Vec::with_capacity(alloc, 1)?;
+    doors.push(door)?;
     let mut out = MemSink::new(calls(alloc, fails.sink)?);
-    let done = run(alloc, &words, &mut raws, bay, &mut readers, &mut out);
+    let done = run(
+        alloc,
+        &words,
+        &mut raws,
+        bay,
+        &mut readers,
+        &mut out,
+        &mut doors,
+    );
     let reads = readers.first().map_or(0, MemReader::reads);
     let written = Vec::from_slice(alloc, out.written().as_slice())?;
     Ok(End {
         done,
         written,
         reads,
+        door: doors.pop(),
     })
 }
 
@@ -180,7 +212,7 @@ fn words_in(alloc: Global, line: &str) -> Result<Vec<String>, AllocError> {
 }
 
 /// The call of this number, which is to fail.
-fn calls(alloc: Global, number: u64) -> Result<Vec<u64>, AllocError> {
+pub(crate) fn calls(alloc: Global, number: u64) -> Result<Vec<u64>, AllocError> {
     Vec::from_slice(alloc, &[number])
 }
 

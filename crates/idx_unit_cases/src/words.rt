@@ -1,4 +1,4 @@
-use idx_words::{Command, ConvertWords, read_serve, read_words};
+use idx_words::{Command, ConvertWords, read_words};
 use std::alloc::{AllocError, Global};
 
 /// Words of `cut` and `info` and of no command, each behind the place of the first that is wrong or missing.
@@ -100,6 +100,27 @@ const QUERY: &str = "\
 9 query|v.idx|0|a|0 3 0 3|0|2|--cache|64|3\n\
 ";
 
+/// The same of `serve`.
+const SERVE: &str = "\
+0 Serve|v.idx|a\n\
+1 serve\n\
+1 serve|-v.idx|a\n\
+2 serve|v.idx\n\
+2 serve|v.idx|-a\n\
+2 serve|v.idx||--cache|4\n\
+3 serve|v.idx|a|0\n\
+3 serve|v.idx|a|--ranks|2\n\
+3 serve|v.idx|a|--ingest|0\n\
+4 serve|v.idx|a|--cache\n\
+4 serve|v.idx|a|--cache|65537\n\
+4 serve|v.idx|a|--workers|65\n\
+4 serve|v.idx|a|--links|0\n\
+4 serve|v.idx|a|--links|10000000000000000000\n\
+5 serve|v.idx|a|--links|1|--links|1\n\
+6 serve|v.idx|a|--links|1|--cache\n\
+9 serve|v.idx|a|--links|1|--cache|1|--workers|1|--cache|1\n\
+";
+
 /// The words of a line, which stand between its bars.
 fn words_in(alloc: Global, line: &str) -> Result<Vec<String>, AllocError> {
     let mut words = Vec::new(alloc);
@@ -142,6 +163,7 @@ fn the_first_word_after_which_nothing_goes_is_the_place(rt: HostRuntime) {
     assert_eq!(rt; right_rows(rt.alloc(), CUT), 36);
     assert_eq!(rt; right_rows(rt.alloc(), CONVERT), 17);
     assert_eq!(rt; right_rows(rt.alloc(), QUERY), 34);
+    assert_eq!(rt; right_rows(rt.alloc(), SERVE), 17);
 }
 
 /// The bytes and the levels that words of `cut` ask for.
@@ -188,12 +210,12 @@ fn ranks_of(alloc: Global, line: &str) -> Option<u32> {
     }
 }
 
-/// The blocks, the workers and the links that the words behind `serve` ask for.
+/// The blocks, the workers and the links that words of `serve` ask for.
 fn serve_of(alloc: Global, line: &str) -> Option<(u32, u32, Option<u64>)> {
     let words = words_in(alloc, line).ok()?;
-    match read_serve(&words) {
-        Ok(serve) => Some((serve.cache, serve.workers, serve.links)),
-        Err(_) => None,
+    match read_words(&words) {
+        Ok(Command::Serve(serve)) => Some((serve.cache, serve.workers, serve.links)),
+        _ => None,
     }
 }
 
@@ -201,8 +223,8 @@ fn serve_of(alloc: Global, line: &str) -> Option<(u32, u32, Option<u64>)> {
 fn options_are_read(rt: HostRuntime) {
     let convert = "convert|v|r|b|f|m|b|p|t|t|0|--ranks|0256";
     assert!(rt; ranks_of(rt.alloc(), convert) == Some(256));
-    assert!(rt; serve_of(rt.alloc(), "v|a") == Some((64, 1, None)));
-    let serve = "v|[::1]:80|--links|9999999999999999999|--cache|2|--workers|64";
+    assert!(rt; serve_of(rt.alloc(), "serve|v|a") == Some((64, 1, None)));
+    let serve = "serve|v|[::1]:80|--links|9999999999999999999|--cache|2|--workers|64";
     assert!(rt; serve_of(rt.alloc(), serve) == Some((2, 64, Some(9_999_999_999_999_999_999))));
 }
 
