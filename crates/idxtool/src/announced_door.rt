@@ -65,7 +65,7 @@ impl<R: Sockets, B: Bay + Drop, W: Write + Drop> Door for AnnouncedDoor<R, B, W>
         ensures count { NeverFalls self.old.faults.count self.new.faults.count }
         ensures cause { OnErr result (Rose self.old.faults.count self.new.faults.count) }
     {
-        if let Some(notice) = self.notice.take() {
+        if let Some(mut notice) = self.notice.take() {
             notice.give();
         }
         self.door.accept()

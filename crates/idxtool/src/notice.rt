@@ -28,7 +28,7 @@ pub struct Notice<R: Sockets, B: Bay + Drop, W: Write + Drop> {
 impl<R: Sockets, B: Bay + Drop, W: Write + Drop> Notice<R, B, W> {
     /// Opens the address, and writes the line. Nothing is written where that cannot be listened at, and a line that
     /// cannot be written changes nothing.
-    pub fn give(mut self) {
+    pub fn give(&mut self) {
         if let Ok(address) = self.shared.bind(&self.rt) {
             let steps = standing_steps(self.alloc, &mut self.bay);
             let _ = write_notice(&mut self.err, address, steps, self.dataset.as_str());
