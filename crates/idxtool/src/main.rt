@@ -2,10 +2,9 @@
 //! or a step of a dataset out of a raw volume; or answers questions for the samples of a dataset over HTTP.
 #![tactic(auto)]
 
-ghost use Rattle.std.specs.Prelude.{◌≡◌, IfOk, vec_len};
-
 mod announced_door;
 mod notice;
+mod outside;
 mod paths;
 mod plain_words;
 mod report;
@@ -14,19 +13,13 @@ mod shown;
 mod tests;
 mod usage;
 
-use announced_door::AnnouncedDoor;
 use idx_commands::{Cause, Done, run};
-use idx_real::{
-    FileReader, FileSource, FolderBay, Patience, SharedListener, Sockets, StdSink, TcpDoor,
-};
-use idx_words::{Command, read_words};
-use notice::Notice;
-use paths::{dataset_path, door_address, raw_path};
+use idx_real::{Sockets, StdSink};
+use outside::{dataset_files, file_readers, last_fault, raw_files, tcp_doors};
 use report::report;
 use std::alloc::AllocError;
-use std::io::{ErrorKind, Stderr};
+use std::io::ErrorKind;
 use std::process::ExitCode;
-use std::sync::Arc;
 use std::{env, io};
 use usage::{text_asked_for, write_text};
 
@@ -81,74 +74,8 @@ fn run_over_files<R: Sockets>(
         &mut out,
         &mut doors,
     );
-    let fault = match done.cause {
-        Cause::RawFault => raws[0].last_fault(),
-        Cause::StoreFault => bay.last_fault().or(readers[0].last_fault()),
-        Cause::SinkFault => out.last_fault(),
-        Cause::DoorFault => doors[0].last_fault(),
-        _ => None,
-    };
+    let fault = last_fault(done.cause, &raws, &bay, &readers, &out, &doors);
     Ok(report(rt.alloc(), &mut rt.stderr(), done, words, fault))
-}
-
-/// The raw volumes that the words name: one, or one without a path.
-fn raw_files(rt: &HostRuntime, words: &[String]) -> Result<Vec<FileSource<HostRuntime>>, AllocError>
-    ensures { IfOk result (λ raws. vec_len raws ≡ 1) }
-{
-    let path = String::from_str(rt.alloc(), raw_path(words))?;
-    let mut raws = Vec::with_capacity(rt.alloc(), 1)?;
-    raws.push(FileSource::new(rt.clone()?, path))?;
-    Ok(raws)
-}
-
-/// The dataset that the words name, or one without a path.
-fn dataset_files(rt: &HostRuntime, words: &[String]) -> Result<FolderBay<HostRuntime>, AllocError> {
-    let path = String::from_str(rt.alloc(), dataset_path(words))?;
-    Ok(FolderBay::new(rt.clone()?, path))
-}
-
-/// The readers of the dataset's files: one.
-fn file_readers(rt: &HostRuntime) -> Result<Vec<FileReader<HostRuntime>>, AllocError>
-    ensures { IfOk result (λ readers. vec_len readers ≡ 1) }
-{
-    let mut readers = Vec::with_capacity(rt.alloc(), 1)?;
-    readers.push(FileReader::new(rt.clone()?, rt.alloc()))?;
-    Ok(readers)
-}
-
-/// A door at the address that the words name, which says on standard error where it listens.
-type StdDoor<R> = AnnouncedDoor<R, FolderBay<HostRuntime>, Stderr>;
-
-/// The doors at that address: one.
-fn tcp_doors<R: Sockets>(
-    rt: &HostRuntime,
-    sockets: R,
-    words: &[String],
-) -> Result<Vec<StdDoor<R>>, AllocError>
-    ensures { IfOk result (λ doors. vec_len doors ≡ 1) }
-{
-    let address = String::from_str(rt.alloc(), door_address(words))?;
-    let shared = Arc::new(rt.alloc(), SharedListener::new(address))?;
-    let notice = Notice {
-        rt: sockets,
-        alloc: rt.alloc(),
-        shared: Arc::try_clone(&shared)?,
-        dataset: String::from_str(rt.alloc(), dataset_path(words))?,
-        bay: dataset_files(rt, words)?,
-        err: rt.stderr(),
-    };
-    let door = TcpDoor::new(sockets, shared, links_of(words), Patience::of_a_server());
-    let mut doors = Vec::with_capacity(rt.alloc(), 1)?;
-    doors.push(AnnouncedDoor::new(notice, door))?;
-    Ok(doors)
-}
-
-/// How many links the words let a door hand out; `None` for as many as come.
-fn links_of(words: &[String]) -> Option<u64> {
-    match read_words(words) {
-        Ok(Command::Serve(serve)) => serve.links,
-        _ => None,
-    }
 }
 
 /// Ends before anything was done.

@@ -1,0 +1,101 @@
+//! The objects of the outside that a run uses: files, standard output and sockets, as the words name them.
+ghost use Rattle.std.specs.Prelude.{◌≡◌, IfOk, vec_len};
+
+use crate::announced_door::AnnouncedDoor;
+use crate::notice::Notice;
+use crate::paths::{dataset_path, door_address, raw_path};
+use idx_commands::Cause;
+use idx_real::{
+    Fault, FileReader, FileSource, FolderBay, Patience, SharedListener, Sockets, StdSink, TcpDoor,
+};
+use idx_words::{Command, read_words};
+use std::alloc::AllocError;
+use std::io::{Stderr, Stdout};
+use std::sync::Arc;
+
+/// A door at the address that the words name, which says on standard error where it listens.
+pub type StdDoor<R> = AnnouncedDoor<R, FolderBay<HostRuntime>, Stderr>;
+
+/// The raw volumes that the words name: one, or one without a path.
+pub fn raw_files(
+    rt: &HostRuntime,
+    words: &[String],
+) -> Result<Vec<FileSource<HostRuntime>>, AllocError>
+    ensures { IfOk result (λ raws. vec_len raws ≡ 1) }
+{
+    let path = String::from_str(rt.alloc(), raw_path(words))?;
+    let mut raws = Vec::with_capacity(rt.alloc(), 1)?;
+    raws.push(FileSource::new(rt.clone()?, path))?;
+    Ok(raws)
+}
+
+/// The dataset that the words name, or one without a path.
+pub fn dataset_files(
+    rt: &HostRuntime,
+    words: &[String],
+) -> Result<FolderBay<HostRuntime>, AllocError> {
+    let path = String::from_str(rt.alloc(), dataset_path(words))?;
+    Ok(FolderBay::new(rt.clone()?, path))
+}
+
+/// The readers of the dataset's files: one.
+pub fn file_readers(rt: &HostRuntime) -> Result<Vec<FileReader<HostRuntime>>, AllocError>
+    ensures { IfOk result (λ readers. vec_len readers ≡ 1) }
+{
+    let mut readers = Vec::with_capacity(rt.alloc(), 1)?;
+    readers.push(FileReader::new(rt.clone()?, rt.alloc()))?;
+    Ok(readers)
+}
+
+/// The doors at the address that the words name: one.
+pub fn tcp_doors<R: Sockets>(
+    rt: &HostRuntime,
+    sockets: R,
+    words: &[String],
+) -> Result<Vec<StdDoor<R>>, AllocError>
+    ensures { IfOk result (λ doors. vec_len doors ≡ 1) }
+{
+    let address = String::from_str(rt.alloc(), door_address(words))?;
+    let shared = Arc::new(rt.alloc(), SharedListener::new(address))?;
+    let notice = Notice {
+        rt: sockets,
+        alloc: rt.alloc(),
+        shared: Arc::try_clone(&shared)?,
+        dataset: String::from_str(rt.alloc(), dataset_path(words))?,
+        bay: dataset_files(rt, words)?,
+        err: rt.stderr(),
+    };
+    let door = TcpDoor::new(sockets, shared, links_of(words), Patience::of_a_server());
+    let mut doors = Vec::with_capacity(rt.alloc(), 1)?;
+    doors.push(AnnouncedDoor::new(notice, door))?;
+    Ok(doors)
+}
+
+/// How many links the words let a door hand out; `None` for as many as come.
+fn links_of(words: &[String]) -> Option<u64> {
+    match read_words(words) {
+        Ok(Command::Serve(serve)) => serve.links,
+        _ => None,
+    }
+}
+
+/// Why the call failed that ended a run with this cause, and where.
+pub fn last_fault<'o, R: Sockets>(
+    cause: Cause,
+    raws: &'o [FileSource<HostRuntime>],
+    bay: &'o FolderBay<HostRuntime>,
+    readers: &'o [FileReader<HostRuntime>],
+    out: &'o StdSink<Stdout>,
+    doors: &'o [StdDoor<R>],
+) -> Option<Fault<'o>> {
+    match cause {
+        Cause::RawFault => raws.first()?.last_fault(),
+        Cause::StoreFault => match bay.last_fault() {
+            Some(fault) => Some(fault),
+            None => readers.first()?.last_fault(),
+        },
+        Cause::SinkFault => out.last_fault(),
+        Cause::DoorFault => doors.first()?.last_fault(),
+        _ => None,
+    }
+}
