@@ -23,3 +23,7 @@ store_fault_is _ five = absurd (omega (arith, five))
 pub sink_fault_is : (cause : Cause) → status_of cause ≡ 9 → cause ≡ causes.SinkFault
 sink_fault_is causes.SinkFault nine = refl
 sink_fault_is _ nine = absurd (omega (arith, nine))
+
+pub door_fault_is : (cause : Cause) → status_of cause ≡ 12 → cause ≡ causes.DoorFault
+door_fault_is causes.DoorFault twelve = refl
+door_fault_is _ twelve = absurd (omega (arith, twelve))

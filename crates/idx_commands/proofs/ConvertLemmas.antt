@@ -268,6 +268,7 @@ judged P c k text built done starved failed = end
     end causes.Done (other, (is, wrote)) = done (subst (λ x. Converted x c.step k) (same other is) wrote)
     end (causes.Usage place) ends = absurd ends
     end causes.SinkFault ends = absurd ends
+    end causes.DoorFault ends = absurd ends
     end causes.NoMemory ends = starved
     end cause (other, (is, f)) = at cause other is f
 

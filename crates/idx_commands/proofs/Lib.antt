@@ -5,5 +5,7 @@ pub mod CutLemmas
 pub mod InfoLemmas
 pub mod ConvertLemmas
 pub mod QueryLemmas
+pub mod ServeLemmas
+pub mod SiteNameLemmas
 pub mod RunLemmas
 pub mod AnswerLemmas

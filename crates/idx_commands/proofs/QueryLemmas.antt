@@ -35,16 +35,16 @@ use Rattle.idx_commands.specs.QueryRun.{HasCause, HasSoundStep, IsBayOutage, IsD
 -- ---- what is known
 
 -- the header that is known and the one that was read are one
-both_of : {T : Type 0} (known : Option (List ℕ)) (P Q : HeaderValue → Type 0) → ReadsAs known P → Under known Q → ((h : HeaderValue) → P h → Q h → T) → T
+pub both_of : {T : Type 0} (known : Option (List ℕ)) (P Q : HeaderValue → Type 0) → ReadsAs known P → Under known Q → ((h : HeaderValue) → P h → Q h → T) → T
 both_of None P Q reads under make = absurd reads
 both_of (Some text) P Q (g, (reads, p)) (h, (too, q)) make = make h (subst P (one_header text g h reads too) p) q
 
 -- a text that is refused is not one that was read
-not_bad : (known : Option (List ℕ)) (Q : HeaderValue → Type 0) → Under known Q → IsSomeAnd known (λ text. IsErr (header_of text)) → ⊥
+pub not_bad : (known : Option (List ℕ)) (Q : HeaderValue → Type 0) → Under known Q → IsSomeAnd known (λ text. IsErr (header_of text)) → ⊥
 not_bad None Q under bad = bad
 not_bad (Some text) Q (h, (reads, q)) bad = false≢true (subst IsErr reads bad)
 
-not_read : (known : Option (List ℕ)) (P : HeaderValue → Type 0) (fault : HeaderFault) → ReadsAs known P → IfSome known (λ text. header_of text ≡ Err fault) → ⊥
+pub not_read : (known : Option (List ℕ)) (P : HeaderValue → Type 0) (fault : HeaderFault) → ReadsAs known P → IfSome known (λ text. header_of text ≡ Err fault) → ⊥
 not_read None P fault reads refused = reads
 not_read (Some text) P fault (h, (reads, p)) refused = not_refused text h fault reads refused
 
@@ -58,7 +58,7 @@ abbrev load_in : Option LoadFault → LoadFault
 load_in (Some fault) = fault
 load_in None = loads.NoMemory
 
-some_not_none : {X : Type 0} (x : X) (o : Option X) → o ≡ Some x → o ≡ None → ⊥
+pub some_not_none : {X : Type 0} (x : X) (o : Option X) → o ≡ Some x → o ≡ None → ⊥
 some_not_none x o some none = let same = sym some ∙ none in cc
 
 module _ (h : HeaderValue) (q : QuestionValue) (files : Option (List MemFile)) where

@@ -1,14 +1,16 @@
 -- What a run comes to, by the command that its words give and by how that command ended.
-use Rattle.std.proofs.Common.{◌≡◌, ◌≢◌, ◌⊎◌, ℕ, ◌+◌, ◌<◌, ◌≤◌, List, [], ◌∷◌, Option, Result, Ok, inl, inr, refl, sym, ◌∙◌, ap, subst, length, take, drop, codes, arith}
+use Rattle.std.proofs.Common.{◌≡◌, ◌≢◌, ◌⊎◌, ℕ, ◌+◌, ◌<◌, ◌≤◌, List, [], ◌∷◌, Option, Result, Ok, inl, inr, refl, sym, ◌∙◌, ap, subst, length, take, drop, bytes_eq, codes, arith}
+use Rattle.std.proofs.lemmas.Bool.{false≢true}
 use Rattle.idx_outside.specs.Cause.{Rose}
 use Rattle.idx_outside.specs.Contents.{appended, AppendsPrefix}
 use Rattle.idx_outside.specs.Objects.{OthersUntouched, UsesOnly, faults_at}
 use Rattle.idx_words.specs.declared.cut_words.CutWords.{CutWords}
 use Rattle.idx_words.specs.ConvertValue.{ConvertValue}
 use Rattle.idx_words.specs.QueryValue.{QueryValue}
+use Rattle.idx_words.specs.ServeValue.{ServeValue}
 use Rattle.idx_words.specs.declared.command.Command.{Command}
-use Rattle.idx_words.specs.declared.command.Command.TheVariants.{Cut, Info, Convert, Query}
-use Rattle.idx_words.specs.Words.{Give, GiveConvert, GiveCut, GiveInfo, GiveQuery, IsConvert, IsCut, IsInfo, IsQuery}
+use Rattle.idx_words.specs.declared.command.Command.TheVariants.{Cut, Info, Convert, Query, Serve}
+use Rattle.idx_words.specs.Words.{Give, GiveConvert, GiveCut, GiveInfo, GiveQuery, GiveServe, IsConvert, IsCut, IsInfo, IsQuery, IsServe}
 use Rattle.idx_commands.specs.declared.causes.Cause.{Cause}
 use Rattle.idx_commands.specs.declared.causes.Cause.TheVariants as causes
 use Rattle.idx_commands.specs.Cause.{status_of}
@@ -16,14 +18,16 @@ use Rattle.idx_commands.specs.CutRun.{CutEnds, CutMeans}
 use Rattle.idx_commands.specs.InfoRun.{InfoEnds, InfoMeans}
 use Rattle.idx_commands.specs.ConvertRun.{ConvertEnds, ConvertMeans}
 use Rattle.idx_commands.specs.QueryRun.{IsBayOutage, IsReaderOutage, QueryEnds, QueryMeans}
+use Rattle.idx_commands.specs.ServeRun.{ServeEnds, ServeMeans}
 use Rattle.idx_commands.specs.Known.{Known, known}
-use Rattle.idx_commands.specs.Seen.{BaySeen, IsUnchanged, raw_after, raw_before, raw_bytes, reader_counts}
+use Rattle.idx_commands.specs.Seen.{BaySeen, IsUnchanged, door_pair, raw_after, raw_before, raw_bytes, reader_counts}
 use Rattle.idx_commands.specs.Run.{AreNamed, CommandEnds, CountsFaults, LeavesRest, RunSeen, Writes, WroteAnswer, WrotePrefix}
-use Rattle.idx_commands.proofs.CauseLemmas.{done_is, raw_fault_is, sink_fault_is, store_fault_is, usage_is}
+use Rattle.idx_commands.proofs.CauseLemmas.{done_is, door_fault_is, raw_fault_is, sink_fault_is, store_fault_is, usage_is}
 use Rattle.idx_commands.proofs.CutLemmas.{cut_silent}
 use Rattle.idx_commands.proofs.InfoLemmas.{info_silent}
 use Rattle.idx_commands.proofs.ConvertLemmas.{raw_cause, store_cause}
 use Rattle.idx_commands.proofs.QueryLemmas.{query_silent, query_writes}
+use Rattle.idx_commands.proofs.ServeLemmas.{door_rose, serve_silent, totals_begun, totals_written}
 
 -- ---- the command that words give
 
@@ -37,6 +41,11 @@ name_of (Cut c) = codes "cut"
 name_of Info = codes "info"
 name_of (Convert c) = codes "convert"
 name_of (Query q) = codes "query"
+name_of (Serve v) = codes "serve"
+
+-- two names of as many letters differ
+pub query_not_serve : codes "query" ≡ codes "serve" → ⊥
+query_not_serve same = false≢true (ap (λ name. bytes_eq name (codes "serve")) same)
 
 -- words that give a command begin with its name
 pub given_named : (words : List (List ℕ)) (command : Command) (name : List ℕ) → AreNamed words name → Give words command → name ≡ name_of command
@@ -45,6 +54,7 @@ given_named (first ∷ words) (Cut c) name named given = sym named ∙ given.0
 given_named (first ∷ words) Info name named given = sym named ∙ given.0
 given_named (first ∷ words) (Convert c) name named given = sym named ∙ given.0
 given_named (first ∷ words) (Query q) name named given = sym named ∙ given.0
+given_named (first ∷ words) (Serve v) name named given = sym named ∙ given.0
 
 -- words that begin with the name of a command give no other
 pub misnamed : (words : List (List ℕ)) (command other : Command) (name : List ℕ) → AreNamed words name → Give words command → command ≡ other →
@@ -71,7 +81,7 @@ not_changed : {B : Type 0} (bay : BaySeen B) → bay.new ≡ bay.old → IsUncha
 not_changed bay same =
     record { header = ap bay.header same; files = ap bay.files same; begun = ap bay.begun same; changes = ap bay.changes same }
 
-module _ {V B R K : Type 0} (words : List (List ℕ)) (seen : RunSeen V B R K) where
+module _ {V B R K D L : Type 0} (words : List (List ℕ)) (seen : RunSeen V B R K D L) where
   abbrev E : Command → Cause → Type 0
   E command cause = CommandEnds seen command cause
 
@@ -99,13 +109,21 @@ module _ {V B R K : Type 0} (words : List (List ℕ)) (seen : RunSeen V B R K) w
       QueryEnds q seen.bay seen.readers seen.sink cause
   of_query command only cause e q given = let all : E (Query q) cause = ended command only cause e (Query q) given in all.0
 
+  pub of_serve : (command : Command) → Only command → (cause : Cause) → E command cause → (v : ServeValue) → Give words (Serve v) →
+      ServeEnds v seen.bay seen.readers seen.sink seen.doors cause
+  of_serve command only cause e v given = let all : E (Serve v) cause = ended command only cause e (Serve v) given in all.0
+
   -- ---- what is written
+
+  abbrev Serves : ServeValue → Cause → Type 0
+  Serves v cause = ServeMeans v seen.bay (reader_counts seen.readers) seen.sink seen.doors.links (door_pair seen.doors) (seen.doors.new ≡ seen.doors.old) cause
 
   pub no_usage : (command : Command) (cause : Cause) → E command cause → status_of cause ≡ 1 → ⊥
   no_usage (Cut c) cause e one = subst (CutMeans c (raw_bytes seen.raws) (raw_before seen.raws) (raw_after seen.raws) seen.sink) (usage_is cause one).1 e.0.means
   no_usage Info cause e one = let m = subst (InfoMeans seen.bay seen.sink) (usage_is cause one).1 e.0.means in m.0
   no_usage (Convert c) cause e one = subst (ConvertMeans c (known seen.raws seen.bay)) (usage_is cause one).1 e.0.means
   no_usage (Query q) cause e one = subst (QueryMeans q seen.bay (reader_counts seen.readers) seen.sink) (usage_is cause one).1 e.0.means
+  no_usage (Serve v) cause e one = subst (Serves v) (usage_is cause one).1 e.0.means
 
   writes : (command : Command) → E command causes.Done →
       Writes command (raw_bytes seen.raws) (seen.bay.header seen.bay.old) (seen.bay.files seen.bay.old)
@@ -114,6 +132,7 @@ module _ {V B R K : Type 0} (words : List (List ℕ)) (seen : RunSeen V B R K) w
   writes (Cut c) e = e.0.means.1
   writes Info e = e.0.means
   writes (Convert c) e = ap seen.sink.contents e.2
+  writes (Serve v) e = totals_written v seen.bay seen.readers seen.sink seen.doors e.0.means
   writes (Query q) e =
       let m = e.0.means in
       query_writes (λ answer. seen.sink.contents seen.sink.new ≡ appended (seen.sink.contents seen.sink.old) answer) q
@@ -125,6 +144,7 @@ module _ {V B R K : Type 0} (words : List (List ℕ)) (seen : RunSeen V B R K) w
   writes_prefix (Cut c) e = e.0.means.2
   writes_prefix Info e = e.0.means.1
   writes_prefix (Convert c) e = e.0.means
+  writes_prefix (Serve v) e = totals_begun v seen.bay seen.readers seen.sink seen.doors e.0.means
   writes_prefix (Query q) e =
       let m = e.0.means in
       query_writes (λ answer. AppendsPrefix (seen.sink.contents seen.sink.old) (seen.sink.contents seen.sink.new) answer) q
@@ -146,6 +166,7 @@ module _ {V B R K : Type 0} (words : List (List ℕ)) (seen : RunSeen V B R K) w
   silent Info cause e = info_silent seen.bay seen.sink cause e.0.means
   silent (Convert c) cause e = λ zero nine. e.2
   silent (Query q) cause e = query_silent q seen.bay seen.readers seen.sink cause e.0.means
+  silent (Serve v) cause e = serve_silent v seen.bay seen.readers seen.sink seen.doors cause e.0.means
 
   -- ---- the faults
 
@@ -154,6 +175,9 @@ module _ {V B R K : Type 0} (words : List (List ℕ)) (seen : RunSeen V B R K) w
 
   abbrev raw_count : List V → ℕ
   raw_count raws = faults_at seen.raws.faults raws 0
+
+  abbrev door_count : List D → ℕ
+  door_count doors = faults_at seen.doors.faults doors 0
 
   pub counts_faults : (command : Command) → Give words command → (cause : Cause) → E command cause → CountsFaults words seen cause
   counts_faults (Cut c) gives cause e =
@@ -164,10 +188,13 @@ module _ {V B R K : Type 0} (words : List (List ℕ)) (seen : RunSeen V B R K) w
         store_fault = λ five. absurd (m causes.StoreFault (store_fault_is cause five));
         store_used = λ five. absurd (m causes.StoreFault (store_fault_is cause five));
         sink_fault = λ nine. (m causes.SinkFault (sink_fault_is cause nine)).1;
+        door_fault = λ twelve. absurd (m causes.DoorFault (door_fault_is cause twelve));
+        door_used = λ twelve. absurd (m causes.DoorFault (door_fault_is cause twelve));
         raw_answered = λ more. ap status_of (e.0.raw_answered more);
         store_answered = λ more. absurd (not_more seen.bay.faults seen.bay.old seen.bay.new e.1 more);
-        reader_answered = λ more. absurd (not_more reader_count seen.readers.old seen.readers.new e.2 more);
+        reader_answered = λ other more. absurd (not_more reader_count seen.readers.old seen.readers.new e.2 more);
         sink_answered = λ more. ap status_of (e.0.sink_answered more);
+        door_answered = λ more. absurd (not_more door_count seen.doors.old seen.doors.new e.3 more);
       }
   counts_faults Info gives cause e =
       let m : (other : Cause) → cause ≡ other → InfoMeans seen.bay seen.sink other = λ other is. subst (InfoMeans seen.bay seen.sink) is e.0.means in
@@ -177,10 +204,13 @@ module _ {V B R K : Type 0} (words : List (List ℕ)) (seen : RunSeen V B R K) w
         store_fault = λ five. inl (m causes.StoreFault (store_fault_is cause five)).0;
         store_used = λ five. inl gives;
         sink_fault = λ nine. (m causes.SinkFault (sink_fault_is cause nine)).0;
+        door_fault = λ twelve. absurd (m causes.DoorFault (door_fault_is cause twelve)).0;
+        door_used = λ twelve. absurd (m causes.DoorFault (door_fault_is cause twelve)).0;
         raw_answered = λ more. absurd (not_more raw_count seen.raws.old seen.raws.new e.1 more);
         store_answered = λ more. ap status_of (e.0.store_answered more);
-        reader_answered = λ more. absurd (not_more reader_count seen.readers.old seen.readers.new e.2 more);
+        reader_answered = λ other more. absurd (not_more reader_count seen.readers.old seen.readers.new e.2 more);
         sink_answered = λ more. ap status_of (e.0.sink_answered more);
+        door_answered = λ more. absurd (not_more door_count seen.doors.old seen.doors.new e.3 more);
       }
   counts_faults (Convert c) gives cause e =
       let k : Known = known seen.raws seen.bay in
@@ -191,10 +221,13 @@ module _ {V B R K : Type 0} (words : List (List ℕ)) (seen : RunSeen V B R K) w
         store_fault = λ five. inl (store_cause c k (m causes.StoreFault (store_fault_is cause five)));
         store_used = λ five. inr (inl (c, gives));
         sink_fault = λ nine. absurd (m causes.SinkFault (sink_fault_is cause nine));
+        door_fault = λ twelve. absurd (m causes.DoorFault (door_fault_is cause twelve));
+        door_used = λ twelve. absurd (m causes.DoorFault (door_fault_is cause twelve));
         raw_answered = λ more. ap status_of (e.0.raw_answered more);
         store_answered = λ more. ap status_of (e.0.store_answered more);
-        reader_answered = λ more. absurd (not_more reader_count seen.readers.old seen.readers.new e.1 more);
+        reader_answered = λ other more. absurd (not_more reader_count seen.readers.old seen.readers.new e.1 more);
         sink_answered = λ more. absurd (not_more seen.sink.faults seen.sink.old seen.sink.new e.2 more);
+        door_answered = λ more. absurd (not_more door_count seen.doors.old seen.doors.new e.3 more);
       }
   counts_faults (Query q) gives cause e =
       let m : (other : Cause) → cause ≡ other → QueryMeans q seen.bay (reader_counts seen.readers) seen.sink other =
@@ -203,19 +236,47 @@ module _ {V B R K : Type 0} (words : List (List ℕ)) (seen : RunSeen V B R K) w
         raw_fault = λ four. absurd (m causes.RawFault (raw_fault_is cause four));
         raw_used = λ four. absurd (m causes.RawFault (raw_fault_is cause four));
         store_fault = λ five. outage (e.0.store_outage five);
-        store_used = λ five. inr (inr (q, gives));
+        store_used = λ five. inr (inr (inl (q, gives)));
         sink_fault = λ nine. (m causes.SinkFault (sink_fault_is cause nine)).0;
+        door_fault = λ twelve. absurd (m causes.DoorFault (door_fault_is cause twelve));
+        door_used = λ twelve. absurd (m causes.DoorFault (door_fault_is cause twelve));
         raw_answered = λ more. absurd (not_more raw_count seen.raws.old seen.raws.new e.1 more);
         store_answered = λ more. ap status_of (e.0.store_answered more);
-        reader_answered = λ more. ap status_of (e.0.reader_answered more);
+        reader_answered = λ other more. ap status_of (e.0.reader_answered more);
         sink_answered = λ more. ap status_of (e.0.sink_answered more);
+        door_answered = λ more. absurd (not_more door_count seen.doors.old seen.doors.new e.2 more);
       }
     where
       outage : IsBayOutage seen.bay ⊎ IsReaderOutage seen.bay seen.readers →
           Rose (seen.bay.faults seen.bay.old) (seen.bay.faults seen.bay.new)
-          ⊎ (GiveQuery words × Rose (reader_count seen.readers.old) (reader_count seen.readers.new))
+          ⊎ ((GiveQuery words ⊎ GiveServe words) × Rose (reader_count seen.readers.old) (reader_count seen.readers.new))
       outage (inl bay) = inl bay.rose
-      outage (inr reader) = inr ((q, gives), reader.rose)
+      outage (inr reader) = inr (inl (q, gives), reader.rose)
+  counts_faults (Serve v) gives cause e =
+      let m : (other : Cause) → cause ≡ other → Serves v other = λ other is. subst (Serves v) is e.0.means in
+      record {
+        raw_fault = λ four. absurd (m causes.RawFault (raw_fault_is cause four));
+        raw_used = λ four. absurd (m causes.RawFault (raw_fault_is cause four));
+        store_fault = λ five. outage (e.0.store_outage five);
+        store_used = λ five. inr (inr (inr (v, gives)));
+        sink_fault = λ nine. (m causes.SinkFault (sink_fault_is cause nine)).0;
+        door_fault = λ twelve. door_rose v seen.bay seen.readers seen.sink seen.doors (m causes.DoorFault (door_fault_is cause twelve));
+        door_used = λ twelve. (v, gives);
+        raw_answered = λ more. absurd (not_more raw_count seen.raws.old seen.raws.new e.1 more);
+        store_answered = λ more. ap status_of (e.0.store_answered more);
+        reader_answered = λ other more. absurd (other (v, gives));
+        sink_answered = λ more. ap status_of (e.0.sink_answered more);
+        door_answered = λ more. answered (e.0.door_answered more);
+      }
+    where
+      outage : IsBayOutage seen.bay ⊎ IsReaderOutage seen.bay seen.readers →
+          Rose (seen.bay.faults seen.bay.old) (seen.bay.faults seen.bay.new)
+          ⊎ ((GiveQuery words ⊎ GiveServe words) × Rose (reader_count seen.readers.old) (reader_count seen.readers.new))
+      outage (inl bay) = inl bay.rose
+      outage (inr reader) = inr (inr (v, gives), reader.rose)
+      answered : (cause ≡ causes.DoorFault) ⊎ (cause ≡ causes.NoMemory) → (status_of cause ≡ 12) ⊎ (status_of cause ≡ 11)
+      answered (inl door) = inl (ap status_of door)
+      answered (inr memory) = inr (ap status_of memory)
 
   -- ---- what is left
 
@@ -231,6 +292,9 @@ module _ {V B R K : Type 0} (words : List (List ℕ)) (seen : RunSeen V B R K) w
   is_query : (command : Command) → Only command → GiveQuery words → IsQuery command
   is_query command only (q, given) = subst IsQuery (only (Query q) given) tt
 
+  is_serve : (command : Command) → Only command → GiveServe words → IsServe command
+  is_serve command only (v, given) = subst IsServe (only (Serve v) given) tt
+
   pub leaves_rest : (command : Command) → Give words command → Only command → (cause : Cause) → E command cause → LeavesRest words seen
   leaves_rest (Cut c) gives only cause e =
       record {
@@ -240,12 +304,17 @@ module _ {V B R K : Type 0} (words : List (List ℕ)) (seen : RunSeen V B R K) w
         reader_count = not_less reader_count seen.readers.old seen.readers.new e.2;
         bay_count = not_less seen.bay.faults seen.bay.old seen.bay.new e.1;
         sink_count = e.0.sink_count;
+        doors = others_same seen.doors.old seen.doors.new e.3;
+        door_list = ap length e.3;
+        door_count = not_less door_count seen.doors.old seen.doors.new e.3;
         unchanged = λ never. not_changed seen.bay e.1;
         convert_silent = λ given. absurd (is_convert (Cut c) only given);
         cut_alone = λ given. e.1;
         info_alone = λ given. absurd (is_info (Cut c) only given);
         query_alone = λ given. absurd (is_query (Cut c) only given);
-        query_reads = λ never. e.2;
+        serve_alone = λ given. absurd (is_serve (Cut c) only given);
+        query_reads = λ never other. e.2;
+        serve_opens = λ other. e.3;
       }
   leaves_rest Info gives only cause e =
       record {
@@ -255,12 +324,17 @@ module _ {V B R K : Type 0} (words : List (List ℕ)) (seen : RunSeen V B R K) w
         reader_count = not_less reader_count seen.readers.old seen.readers.new e.2;
         bay_count = e.0.bay_count;
         sink_count = e.0.sink_count;
+        doors = others_same seen.doors.old seen.doors.new e.3;
+        door_list = ap length e.3;
+        door_count = not_less door_count seen.doors.old seen.doors.new e.3;
         unchanged = λ never. e.0.unchanged;
         convert_silent = λ given. absurd (is_convert Info only given);
         cut_alone = λ given. absurd (is_cut Info only given);
         info_alone = λ given. e.1;
         query_alone = λ given. absurd (is_query Info only given);
-        query_reads = λ never. e.2;
+        serve_alone = λ given. absurd (is_serve Info only given);
+        query_reads = λ never other. e.2;
+        serve_opens = λ other. e.3;
       }
   leaves_rest (Convert c) gives only cause e =
       record {
@@ -270,12 +344,17 @@ module _ {V B R K : Type 0} (words : List (List ℕ)) (seen : RunSeen V B R K) w
         reader_count = not_less reader_count seen.readers.old seen.readers.new e.1;
         bay_count = e.0.bay_count;
         sink_count = not_less seen.sink.faults seen.sink.old seen.sink.new e.2;
+        doors = others_same seen.doors.old seen.doors.new e.3;
+        door_list = ap length e.3;
+        door_count = not_less door_count seen.doors.old seen.doors.new e.3;
         unchanged = λ never. absurd (never (c, gives));
         convert_silent = λ given. e.2;
         cut_alone = λ given. absurd (is_cut (Convert c) only given);
         info_alone = λ given. absurd (is_info (Convert c) only given);
         query_alone = λ given. absurd (is_query (Convert c) only given);
-        query_reads = λ never. e.1;
+        serve_alone = λ given. absurd (is_serve (Convert c) only given);
+        query_reads = λ never other. e.1;
+        serve_opens = λ other. e.3;
       }
   leaves_rest (Query q) gives only cause e =
       record {
@@ -285,10 +364,35 @@ module _ {V B R K : Type 0} (words : List (List ℕ)) (seen : RunSeen V B R K) w
         reader_count = e.0.reader_count;
         bay_count = e.0.bay_count;
         sink_count = e.0.sink_count;
+        doors = others_same seen.doors.old seen.doors.new e.2;
+        door_list = ap length e.2;
+        door_count = not_less door_count seen.doors.old seen.doors.new e.2;
         unchanged = λ never. e.0.unchanged;
         convert_silent = λ given. absurd (is_convert (Query q) only given);
         cut_alone = λ given. absurd (is_cut (Query q) only given);
         info_alone = λ given. absurd (is_info (Query q) only given);
         query_alone = λ given. e.1;
-        query_reads = λ never. absurd (never (q, gives));
+        serve_alone = λ given. absurd (is_serve (Query q) only given);
+        query_reads = λ never other. absurd (never (q, gives));
+        serve_opens = λ other. e.2;
+      }
+  leaves_rest (Serve v) gives only cause e =
+      record {
+        raws = uses_none seen.raws.contents seen.raws.faults seen.raws.old seen.raws.new e.1;
+        readers = e.0.others;
+        reader_list = e.0.reader_list;
+        reader_count = e.0.reader_count;
+        bay_count = e.0.bay_count;
+        sink_count = e.0.sink_count;
+        doors = e.0.other_doors;
+        door_list = e.0.door_list;
+        door_count = e.0.door_count;
+        unchanged = λ never. e.0.unchanged;
+        convert_silent = λ given. absurd (is_convert (Serve v) only given);
+        cut_alone = λ given. absurd (is_cut (Serve v) only given);
+        info_alone = λ given. absurd (is_info (Serve v) only given);
+        query_alone = λ given. absurd (is_query (Serve v) only given);
+        serve_alone = λ given. e.1;
+        query_reads = λ never other. absurd (other (v, gives));
+        serve_opens = λ other. absurd (other (v, gives));
       }

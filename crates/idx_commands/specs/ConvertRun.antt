@@ -58,6 +58,7 @@ abbrev pub ConvertMeans : ConvertValue → Known → Cause → Type 0
 ConvertMeans c k causes.Done = AsksForText c (λ text. Converted text c.step k)
 ConvertMeans c k (causes.Usage at) = ⊥
 ConvertMeans c k causes.SinkFault = ⊥
+ConvertMeans c k causes.DoorFault = ⊥
 ConvertMeans c k causes.NoMemory = Starves c k
 ConvertMeans c k cause = AsksForText c (λ text. Fails text c.step k cause)
 

@@ -10,6 +10,7 @@ pub(crate) fn site_name(path: &[u8]) -> &[u8]
 }
 
 /// The part of a path behind its last `/`, or all of it where there is none.
+#[tactic(auto, using(crate::proofs::SiteNameLemmas::part_is))]
 fn last_part(path: &[u8]) -> &[u8]
     ensures { result.now ≡ last_part path.now }
 {

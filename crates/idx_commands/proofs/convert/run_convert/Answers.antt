@@ -1,5 +1,5 @@
 use Rattle.std.proofs.Common.{rules, codes, map, string_bytes}
-use Rattle.idx_words.specs.declared.command.Command.TheVariants.{Cut, Info, Query}
+use Rattle.idx_words.specs.declared.command.Command.TheVariants.{Cut, Info, Query, Serve}
 use Rattle.idx_commands.proofs.ConvertLemmas.{never_usage}
 use Rattle.idx_commands.proofs.RunLemmas.{misnamed}
 use Rattle.idx_commands.proofs.convert.run_convert.Goals as goal
@@ -26,3 +26,9 @@ pub returns-in-Ok-Convert-clause-usage : goal.returns-in-Ok-Convert-clause-usage
 returns-in-Ok-Convert-clause-usage g c =
     let never = never_usage c.in-Ok-Convert.words _ c.convert_volume.result c.convert_volume.ensures.means in
     search rules
+
+pub unreachable-requires-in-Ok-Serve : goal.unreachable-requires-in-Ok-Serve
+unreachable-requires-in-Ok-Serve g c =
+    let given = c.read_words.ensures.read c.in-Ok-Serve.field-0 in
+    misnamed (map string_bytes c.args.words.now) c.in-Ok-Serve.field-0 (Serve c.in-Ok-Serve.field-0-0) (codes "convert") c.requires.named
+    (given.0 c.in-Ok-Serve.is) c.in-Ok-Serve.field-0-is (λ e. cc)

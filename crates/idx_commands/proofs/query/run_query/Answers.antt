@@ -1,6 +1,6 @@
 use Rattle.std.proofs.Common.{codes, map, string_bytes}
-use Rattle.idx_words.specs.declared.command.Command.TheVariants.{Cut, Info, Convert}
-use Rattle.idx_commands.proofs.RunLemmas.{misnamed}
+use Rattle.idx_words.specs.declared.command.Command.TheVariants.{Cut, Info, Convert, Serve}
+use Rattle.idx_commands.proofs.RunLemmas.{misnamed, query_not_serve}
 use Rattle.idx_commands.proofs.query.run_query.Goals as goal
 
 pub unreachable-requires : goal.unreachable-requires
@@ -20,3 +20,9 @@ unreachable-requires-in-Ok-Convert g c =
     let given = c.read_words.ensures.read c.in-Ok-Convert.field-0 in
     misnamed (map string_bytes c.args.words.now) c.in-Ok-Convert.field-0 (Convert c.in-Ok-Convert.field-0-0) (codes "query") c.requires.named
     (given.0 c.in-Ok-Convert.is) c.in-Ok-Convert.field-0-is (λ e. cc)
+
+pub unreachable-requires-in-Ok-Serve : goal.unreachable-requires-in-Ok-Serve
+unreachable-requires-in-Ok-Serve g c =
+    let given = c.read_words.ensures.read c.in-Ok-Serve.field-0 in
+    misnamed (map string_bytes c.args.words.now) c.in-Ok-Serve.field-0 (Serve c.in-Ok-Serve.field-0-0) (codes "query") c.requires.named
+    (given.0 c.in-Ok-Serve.is) c.in-Ok-Serve.field-0-is query_not_serve

@@ -1,5 +1,5 @@
 use Rattle.std.proofs.Common.{map, refl, string_bytes, sym, ◌∙◌}
-use Rattle.idx_commands.proofs.RunLemmas.{counts_faults, cut_off, leaves_rest, same_ok, silent, written}
+use Rattle.idx_commands.proofs.RunLemmas.{counts_faults, cut_off, leaves_rest, no_usage, same_ok, silent, written}
 use Rattle.idx_commands.proofs.running.run.Goals as goal
 
 pub returns-in-Ok-clause-done : goal.returns-in-Ok-clause-done
@@ -18,6 +18,11 @@ pub returns-in-Ok-clause-silent : goal.returns-in-Ok-clause-silent
 returns-in-Ok-clause-silent g c = λ zero nine.
     silent (map string_bytes c.args.words.now) _ c.in-Ok.command _ c.run_command.ensures.ends
     (λ e. zero (c.run_command.ensures.status ∙ e)) (λ e. nine (c.run_command.ensures.status ∙ e))
+
+pub returns-in-Ok-clause-unasked : goal.returns-in-Ok-clause-unasked
+returns-in-Ok-clause-unasked g c = λ one.
+    absurd (no_usage (map string_bytes c.args.words.now) _ c.in-Ok.command _ c.run_command.ensures.ends
+    (sym c.run_command.ensures.status ∙ one))
 
 pub returns-in-Ok-clause-faults : goal.returns-in-Ok-clause-faults
 returns-in-Ok-clause-faults g c =
