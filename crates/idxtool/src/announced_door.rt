@@ -7,7 +7,7 @@ use crate::notice::Notice;
 use idx_outside::{Bay, Door, Outage, Served};
 use idx_real::{Fault, Sockets, TcpDoor, TcpLink};
 use std::io::Write;
-use std::marker::Model;
+use std::marker::{Model, PhantomData};
 use std::net::TcpStream;
 
 /// A door over TCP that says where it listens, once, before it waits for its first link. A contract sees the door.
@@ -15,6 +15,8 @@ use std::net::TcpStream;
 pub struct AnnouncedDoor<R: Sockets, B: Bay + Drop, W: Write + Drop> {
     notice: Option<Notice<R, B, W>>,
     door: TcpDoor<R>,
+    /// The type of the links, which a function that holds a door of the host has to know.
+    links: PhantomData<TcpLink<TcpStream, R>>,
 }
 
 impl<R: Sockets, B: Bay + Drop, W: Write + Drop> Model for AnnouncedDoor<R, B, W> {
@@ -33,6 +35,7 @@ impl<R: Sockets, B: Bay + Drop, W: Write + Drop> AnnouncedDoor<R, B, W> {
         AnnouncedDoor {
             notice: Some(notice),
             door,
+            links: PhantomData,
         }
     }
 

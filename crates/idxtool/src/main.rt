@@ -2,6 +2,8 @@
 //! or a step of a dataset out of a raw volume; or answers questions for the samples of a dataset over HTTP.
 #![tactic(auto)]
 
+ghost use Rattle.std.specs.Prelude.{◌<◌, vec_len};
+
 mod announced_door;
 mod notice;
 mod outside;
@@ -15,7 +17,7 @@ mod usage;
 
 use idx_commands::{Cause, Done, run};
 use idx_real::{Sockets, StdSink};
-use outside::{dataset_files, file_readers, last_fault, raw_files, tcp_doors};
+use outside::{StdDoor, dataset_files, file_readers, last_fault, raw_files, tcp_doors};
 use report::report;
 use std::alloc::AllocError;
 use std::io::ErrorKind;
@@ -27,7 +29,10 @@ fn main(rt: HostRuntime) -> ExitCode {
     match given_words(&rt) {
         Ok(words) => match text_asked_for(&words) {
             Some(text) => give_text(&rt, text),
-            None => give_run(&rt, rt, &words),
+            None => match tcp_doors(&rt, rt, &words) {
+                Ok(doors) => give_run(&rt, &words, doors),
+                Err(AllocError) => give_up(&rt, Cause::NoMemory),
+            },
         },
         Err(e) if e.kind() == ErrorKind::OutOfMemory => give_up(&rt, Cause::NoMemory),
         Err(_) => give_up(&rt, Cause::Usage { at: 0 }),
@@ -46,9 +51,11 @@ fn give_text(rt: &HostRuntime, text: &str) -> ExitCode {
     report(rt.alloc(), &mut rt.stderr(), done, &[], out.last_fault())
 }
 
-/// Does what the words ask for, over files, standard output and sockets.
-fn give_run<R: Sockets>(rt: &HostRuntime, sockets: R, words: &[String]) -> ExitCode {
-    match run_over_files(rt, sockets, words) {
+/// Does what the words ask for, over files, standard output and these doors.
+fn give_run<R: Sockets>(rt: &HostRuntime, words: &[String], doors: Vec<StdDoor<R>>) -> ExitCode
+    requires { 0 < vec_len doors }
+{
+    match run_over_files(rt, words, doors) {
         Ok(status) => status,
         Err(AllocError) => give_up(rt, Cause::NoMemory),
     }
@@ -57,13 +64,14 @@ fn give_run<R: Sockets>(rt: &HostRuntime, sockets: R, words: &[String]) -> ExitC
 /// The same, where there is memory for the objects of the outside.
 fn run_over_files<R: Sockets>(
     rt: &HostRuntime,
-    sockets: R,
     words: &[String],
-) -> Result<ExitCode, AllocError> {
+    mut doors: Vec<StdDoor<R>>,
+) -> Result<ExitCode, AllocError>
+    requires { 0 < vec_len doors }
+{
     let mut raws = raw_files(rt, words)?;
     let mut bay = dataset_files(rt, words)?;
     let mut readers = file_readers(rt)?;
-    let mut doors = tcp_doors(rt, sockets, words)?;
     let mut out = StdSink::new(rt.stdout());
     let done = run(
         rt.alloc(),
