@@ -310,10 +310,15 @@ def stands(header: Header, step: int, beside: bytes) -> bool:
     return header.time is None or is_folder(os.path.join(beside, step_folder(header, step)))
 
 
+def is_empty_step(header: Header, step: int, beside: bytes) -> bool:
+    """Whether the folder of a step has nothing in it, so that there is no file to look for, however many it would have."""
+    return header.time is not None and not os.listdir(os.path.join(beside, step_folder(header, step)))
+
+
 def read_step(header: Header, step: int, beside: bytes) -> dict[int, bytes]:
     """The files of a step that are there, with right tables."""
     contents: dict[int, bytes] = {}
-    for file in files_of_step(header):
+    for file in [] if is_empty_step(header, step, beside) else files_of_step(header):
         content = read_store(os.path.join(beside, file_path(header, step, file)))
         if content is not None:
             check_table(header, file, content)

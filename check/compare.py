@@ -1,13 +1,13 @@
 #!/usr/bin/env python3
 """Holds idxtool against the reference over real folders and links.
 
-    check/compare.py PROGRAM [--seed 1] [--cases 300] [--served 13] [--slow] [--only NAME] [--keep]
+    check/compare.py PROGRAM [--seed 1] [--cases 300] [--served 17] [--heads 1000] [--slow] [--only NAME] [--keep]
 
 Each case is a folder of its own with some runs in it. Of each run standard output, the names and the bytes of all
 files, the exit status and the first line on standard error are what the reference says, byte by byte, and further lines
-of standard error begin with two spaces; of a run that serves also all that comes over its links. A difference is printed
-with the command line that shows it, and the case goes on. The seed and the name of a case determine it. The last line is
-`N passed, M failed`, of cases; the exit status is 1 where any failed.
+of standard error begin with two spaces; of a run that serves also all that comes over its links. A difference is
+printed with the command line that shows it, and the case goes on. The seed and the name of a case determine it. The
+last line is `N passed, M failed`, of cases; the exit status is 1 where any failed.
 """
 from __future__ import annotations
 
@@ -48,6 +48,7 @@ class Case:
         self.name = name
         self.at = at
         self.keep = arguments.keep
+        self.heads = arguments.heads
         self.folder = os.fsencode(at / f"case-{name}")
         self.unfinished = False
         self.differences: list[str] = []
@@ -202,6 +203,7 @@ def parse_arguments() -> argparse.Namespace:
     parser.add_argument("--cases", type=int, default=300, help="the number of cases of the other commands")
     parser.add_argument("--first", type=int, default=0, help="the number of the first of these")
     parser.add_argument("--served", type=int, default=len(server_cases.KINDS), help="the number of cases of a server")
+    parser.add_argument("--heads", type=int, default=1_000, help="the number of random heads in one of these")
     parser.add_argument("--slow", action="store_true", help="peers too that a server waits for, for about a minute")
     parser.add_argument("--only", help="the name of the one case to run")
     parser.add_argument("--keep", action="store_true", help="keep the folders of runs that differ")

@@ -5,9 +5,9 @@ from collections.abc import Callable, Sequence
 from dataclasses import dataclass
 from random import Random
 
+import server
 from cases import box_text, chance, draw_levels, draw_region, name, odd_number
 from reference import Header
-from server import PARAMETERS
 
 # Targets
 
@@ -88,7 +88,7 @@ def bad_text(random: Random, _: Header, form: Form) -> None:
 
 def double_parameter(random: Random, _: Header, form: Form) -> None:
     """A parameter that stands twice."""
-    pair = random.choice([pair for pair in form.pairs if pair[0] in PARAMETERS] or [(b"maxh", b"1")])
+    pair = random.choice([pair for pair in form.pairs if pair[0] in server.PARAMETERS] or [(b"maxh", b"1")])
     form.pairs += [pair, (pair[0], random.choice([pair[1], b"", b"0"]))]
 
 
@@ -105,7 +105,8 @@ def with_value(parameter: bytes, values: Sequence[bytes]) -> Spoil:
 def other_dataset(random: Random, _: Header, form: Form) -> None:
     """The name of another dataset."""
     own = dict(form.pairs).get(b"dataset", b"v")
-    form.put(b"dataset", random.choice([own + b".idx", b"", own.swapcase() + b"x", own + b" ", b"./" + own, own[:-1]]))
+    others = [own + b".idx", b"", own.swapcase() + b"x", own + b" ", b"./" + own, own[:-1]]
+    form.put(b"dataset", random.choice(others))
 
 
 def bad_box(random: Random, header: Header, form: Form) -> None:
@@ -131,7 +132,8 @@ def bad_levels(random: Random, header: Header, form: Form) -> None:
 
 SPOILS: list[Spoil] = [
     other_path, bad_text, double_parameter, without(b"action"),
-    with_value(b"action", [b"", b"Boxquery", b"boxquery ", b"range", b"pointquery"]), without(b"dataset"), other_dataset,
+    with_value(b"action", [b"", b"Boxquery", b"boxquery ", b"range", b"pointquery"]), without(b"dataset"),
+    other_dataset,
     with_value(b"compression", [b"zip", b"RAW", b"raw ", b"none", b"\0"]),
     with_value(b"field", [b"", b"nofield", b" a", b"\xc3\xa9"]),
     with_value(b"time", [b"", b"5.", b".0", b"5.5", b"-1", b"+1", b"1e3", b"5.00a", b"9" * 20, b" 5", b"5 ", b"0" * 20,
@@ -204,57 +206,70 @@ def draw_head(random: Random, target: bytes) -> bytes:
 def body_fields() -> list[bytes]:
     """Fields that announce a body, and some that look like it."""
     lengths = [b"", b" 0", b" 00", b" 5", b" 0,0", b" 0 ", b"\t0", b" +0", b" -0", b" 0x0", b" 0 0", b" 9" * 30, b" O"]
-    fields = [random_case + b":" + each for each in lengths for random_case in (b"Content-Length", b"CONTENT-length")]
-    return fields + [b"Transfer-Encoding: chunked", b"transfer-encoding:", b"TRANSFER-ENCODING: identity", b"TE: chunked",
-                     b"Content-Length : 5", b"Content_Length: 5", b"Content-Length: 0\r\nContent-Length: 1"]
+    fields = [named + b":" + length for length in lengths for named in (b"Content-Length", b"CONTENT-length")]
+    fields += [b"Transfer-Encoding: chunked", b"transfer-encoding:", b"TRANSFER-ENCODING: identity", b"TE: chunked"]
+    return fields + [b"Content-Length : 5", b"Content_Length: 5", b"Content-Length: 0\r\nContent-Length: 1"]
 
 
 def closing_fields() -> list[bytes]:
     """Fields that close a link, and some that look like it."""
-    values = [b"close", b"Close", b"CLOSE", b"keep-alive, close", b"close,", b",close", b"closed", b"clos e", b"\tclose \t",
-              b"close;q=1", b'"close"', b"keep-alive", b"", b"a,b,\tcLoSe\t,c", b"close close", b"Upgrade\r\nConnection: close"]
-    return [b"Connection:" + value for value in values] + [b"connection: close", b"Proxy-Connection: close",
-                                                         b"CONNECTION:close", b"Keep-Alive: close"]
+    values = [b"close", b"Close", b"CLOSE", b"keep-alive, close", b"close,", b",close", b"closed", b"clos e", b"",
+              b"\tclose \t", b"close;q=1", b'"close"', b"keep-alive", b"a,b,\tcLoSe\t,c", b"close close",
+              b"Upgrade\r\nConnection: close"]
+    others = [b"connection: close", b"CONNECTION:close", b"Proxy-Connection: close", b"Keep-Alive: close"]
+    return [b"Connection:" + value for value in values] + others
+
+
+METHODS = [b"PUT", b"POST", b"HEAD", b"OPTIONS", b"get", b"GETT", b"G", b"!#$%&'*+-.^_`|~", b"GE T", b"", b"G\xc3\xa9T"]
+VERSIONS = [b"HTTP/1.0", b"HTTP/1.2", b"HTTP/2.0", b"HTTP/1.", b"http/1.1", b"HTTP/1.1 ", b" HTTP/1.1", b"HTTP/1.10",
+            b"HTTP/01.1", b"HTTP/1.1\r", b""]
+OTHER_TARGETS = [b"/", b"*", b"?", b"/mod_visus", b"/mod_visus?", b"/\xc3\xa9", b"/\xff", b"/a\x7f", b"/a\x01",
+                 b"/a\tb", b"/a b", b"/" + b"%" * 9, b"/\xe2\x82", b""]
+ENDS_OF_TARGETS = [b"#x", b"&note=\xe2\x82\xac", b"&note=\xef\xbf\xbd", b"&note=%", b"&note=%4", b"&note=%zz", b"?",
+                   b"&=", b"&==", b"&action", b"&", b"&note"]
 
 
 def first_lines(target: bytes) -> list[bytes]:
     """First lines with other methods, versions, targets and spaces."""
-    methods = [b"PUT", b"POST", b"HEAD", b"OPTIONS", b"get", b"GETT", b"G", b"!#$%&'*+-.^_`|~", b"GE T", b"", b"G\xc3\xa9T"]
-    versions = [b"HTTP/1.0", b"HTTP/1.2", b"HTTP/2.0", b"HTTP/1.", b"http/1.1", b"HTTP/1.1 ", b" HTTP/1.1", b"HTTP/1.10", b"HTTP/01.1",
-                b"HTTP/1.1\r", b""]
-    targets = [b"/", b"*", b"?", b"/mod_visus", b"/mod_visus?", b"http://127.0.0.1" + target, b"/mod_visus#?" + target, b"",
-               b"/\xc3\xa9", b"/\xff", b"/a\x7f", b"/a\x01", b"/a\tb", b"/a b", target + b"#x", b"/" + b"%" * 9, b"/\xe2\x82",
-               target + b"&note=\xe2\x82\xac", target + b"&note=\xef\xbf\xbd", target + b"&note=%", target + b"&note=%4",
-               target + b"&note=%zz", target + b"?", target + b"&=", target + b"&==", target + b"&action"]
-    lines = [method + b" " + target + b" HTTP/1.1" for method in methods]
-    lines += [b"GET " + target + b" " + version for version in versions]
-    return lines + [b"GET " + each + b" HTTP/1.1" for each in targets] + [b"GET\t" + target + b"\tHTTP/1.1", b"GET  / HTTP/1.1"]
+    targets = OTHER_TARGETS + [target + end for end in ENDS_OF_TARGETS]
+    targets += [b"http://127.0.0.1" + target, b"/mod_visus#?" + target]
+    lines = [method + b" " + target + b" HTTP/1.1" for method in METHODS]
+    lines += [b"GET " + target + b" " + version for version in VERSIONS]
+    lines += [b"GET " + each + b" HTTP/1.1" for each in targets]
+    return lines + [b"GET\t" + target + b"\tHTTP/1.1", b"GET  / HTTP/1.1"]
 
 
 def odd_fields() -> list[bytes]:
     """Fields that a head has or that no head has."""
-    return [b"", b":", b": a", b"a", b"a b: c", b"a : b", b" a: b", b"\ta: b", b"a: b\r\n c", b"a:\0", b"a: \x7f", b"a: \x80\xff", b"a:\tb",
-            b"a: b\rc", b"a:\x0b", b"\xc3\xa9: a", b"(a): b", b"a:b:c", b"a\r: b", b"a:" + b"x" * 8_000, b"a" * 4_000 + b":",
-            b"a:\r\nb:\r\nc:"]
+    names = [b"", b":", b": a", b"a", b"a b: c", b"a : b", b" a: b", b"\ta: b", b"\xc3\xa9: a", b"(a): b", b"a\r: b"]
+    values = [b"a: b\r\n c", b"a:\0", b"a: \x7f", b"a: \x80\xff", b"a:\tb", b"a: b\rc", b"a:\x0b", b"a:b:c"]
+    return names + values + [b"a:" + b"x" * 8_000, b"a" * 4_000 + b":", b"a:\r\nb:\r\nc:"]
 
 
 def sized_heads(target: bytes) -> list[bytes]:
     """Heads at the limits of fields and bytes, and above them; ones that are not whole too."""
     start = b"GET " + target + b" HTTP/1.1\r\n"
-    fill = 8_192 - len(start) - len(b"a:\r\n\r\n")
+    most = server.LONGEST_HEAD
+    fill = most - len(start) - len(b"a:\r\n\r\n")
     rows = [start + b"a:\n" * count + end for count in (63, 64, 65, 66, 2_000) for end in (b"\n", b"", b"\0", b"\r")]
     rows += [start + b"a:" + b"x" * (fill + more) + b"\r\n\r\n" for more in (-1, 0, 1, 2)]
-    rows += [start + b"a:" + b"x" * 8_192, start + b"a:" + b"x" * (8_191 - len(start) - 2), b"G" * 8_191, b"G" * 8_192]
+    rows += [start + b"a:" + b"x" * (most + more - len(start) - len(b"a:")) for more in (-1, 0, 5)]
     rows += [b"\r\n" * count + start + b"\r\n" for count in (1, 9, 4_000, 4_096)]
-    rows += [b"\n" * (8_192 - len(start) - 2 + more) + start + b"\r\n" for more in (-1, 0, 1)]
-    return rows + [b"\n" * 8_191, b"\n" * 8_192, b"\r\n" * 5, b"GET /" + b"a" * 8_187, b"GET /" + b"a" * 9_000 + b" HTTP/1.1\r\n\r\n"]
+    rows += [b"\n" * (most - len(start) - 2 + more) + start + b"\r\n" for more in (-1, 0, 1)]
+    rows += [each * (most + more) for each in (b"G", b"\n") for more in (-1, 0)] + [b"\r\n" * 5]
+    return rows + [b"GET /" + b"a" * 8_187, b"GET /" + b"a" * 9_000 + b" HTTP/1.1\r\n\r\n"]
 
 
 def hostile_starts() -> list[bytes]:
     """Inputs that no head begins with, or that end inside one."""
-    return [b"\0", b"\x80", b" ", b":", b"\r\r", b"\rG", b"\r", b"\n\r", b"\x16\x03\x01\x02\x00\x01\x00", b"GET", b"GET ", b"GET / HT", b"GET / HTTP/1.1",
-            b"GET / HTTP/1.1\r", b"GET / HTTP/1.1\r\n", b"GET / HTTP/1.1\r\n\r", b"GET / HTTP/1.1\na", b"PRI * HTTP/2.0\r\n\r\nSM\r\n\r\n",
-            b"GET /\xff", b"GET /\xc3", b"GET /\xc3 ", b"GET /\xff HTTP/1.1\r\n\r\n", b"GET /\xff" + b"a" * 9_000, b"SSH-2.0-x\r\n"]
+    line = b"GET / HTTP/1.1"
+    fronts = [b"GET", b"GET ", b"GET / HT", line, line + b"\r", line + b"\r\n", line + b"\r\n\r", line + b"\na"]
+    others = [b"\0", b"\x80", b" ", b":", b"\r\r", b"\rG", b"\r", b"\n\r", b"\x16\x03\x01\x02\x00\x01\x00"]
+    targets = [b"GET /\xff", b"GET /\xc3", b"GET /\xc3 ", b"GET /\xff HTTP/1.1\r\n\r\n", b"GET /\xff" + b"a" * 9_000]
+    return fronts + others + targets + [b"SSH-2.0-x\r\n", b"PRI * HTTP/2.0\r\n\r\nSM\r\n\r\n"]
+
+
+STRAY = [b"\r", b"\n", b" ", b":", b"\t", b"%", b"&", b"?", b"\0", b"\r\n\r\n"]
 
 
 def spoilt_head(random: Random, head: bytes) -> bytes:
@@ -263,7 +278,7 @@ def spoilt_head(random: Random, head: bytes) -> bytes:
     for _ in range(random.choice([1, 1, 2, 5])):
         place = random.randint(0, len(changed))
         style = random.randrange(6)
-        piece = random.choice([random.randbytes(1), random.choice([b"\r", b"\n", b" ", b":", b"\t", b"%", b"&", b"?", b"\0", b"\r\n\r\n"])])
+        piece = random.choice([random.randbytes(1), random.choice(STRAY)])
         if style <= 1:
             changed[place:place + 1] = piece
         elif style == 2:

@@ -11,12 +11,13 @@ import re
 from collections.abc import Sequence
 from dataclasses import dataclass, field
 from enum import Enum
+from functools import lru_cache
 from urllib.parse import unquote_to_bytes
 
 import commands
-from reference import (LARGEST_ANSWER, Box, Header, answer, answer_size, asked_points, box_word, count_asked, file_bytes,
-                       files_of_step, has_block, has_levels, header_words, hierarchical_address, number, outside_axis,
-                       parse_header)
+from reference import (LARGEST_ANSWER, Box, Header, answer, answer_size, asked_points, box_word, count_asked,
+                       file_bytes, files_of_step, has_block, has_levels, header_words, hierarchical_address, number,
+                       outside_axis, parse_header)
 
 # Heads
 
@@ -93,15 +94,16 @@ def can_become_head(window: bytes) -> bool:
     return any(is_utf8_so_far(match["target"], True) for match in matches)
 
 
-def next_head(window: bytes) -> list[Head | Read]:
+@lru_cache(maxsize=256)
+def next_head(window: bytes) -> tuple[Head | Read, ...]:
     """What some bytes begin with, at most 8,192 of them; two answers are right in the one corner that is open."""
     match = HEAD.match(window)
     if match is not None:
-        return [whole_head(match)]
+        return (whole_head(match),)
     waits = Read.TOO_BIG if len(window) == LONGEST_HEAD else Read.UNFINISHED
     if can_become_head(window):
-        return [waits]
-    return [Read.BAD, waits] if re.fullmatch(ASKED, window) else [Read.BAD]
+        return (waits,)
+    return (Read.BAD, waits) if re.fullmatch(ASKED, window) else (Read.BAD,)
 
 
 # Targets

@@ -15,20 +15,26 @@ from typing import Protocol
 import cases
 import commands
 import reference
+import server
 from cases import chance, odd_number, write
-from heads import (SPOILS, body_fields, closing_fields, draw_head, draw_target, first_lines, hostile_bytes, hostile_starts,
-                   lay_out_head, odd_fields, other_time, outside_form, plain_head, right_form, sized_heads)
+from heads import (SPOILS, body_fields, closing_fields, draw_head, draw_target, first_lines, hostile_bytes,
+                   hostile_starts, lay_out_head, odd_fields, other_time, outside_form, plain_head, right_form,
+                   sized_heads)
 from reference import Header
 from serving import Leaves, Link
 
 ANYWHERE = b"127.0.0.1:0"
 MANY_LINKS = 1_000
-MANY_HEADS = 65_536
-HOSTILE_LINKS = 400
+HEADS_A_SERVER = 1_000
+NO_ADDRESSES = [b"localhost:80", b"127.0.0.1", b"127.0.0.1:65536", b":80", b"", b"127.0.0.1:", b"[127.0.0.1]:80", b"80",
+                b"300.0.0.1:80", b"1.2.3:80", b"192.0.2.1:80", b"::1:80", b"[::1", b"http://127.0.0.1:80",
+                b"127.0.0.1:80 ", b" 127.0.0.1:80", b"127.0.0.1:-1", b"127.0.0.1:x"]
+"""Texts that are no address, and one that is no address of this machine."""
 
 
 class Bench(cases.Bench, Protocol):
     """What a case of a server is made on."""
+    heads: int
 
     def serve(self, words: Sequence[bytes], links: Sequence[Link], sink: bytes | None = None) -> None:
         """Runs the program as a server of these links, and compares what each gets and how the run ends."""
@@ -205,19 +211,26 @@ def target_faults(bench: Bench) -> None:
 
 def plan_faults(bench: Bench) -> None:
     """Boxes, levels and answers that a dataset does not have, at the limits and above them, and unknown times."""
-    random = bench.random
-    large = [b"0 4194304 0 0", b"a uint8[64]", b"V" + b"0" * 23, b"18", b"4", b"%06x", b"5 9 time%04d/"]
-    shelf = random.choice([lambda: empty_shelf(bench, large, [6, 8]), lambda: convert_steps(bench)])()
-    targets = [b"/mod_visus?action=boxquery&dataset=v&" + rest for rest in (
-        b"box=0+4194304+0+0", b"box=0+4194304+0+0&time=6", b"box=0+4194304+0+0&toh=22&time=7", b"box=0+4194305+0+0",
-        b"box=0+4194303+0+0&time=5", b"box=0+4194304+0+1&time=6", b"box=9+9+0+0&time=8", b"box=1+4194304+0+0&fromh=24&toh=1",
-        b"box=1+4194304+0+0&toh=24", b"box=1+4194304+0+0&toh=23&time=0")]
-    for _ in range(20):
+    random, shelf = bench.random, convert_steps(bench)
+    targets = []
+    for _ in range(30):
         form = right_form(random, shelf.header, shelf.name(), shelf.steps)
-        form.put(b"toh", b"%d" % random.choice([0, 1, len(shelf.header.mask) + 1]))
         random.choice([outside_form, other_time])(random, shelf.header, form)
         targets.append(form.text(random))
     bench.serve(shelf.words(random), [draw_link(random, b"".join(map(plain_head, targets))) for _ in range(3)])
+
+
+def too_large(bench: Bench) -> None:
+    """Answers at the limit of bytes and above it, of which no sample is read."""
+    random = bench.random
+    texts = [b"0 4194304 0 0", b"a uint8[64]", b"V" + b"0" * 23, b"18", b"4", b"%06x", b"5 9 time%04d/"]
+    shelf = empty_shelf(bench, texts, [6, 8])
+    asks = [b"0+4194304+0+0", b"0+4194304+0+0&time=6", b"0+4194304+0+0&toh=22&time=7", b"0+4194305+0+0",
+            b"9+9+0+0&time=8", b"0+4194303+0+0&time=5", b"0+4194304+0+1&time=6", b"1+4194304+0+0&fromh=24&toh=1",
+            b"1+4194304+0+0&toh=24", b"1+4194304+0+0&time=0", b"0+4194304+0+0&fromh=23&time=9",
+            b"0+4194304+0+0&toh=4294967295"]
+    heads = [plain_head(b"/mod_visus?action=boxquery&dataset=v&box=" + ask) for ask in asks]
+    bench.serve(shelf.words(random), [draw_link(random, b"".join(random.sample(heads, len(heads)))) for _ in range(3)])
 
 
 def odd_heads(bench: Bench) -> None:
@@ -229,7 +242,8 @@ def odd_heads(bench: Bench) -> None:
     inputs = [lay_out_head(random, first, [b"Host: x", each, b"Accept: */*"]) for each in fields]
     inputs += [lay_out_head(random, line, [b"Connection: keep-alive"]) for line in first_lines(target)]
     inputs += [lay_out_head(random, b"HEAD / HTTP/1.0", [each]) for each in body_fields()[:4]]
-    inputs = [each + plain_head(target) for each in inputs + sized_heads(target)] + hostile_starts() + sized_heads(target)
+    sizes = sized_heads(target)
+    inputs = [each + plain_head(target) for each in inputs + sizes] + sizes + hostile_starts()
     bench.serve(shelf.words(random), each_followed(shelf, random, inputs))
 
 
@@ -248,25 +262,27 @@ def hostile_heads(bench: Bench) -> None:
     """Random bytes and spoilt heads; behind each link one of a right head."""
     random, shelf = bench.random, small_shelf(bench)
     targets = [shelf.target(random) for _ in range(20)]
-    inputs = [hostile_bytes(random, draw_head(random, random.choice(targets))) for _ in range(HOSTILE_LINKS)]
-    followers = [Link([plain_head(target)]) for target in targets]
-    links = [link for sent in inputs for link in (Link([sent]), random.choice(followers))]
-    bench.serve(shelf.words(random), links)
+    behind = [Link([plain_head(target)]) for target in targets]
+    for start in range(0, bench.heads, HEADS_A_SERVER):
+        count = min(HEADS_A_SERVER, bench.heads - start)
+        inputs = [hostile_bytes(random, draw_head(random, random.choice(targets))) for _ in range(count)]
+        links = [link for sent in inputs for link in (Link([sent]), random.choice(behind))]
+        bench.serve(shelf.words(random), links)
 
 
 def many_links(bench: Bench) -> None:
     """Very many links in a row."""
     random, shelf = bench.random, small_shelf(bench)
-    links = [Link([plain_head(shelf.target(random))], leaves=random.choice([Leaves.AT_ONCE, Leaves.SERVED])) for _ in range(MANY_LINKS)]
+    leaves = [Leaves.AT_ONCE, Leaves.SERVED]
+    links = [Link([plain_head(shelf.target(random))], leaves=random.choice(leaves)) for _ in range(MANY_LINKS)]
     bench.serve(shelf.words(random), links)
 
 
 def many_heads(bench: Bench) -> None:
-    """As many heads on a link as are replied to, and more; those behind the last are left."""
+    """More heads on a link than are replied to; those behind the last reply are left."""
     random, shelf = bench.random, small_shelf(bench)
-    head = b"GET / HTTP/1.1\n\n"
-    inputs = [head * (MANY_HEADS - 1), head * MANY_HEADS, head * (MANY_HEADS + 5)]
-    bench.serve(shelf.words(random), [Link([sent], leaves=Leaves.SERVED) for sent in inputs] + [plain_link(shelf, random)])
+    sent = b"GET / HTTP/1.1\n\n" * (server.MOST_REPLIES + 5)
+    bench.serve(shelf.words(random), [Link([sent]), plain_link(shelf, random)])
 
 
 def large_answers(bench: Bench) -> None:
@@ -301,17 +317,15 @@ def lost_blocks(bench: Bench) -> None:
                 file.write(content)
 
     sent = b"".join(draw_head(random, shelf.target(random)) for _ in range(6))
-    links = [Link([sent], before=lose, unreadable=True), Link([sent], unreadable=True), Link([sent], before=restore), Link([sent])]
-    bench.serve(shelf.words(random), links)
+    links = [Link([sent], before=lose, unreadable=True), Link([sent], unreadable=True)]
+    bench.serve(shelf.words(random), links + [Link([sent], before=restore), Link([sent])])
 
 
 def slips(bench: Bench) -> None:
     """Addresses that are none or are taken, wrong datasets and words, and an output that is full."""
     random, shelf = bench.random, convert_steps(bench)
     with socket.create_server(("127.0.0.1", 0)) as taken:
-        addresses = [b"127.0.0.1:%d" % taken.getsockname()[1], b"localhost:80", b"127.0.0.1", b"127.0.0.1:65536", b":80", b"",
-                     b"127.0.0.1:", b"[127.0.0.1]:80", b"300.0.0.1:80", b"1.2.3:80", b"192.0.2.1:80", b"80", b"::1:80", b"[::1",
-                     b"http://127.0.0.1:80", b"127.0.0.1:80 ", b" 127.0.0.1:80", b"127.0.0.1:-1", b"127.0.0.1:x"]
+        addresses = [b"127.0.0.1:%d" % taken.getsockname()[1], *NO_ADDRESSES]
         for address in addresses:
             bench.run([b"serve", shelf.path, address, *random.choice([[], [b"--links", b"1"]])])
         for dataset in (b"none.idx", b".", b"r.raw", b"none/v.idx", b"n" * 300, shelf.path + b"/x"):
@@ -336,7 +350,8 @@ def damaged(bench: Bench) -> None:
     header = cases.header_of(texts)
     convert(bench, b"v.idx", header, texts, [2, 5, 7])
     for step in random.sample([5, 7], random.choice([1, 2])):
-        cases.damage(bench, header, os.path.join(bench.folder, reference.file_path(header, step, random.choice([0, 2]))))
+        file = reference.file_path(header, step, random.choice([0, 2]))
+        cases.damage(bench, header, os.path.join(bench.folder, file))
     words = [b"serve", b"v.idx", ANYWHERE]
     try:
         commands.standing_steps(header, bench.folder)
@@ -346,16 +361,24 @@ def damaged(bench: Bench) -> None:
     bench.serve(words, [plain_link(Shelf(b"v.idx", header, [2, 5, 7]), random) for _ in range(9)])
 
 
+def draw_options(random: Random) -> list[bytes]:
+    """Options of a server that may be wrong."""
+    values = [b"0", b"00", b"1", b"01", b"64", b"65", b"65536", b"65537", b"9" * 19, b"9" * 20, b"-1", b"x", b"",
+              b"0" * 18 + b"1", b"0" * 19 + b"1", b"1.0"]
+    right = [b"--cache", b"--workers", b"--links"]
+    wrong = [b"--ranks", b"--Cache", b"--cache=64", b"--", b"-c", b"cache", b""]
+    options = []
+    for _ in range(random.randint(0, 4)):
+        options += [random.choice(right if chance(random, 80) else wrong), random.choice(values)]
+    return options[:-1] if chance(random, 15) else options
+
+
 def wrong_words(bench: Bench) -> None:
     """Wrong words of a server, over an empty folder."""
     random = bench.random
-    right = [b"serve", b"v.idx", ANYWHERE]
-    values = [b"0", b"00", b"1", b"01", b"64", b"65", b"65536", b"65537", b"9" * 19, b"9" * 20, b"-1", b"x", b"", b"0" * 19 + b"1", b"1.0"]
-    names = [b"--cache", b"--workers", b"--links", b"--ranks", b"--Cache", b"--cache=64", b"--", b"-c", b"cache", b""]
     for _ in range(30):
-        options = [word for _ in range(random.randint(0, 4)) for word in (random.choice(names[:3] if chance(random, 70) else names), random.choice(values))]
-        words = right[:random.choice([3, 3, 3, 3, 1, 2])] + options
-        bench.run(words[:-1] if chance(random, 15) else words)
+        count = random.choice([3, 3, 3, 3, 2, 1])
+        bench.run([b"serve", b"v.idx", ANYWHERE][:count] + (draw_options(random) if count == 3 else []))
 
 
 def full_output(bench: Bench) -> None:
@@ -365,8 +388,8 @@ def full_output(bench: Bench) -> None:
 
 
 KINDS: list[Callable[[Bench], None]] = [
-    questions, odd_files, pieces, target_faults, plan_faults, odd_heads, leavings, hostile_heads, many_links, many_heads,
-    large_answers, lost_blocks, slips, damaged, wrong_words, full_output,
+    questions, odd_files, pieces, target_faults, plan_faults, too_large, odd_heads, leavings, hostile_heads, many_links,
+    many_heads, large_answers, lost_blocks, slips, damaged, wrong_words, full_output,
 ]
 """The kinds of cases, which come in turn."""
 

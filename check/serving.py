@@ -174,7 +174,7 @@ class Peer:
         """One turn of sending and receiving; false where the server has ended the link."""
         wait = self.next_send - time.monotonic()
         may_send = bool(self.pieces) and wait <= 0
-        waiting = max(0.001, wait) if self.pieces else 1
+        waiting = max(0, wait) if self.pieces else 1
         readable, writable, _ = select.select([self.socket], [self.socket] if may_send else [], [], waiting)
         if writable:
             self.send()

@@ -36,7 +36,7 @@ class Bench(server_cases.Bench, Protocol):
 
 @dataclass
 class Holder:
-    """A peer that sends its pieces with a pause behind each and then stays; the link behind it waits so many seconds."""
+    """A peer that sends its pieces with a pause behind each and then stays, so that the link behind it has to wait."""
     pieces: list[bytes]
     pause: float
     least: float
@@ -101,7 +101,7 @@ def hold(bench: Bench, shelf: Shelf, holder: Holder) -> None:
         seconds = time.monotonic() - start
         found = list(difference("replies of the link behind", b"".join(wants), came.received))
         if not holder.least <= seconds <= holder.most:
-            found.append(f"the link behind came to its end after {seconds:.1f} seconds, not {holder.least} to {holder.most}")
+            found.append(f"the link behind ended after {seconds:.1f} seconds, not {holder.least} to {holder.most}")
         differences, counts = held_differences(site, holder, held.end())
         return found + differences, [count + len(wants) for count in counts]
 
@@ -175,7 +175,8 @@ def trickling_to_the_closed(bench: Bench) -> None:
 
 def flooding_the_closed(bench: Bench) -> None:
     """A peer that gets a reply that closes, and goes on to send, a little more than is dropped, without a pause."""
-    hold(bench, small_shelf(bench), Holder([b"\0" + b"a" * 60_000, *[b"a" * 100] * 200], 0.05, 0, GREATEST_PAUSE + SLACK))
+    pieces = [b"\0" + b"a" * 60_000, *[b"a" * 100] * 200]
+    hold(bench, small_shelf(bench), Holder(pieces, 0.05, 0, GREATEST_PAUSE + SLACK))
 
 
 KINDS: list[Callable[[Bench], None]] = [
