@@ -311,7 +311,7 @@ def stands(header: Header, step: int, beside: bytes) -> bool:
 
 
 def is_empty_step(header: Header, step: int, beside: bytes) -> bool:
-    """Whether the folder of a step has nothing in it, so that there is no file to look for, however many it would have."""
+    """Whether there is nothing in the folder of a step, so that no file has to be looked for."""
     return header.time is not None and not os.listdir(os.path.join(beside, step_folder(header, step)))
 
 

@@ -1,7 +1,7 @@
 #!/usr/bin/env python3
 """Holds idxtool against the reference over real folders and links.
 
-    check/compare.py PROGRAM [--seed 1] [--cases 300] [--served 17] [--heads 1000] [--slow] [--only NAME] [--keep]
+    check/compare.py PROGRAM [--seed 1] [--cases 300] [--served 18] [--heads 200] [--links 300] [--slow] [--only NAME]
 
 Each case is a folder of its own with some runs in it. Of each run standard output, the names and the bytes of all
 files, the exit status and the first line on standard error are what the reference says, byte by byte, and further lines
@@ -49,6 +49,7 @@ class Case:
         self.at = at
         self.keep = arguments.keep
         self.heads = arguments.heads
+        self.links = arguments.links
         self.folder = os.fsencode(at / f"case-{name}")
         self.unfinished = False
         self.differences: list[str] = []
@@ -203,7 +204,8 @@ def parse_arguments() -> argparse.Namespace:
     parser.add_argument("--cases", type=int, default=300, help="the number of cases of the other commands")
     parser.add_argument("--first", type=int, default=0, help="the number of the first of these")
     parser.add_argument("--served", type=int, default=len(server_cases.KINDS), help="the number of cases of a server")
-    parser.add_argument("--heads", type=int, default=1_000, help="the number of random heads in one of these")
+    parser.add_argument("--heads", type=int, default=200, help="the number of random heads in one of these")
+    parser.add_argument("--links", type=int, default=300, help="the number of links in a row in another")
     parser.add_argument("--slow", action="store_true", help="peers too that a server waits for, for about a minute")
     parser.add_argument("--only", help="the name of the one case to run")
     parser.add_argument("--keep", action="store_true", help="keep the folders of runs that differ")

@@ -588,19 +588,14 @@ def row_of_block(header: Header, which: int, block: int, contents: dict[int, byt
     return None if content is None else read_row(content, row_number(header, which, block))
 
 
-def has_block(header: Header, which: int, block: int, contents: dict[int, bytes]) -> bool:
-    """Whether the checked files of a step have a block of a field."""
-    row = row_of_block(header, which, block, contents)
-    return row is not None and row.size > 0
-
-
 def stored_sample(header: Header, which: int, address: int, contents: dict[int, bytes]) -> bytes:
     """A sample of a field in the checked files of a step; zero bytes where its block is absent."""
     size = header.fields[which].sample_size()
     block, inside = divmod(address, 2**header.bits_per_block)
-    if not has_block(header, which, block, contents):
+    row = row_of_block(header, which, block, contents)
+    if row is None or row.size == 0:
         return bytes(size)
-    start = row_of_block(header, which, block, contents).offset + inside * size
+    start = row.offset + inside * size
     return contents[file_of_block(block, header.blocks_per_file)][start:start + size]
 
 

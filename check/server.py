@@ -16,8 +16,8 @@ from urllib.parse import unquote_to_bytes
 
 import commands
 from reference import (LARGEST_ANSWER, Box, Header, answer, answer_size, asked_points, box_word, count_asked,
-                       file_bytes, files_of_step, has_block, has_levels, header_words, hierarchical_address, number,
-                       outside_axis, parse_header)
+                       file_bytes, files_of_step, has_levels, header_words, hierarchical_address, number, outside_axis,
+                       parse_header, row_of_block)
 
 # Heads
 
@@ -266,9 +266,10 @@ def plan_fault(header: Header, ask: Ask) -> Reply | None:
 
 def needs_files(header: Header, ask: Ask, contents: dict[int, bytes]) -> bool:
     """Whether some sample of an answer stands in a block that the files of the step have."""
-    addresses = (hierarchical_address(point, header.mask)
-                 for point in asked_points(ask.region, header.mask, ask.low, ask.high))
-    return any(has_block(header, ask.which, address >> header.bits_per_block, contents) for address in addresses)
+    addresses = [hierarchical_address(point, header.mask)
+                 for point in asked_points(ask.region, header.mask, ask.low, ask.high)]
+    rows = [row_of_block(header, ask.which, address >> header.bits_per_block, contents) for address in addresses]
+    return any(row is not None and row.size > 0 for row in rows)
 
 
 @dataclass

@@ -15,16 +15,14 @@ from typing import Protocol
 import cases
 import commands
 import reference
-import server
 from cases import chance, odd_number, write
 from heads import (SPOILS, body_fields, closing_fields, draw_head, draw_target, first_lines, hostile_bytes,
                    hostile_starts, lay_out_head, odd_fields, other_time, outside_form, plain_head, right_form,
                    sized_heads)
 from reference import Header
-from serving import Leaves, Link
+from serving import Leaves, Link, Talk, play_together
 
 ANYWHERE = b"127.0.0.1:0"
-MANY_LINKS = 1_000
 HEADS_A_SERVER = 1_000
 NO_ADDRESSES = [b"localhost:80", b"127.0.0.1", b"127.0.0.1:65536", b":80", b"", b"127.0.0.1:", b"[127.0.0.1]:80", b"80",
                 b"300.0.0.1:80", b"1.2.3:80", b"192.0.2.1:80", b"::1:80", b"[::1", b"http://127.0.0.1:80",
@@ -35,9 +33,15 @@ NO_ADDRESSES = [b"localhost:80", b"127.0.0.1", b"127.0.0.1:65536", b":80", b"", 
 class Bench(cases.Bench, Protocol):
     """What a case of a server is made on."""
     heads: int
+    """The number of random heads."""
+    links: int
+    """The number of links in a row."""
 
     def serve(self, words: Sequence[bytes], links: Sequence[Link], sink: bytes | None = None) -> None:
         """Runs the program as a server of these links, and compares what each gets and how the run ends."""
+
+    def serve_peers(self, words: Sequence[bytes], links: int, talk: Talk, sink: bytes | None = None) -> None:
+        """Runs the program as a server of so many links, which are talked over, and compares how the run ends."""
 
 
 @dataclass
@@ -220,17 +224,37 @@ def plan_faults(bench: Bench) -> None:
     bench.serve(shelf.words(random), [draw_link(random, b"".join(map(plain_head, targets))) for _ in range(3)])
 
 
+def large_shelf(bench: Bench) -> Shelf:
+    """A dataset of 4,194,305 samples of 64 bytes in steps without files: one sample more than an answer has."""
+    texts = [b"0 4194304 0 0", b"a uint8[64]", b"V" + b"0" * 23, b"12", b"1024", b"%06x", b"5 9 time%04d/"]
+    return empty_shelf(bench, texts, [6, 8])
+
+
+def boxes_of(dataset: bytes, asks: Sequence[bytes]) -> list[bytes]:
+    """Heads that ask for boxes, each with what stands behind it."""
+    return [plain_head(b"/mod_visus?action=boxquery&dataset=%s&box=%s" % (dataset, ask)) for ask in asks]
+
+
 def too_large(bench: Bench) -> None:
-    """Answers at the limit of bytes and above it, of which no sample is read."""
-    random = bench.random
-    texts = [b"0 4194304 0 0", b"a uint8[64]", b"V" + b"0" * 23, b"18", b"4", b"%06x", b"5 9 time%04d/"]
-    shelf = empty_shelf(bench, texts, [6, 8])
-    asks = [b"0+4194304+0+0", b"0+4194304+0+0&time=6", b"0+4194304+0+0&toh=22&time=7", b"0+4194305+0+0",
-            b"9+9+0+0&time=8", b"0+4194303+0+0&time=5", b"0+4194304+0+1&time=6", b"1+4194304+0+0&fromh=24&toh=1",
-            b"1+4194304+0+0&toh=24", b"1+4194304+0+0&time=0", b"0+4194304+0+0&fromh=23&time=9",
-            b"0+4194304+0+0&toh=4294967295"]
-    heads = [plain_head(b"/mod_visus?action=boxquery&dataset=v&box=" + ask) for ask in asks]
+    """Answers that are too large, and other refusals that come before or behind that."""
+    random, shelf = bench.random, large_shelf(bench)
+    heads = boxes_of(b"v", [
+        b"0+4194304+0+0", b"0+4194304+0+0&time=6", b"0+4194305+0+0", b"9+9+0+0&time=8", b"0+4194304+0+0&time=99",
+        b"0+4194304+0+1&time=6", b"1+4194304+0+0&fromh=24&toh=1", b"1+4194304+0+0&toh=24", b"9+9+0+0&time=7",
+        b"0+4194304+0+0&toh=4294967295",
+    ])
     bench.serve(shelf.words(random), [draw_link(random, b"".join(random.sample(heads, len(heads)))) for _ in range(3)])
+
+
+def posts(bench: Bench) -> None:
+    """A dataset without a step that stands, and one with many; what stands in the place of a folder is no step."""
+    random = bench.random
+    texts = [b"0 3 0 3", b"a uint8", b"V0101", b"2", b"2", b"./%01x.bin", b"7 99 time%04d/"]
+    write(bench, b"time0007", b"no folder")
+    for steps in ([], sorted(random.sample(range(8, 100), 40))):
+        shelf = empty_shelf(bench, texts, steps)
+        sent = b"".join(boxes_of(b"v", [b"0+3+0+3&time=%d" % step for step in range(5, 102)]))
+        bench.serve(shelf.words(random), [draw_link(random, sent)])
 
 
 def odd_heads(bench: Bench) -> None:
@@ -274,15 +298,16 @@ def many_links(bench: Bench) -> None:
     """Very many links in a row."""
     random, shelf = bench.random, small_shelf(bench)
     leaves = [Leaves.AT_ONCE, Leaves.SERVED]
-    links = [Link([plain_head(shelf.target(random))], leaves=random.choice(leaves)) for _ in range(MANY_LINKS)]
+    links = [Link([plain_head(shelf.target(random))], leaves=random.choice(leaves)) for _ in range(bench.links)]
     bench.serve(shelf.words(random), links)
 
 
-def many_heads(bench: Bench) -> None:
-    """More heads on a link than are replied to; those behind the last reply are left."""
-    random, shelf = bench.random, small_shelf(bench)
-    sent = b"GET / HTTP/1.1\n\n" * (server.MOST_REPLIES + 5)
-    bench.serve(shelf.words(random), [Link([sent]), plain_link(shelf, random)])
+def links_at_once(bench: Bench) -> None:
+    """Links that are made and sent over at the same time."""
+    random, shelf = bench.random, convert_steps(bench)
+    links = [draw_link(random, b"".join(draw_head(random, shelf.target(random)) for _ in range(random.randint(1, 3))))
+             for _ in range(60)]
+    bench.serve_peers(shelf.words(random), len(links), lambda address, site: play_together(address, site, links))
 
 
 def large_answers(bench: Bench) -> None:
@@ -291,8 +316,8 @@ def large_answers(bench: Bench) -> None:
     texts = [b"0 63 0 63", b"a uint8[64] + b uint8", b"V" + b"01" * 6, b"8", b"4", b"%03x", b"0 1 t%01d/"]
     shelf = Shelf(b"v.idx", cases.header_of(texts), [1])
     convert(bench, shelf.path, shelf.header, texts, shelf.steps)
-    target = b"/mod_visus?action=boxquery&dataset=v&time=1&box=0+63+0+63"
-    links = [Link([plain_head(target) * count], leaves=leaves) for count in (1, 12) for leaves in Leaves]
+    heads = boxes_of(b"v", [b"0+63+0+63&time=1"])
+    links = [Link(heads * count, leaves=leaves) for count in (1, 12) for leaves in Leaves]
     bench.serve(shelf.words(random), links + [plain_link(shelf, random)])
 
 
@@ -388,8 +413,8 @@ def full_output(bench: Bench) -> None:
 
 
 KINDS: list[Callable[[Bench], None]] = [
-    questions, odd_files, pieces, target_faults, plan_faults, too_large, odd_heads, leavings, hostile_heads, many_links,
-    many_heads, large_answers, lost_blocks, slips, damaged, wrong_words, full_output,
+    questions, odd_files, pieces, target_faults, plan_faults, too_large, posts, odd_heads, leavings, hostile_heads,
+    many_links, links_at_once, large_answers, lost_blocks, slips, damaged, wrong_words, full_output,
 ]
 """The kinds of cases, which come in turn."""
 

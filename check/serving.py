@@ -200,34 +200,49 @@ class Peer:
         return Came(bytes(self.received), False)
 
 
-def play(address: Address, link: Link, wanted: int) -> Came:
-    """Plays a link to which a number of bytes should come."""
+Replies = list[list[bytes]]
+"""The lists of replies that are right for a link: one, or two where the page leaves a corner open."""
+
+
+def open_link(address: Address, site: Site, link: Link) -> tuple[Peer, Replies]:
+    """Makes a link, and gives its peer with the replies that should come to it."""
     if link.before is not None:
         link.before()
-    return Peer(address, link, wanted).run()
-
-
-def link_differences(site: Site, address: Address, link: Link) -> tuple[list[str], int]:
-    """Where what a link gets differs from what the reference says, and the number of its replies."""
-    site = site.without_blocks() if link.unreadable else site
-    lists, closes = replies(site, link.sent())
-    wants = [b"".join(each) for each in lists]
-    if closes or len(wants) > 1:
+    lists, closes = replies(site.without_blocks() if link.unreadable else site, link.sent())
+    if closes or len(lists) > 1:
         link = replace(link, leaves=Leaves.AT_ONCE)
-    came = play(address, link, len(wants[0]))
+    return Peer(address, link, sum(map(len, lists[0]))), lists
+
+
+def talk_over(place: int, peer: Peer, lists: Replies) -> tuple[list[str], int]:
+    """Lets a peer talk to the end of its link; where what came differs, and the number of its replies."""
+    wants = [b"".join(each) for each in lists]
+    came = peer.run()
     found = [] if came.received in wants else list(difference("replies", wants[0], came.received))
     if not came.ended:
         found.append(f"the link did not end in {SECONDS} seconds")
-    return found, len(lists[wants.index(came.received)]) if not found else 0
+    if found:
+        link = peer.link
+        shown = f"link {place}, {len(link.pieces)} pieces, {link.leaves.value}: sent {link.sent()[:2_000]!r}"
+        return [shown, *found], 0
+    return [], len(lists[wants.index(came.received)])
 
 
 def play_links(address: Address, site: Site, links: Sequence[Link]) -> tuple[list[str], list[int]]:
     """Plays links one after the other up to the first that differs; where, and the number of all replies."""
     count = 0
     for place, link in enumerate(links):
-        found, of_link = link_differences(site, address, link)
+        found, of_link = talk_over(place, *open_link(address, site, link))
         if found:
-            shown = f"link {place}, {len(link.pieces)} pieces, {link.leaves.value}: sent {link.sent()[:2_000]!r}"
-            return [shown, *found], []
+            return found, []
         count += of_link
     return [], [count]
+
+
+def play_together(address: Address, site: Site, links: Sequence[Link]) -> tuple[list[str], list[int]]:
+    """Makes all links and sends on each before any is read; where they differ, and the number of all replies."""
+    opened = [open_link(address, site, link) for link in links]
+    for peer, _ in opened:
+        peer.turn()
+    ended = [talk_over(place, peer, lists) for place, (peer, lists) in enumerate(opened)]
+    return [line for found, _ in ended for line in found], [sum(of_link for _, of_link in ended)]

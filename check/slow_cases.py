@@ -9,14 +9,12 @@ import threading
 import time
 from collections.abc import Callable, Sequence
 from dataclasses import dataclass
-from typing import Protocol
 
-import server_cases
 from differences import difference
 from heads import plain_head
-from server import Site, replies
-from server_cases import Shelf, small_shelf
-from serving import Address, Leaves, Link, Peer, Talk
+from server import MOST_REPLIES, Site, replies
+from server_cases import Bench, Shelf, boxes_of, empty_shelf, large_shelf, small_shelf
+from serving import Address, Leaves, Link, Peer
 
 SILENCE = 10
 """The seconds after which a link ends on which no byte comes or goes."""
@@ -25,13 +23,6 @@ GREATEST_PAUSE = 60
 SLACK = 15
 """The seconds by which a busy machine may be late."""
 EARLY = 0.5
-
-
-class Bench(server_cases.Bench, Protocol):
-    """What a slow case is made on."""
-
-    def serve_peers(self, words: Sequence[bytes], links: int, talk: Talk, sink: bytes | None = None) -> None:
-        """Runs the program as a server of so many links, which are talked over, and compares how the run ends."""
 
 
 @dataclass
@@ -158,9 +149,21 @@ def in_pauses(bench: Bench) -> None:
 def never_reading(bench: Bench) -> None:
     """A peer that asks for many large answers and reads nothing."""
     texts = [b"0 63 0 63", b"a uint8[64]", b"V" + b"01" * 6, b"8", b"4", b"%03x", b"0 1 t%01d/"]
-    shelf = server_cases.empty_shelf(bench, texts, [0])
-    head = plain_head(b"/mod_visus?action=boxquery&dataset=v&box=0+63+0+63")
-    hold(bench, shelf, Holder([head * 400], 0, SILENCE - EARLY, SILENCE + SLACK, reads=False))
+    shelf = empty_shelf(bench, texts, [0])
+    heads = boxes_of(b"v", [b"0+63+0+63"])
+    hold(bench, shelf, Holder(heads * 400, 0, SILENCE - EARLY, GREATEST_PAUSE + SLACK, reads=False))
+
+
+def largest(bench: Bench) -> None:
+    """An answer of 2^28 bytes, of a step that does not stand."""
+    sent = boxes_of(b"v", [b"0+4194303+0+0&time=5", b"1+4194304+0+0&time=7", b"0+4194304+0+0&time=5"])
+    hold(bench, large_shelf(bench), Holder(sent, 0, 0, 4 * GREATEST_PAUSE))
+
+
+def many_heads(bench: Bench) -> None:
+    """A peer that sends more heads than are replied to on a link."""
+    sent = b"GET / HTTP/1.1\n\n" * (MOST_REPLIES + 5)
+    hold(bench, small_shelf(bench), Holder([sent], 0, 0, 4 * GREATEST_PAUSE))
 
 
 def staying(bench: Bench) -> None:
@@ -180,8 +183,8 @@ def flooding_the_closed(bench: Bench) -> None:
 
 
 KINDS: list[Callable[[Bench], None]] = [
-    silent, silent_in_a_head, trickling, trickling_behind, in_pauses, never_reading, staying, trickling_to_the_closed,
-    flooding_the_closed,
+    silent, silent_in_a_head, trickling, trickling_behind, in_pauses, never_reading, largest, many_heads,
+    staying, trickling_to_the_closed, flooding_the_closed,
 ]
 """The kinds of slow cases, which run side by side."""
 
