@@ -243,8 +243,12 @@ def draw_options(random: Random, command: bytes) -> list[bytes]:
     """Options of a command, of those that change nothing of what it does."""
     options = commands.OPTIONS[command]
     chosen = random.sample(sorted(options), random.choice([0, 0, 0, random.randint(0, len(options))]))
-    return [word for name in chosen
-            for word in (name, odd_number(random, random.choice([1, 2, 3, options[name] - 1, options[name]])))]
+    return [word for name in chosen for word in (name, odd_number(random, draw_count(random, options[name])))]
+
+
+def draw_count(random: Random, most: int) -> int:
+    """A number of an option, seldom a great one, which takes the program long."""
+    return random.choice([most - 1, most]) if chance(random, 5) else random.choice([1, 2, 3, 7, 64])
 
 
 # Questions

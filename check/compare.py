@@ -1,7 +1,8 @@
 #!/usr/bin/env python3
 """Holds idxtool against the reference over real folders and links.
 
-    check/compare.py PROGRAM [--seed 1] [--cases 300] [--served 18] [--heads 200] [--links 300] [--slow] [--only NAME]
+    check/compare.py PROGRAM [--seed 1] [--cases 300] [--served 18] [--heads 200] [--links 300] [--slow] [--keep]
+    check/compare.py PROGRAM [--seed 1] --only NAME [--keep]
 
 Each case is a folder of its own with some runs in it. Of each run standard output, the names and the bytes of all
 files, the exit status and the first line on standard error are what the reference says, byte by byte, and further lines

@@ -15,7 +15,7 @@ from typing import Protocol
 import cases
 import commands
 import reference
-from cases import chance, odd_number, write
+from cases import chance, draw_count, odd_number, write
 from heads import (SPOILS, body_fields, closing_fields, draw_head, draw_target, first_lines, hostile_bytes,
                    hostile_starts, lay_out_head, odd_fields, other_time, outside_form, plain_head, right_form,
                    sized_heads)
@@ -65,10 +65,10 @@ class Shelf:
 
     def words(self, random: Random) -> list[bytes]:
         """The words that serve it, but for the number of links."""
-        options = [[b"--cache", odd_number(random, random.choice([1, 2, 64, 65_536]))],
-                   [b"--workers", odd_number(random, random.choice([1, 2, 64]))]]
-        chosen = random.sample(options, random.choice([0, 0, 1, 2]))
-        return [b"serve", self.path, ANYWHERE, *(word for option in chosen for word in option)]
+        most = commands.OPTIONS[b"serve"]
+        chosen = random.sample([b"--cache", b"--workers"], random.choice([0, 0, 1, 2]))
+        options = [word for name in chosen for word in (name, odd_number(random, draw_count(random, most[name])))]
+        return [b"serve", self.path, ANYWHERE, *options]
 
 
 # Datasets
