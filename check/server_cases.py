@@ -74,19 +74,24 @@ class Shelf:
 # Datasets
 
 
+def right_texts(random: Random) -> list[bytes]:
+    """The seven texts of a random dataset that `convert` takes."""
+    while True:
+        texts = cases.draw_dataset(random).texts(random)
+        words = [b"convert", b"v.idx", b"r.raw", *texts, b"0"]
+        if cases.header_of(texts) is not None and commands.usage_fault(words) is None:
+            return texts
+
+
 def convert_steps(bench: Bench) -> Shelf:
     """A random dataset with one to three steps that the program itself has converted."""
     random = bench.random
-    while True:
-        dataset = cases.draw_dataset(random)
-        texts = dataset.texts(random)
-        header = cases.header_of(texts)
-        if header is not None:
-            break
-    path = cases.draw_path(random, bench)
-    steps = sorted(random.sample(commands.steps_of(header), min(len(commands.steps_of(header)), random.randint(1, 3))))
-    convert(bench, path, header, texts, steps)
-    return Shelf(path, header, steps)
+    texts = right_texts(random)
+    header, path = cases.header_of(texts), cases.draw_path(random, bench)
+    steps = commands.steps_of(header)
+    shelf = Shelf(path, header, sorted(random.sample(steps, min(len(steps), random.randint(1, 3)))))
+    convert(bench, path, header, texts, shelf.steps)
+    return shelf
 
 
 def convert(bench: Bench, path: bytes, header: Header, texts: Sequence[bytes], steps: Sequence[int]) -> None:
