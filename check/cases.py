@@ -13,6 +13,7 @@ from dataclasses import dataclass
 from random import Random
 from typing import Protocol
 
+import commands
 import reference
 from reference import Box, Header
 
@@ -22,7 +23,7 @@ class Bench(Protocol):
     random: Random
     folder: bytes
 
-    def run(self, words: Sequence[bytes], sink: bytes | None = None) -> reference.Outcome:
+    def run(self, words: Sequence[bytes], sink: bytes | None = None) -> commands.Outcome:
         """Runs the program with these words, compares, and gives what the reference says."""
 
 
@@ -235,7 +236,19 @@ def make(bench: Bench) -> Made:
 def convert(bench: Bench, made: Made, step: int, texts: Sequence[bytes] | None = None) -> None:
     """Asks for a step of a dataset."""
     words = [b"convert", made.path, b"r.raw", *(texts or made.texts), odd_number(bench.random, step)]
-    bench.run(words)
+    bench.run(words + draw_options(bench.random, b"convert"))
+
+
+def draw_options(random: Random, command: bytes) -> list[bytes]:
+    """Options of a command, of those that change nothing of what it does."""
+    options = commands.OPTIONS[command]
+    chosen = random.sample(sorted(options), random.choice([0, 0, 0, random.randint(0, len(options))]))
+    return [word for name in chosen for word in (name, odd_number(random, draw_count(random, options[name])))]
+
+
+def draw_count(random: Random, most: int) -> int:
+    """A number of an option, seldom a great one, which takes the program long."""
+    return random.choice([most - 1, most]) if chance(random, 5) else random.choice([1, 2, 3, 7, 64])
 
 
 # Questions
@@ -281,7 +294,7 @@ def draw_query(random: Random, path: bytes, header: Header, step: int) -> list[b
     elif spoil == 3:
         low, high = random.choice([(high + 1, high), (low, len(header.mask) + 1), (0, 2**32 - 1), (2**32 - 1, 0)])
     words = [b"query", path, odd_number(random, step), field, box_text(random, region, b" \t")]
-    return words + [odd_number(random, low), odd_number(random, high)]
+    return words + [odd_number(random, low), odd_number(random, high)] + draw_options(random, b"query")
 
 
 def ask(bench: Bench, made: Made, count: int) -> None:
@@ -553,6 +566,7 @@ def hostile_words(random: Random) -> list[bytes]:
     """Words that are wrong in most places."""
     return [b"", b" ", b"\t", b"-", b"-1", b"+1", b"0", b"1", b"1.0", b"0x1", b"--help", b"--version", b"-h", b"64",
             b"65", b"(box)", b"(", b"auto", b"V", b"V5", b"V0101", b"v0101", b"V" + b"0" * 40, b"V" + b"01" * 21,
+            b"--cache", b"--ranks", b"--links", b"--workers", b"--cache=64", b"--",
             b"9" * 19, b"9" * 20, b"0" * 20, b"4294967295", b"4294967296", b"0 3 0 3", b"0 3", b"3 0 0 3",
             b"0 3 0 3 0", b"0\n3 0 3", b"0 3 0 1099511627776", b"0 3\t0 3", b" 0 3 0 3 ", b"0 0 " * 6, b"0 0 " * 5,
             b"0 1099511627775 0 0", b"0 1099511627775 0 1", b"a" * 4096, b"a" * 4097, b"a" * 100_000,
@@ -578,13 +592,15 @@ def right_words(random: Random) -> list[bytes]:
     """A list of words that is right."""
     dataset = draw_dataset(random)
     header = header_of(dataset.texts(random))
-    style = random.randrange(4)
+    style = random.randrange(5)
     if style == 0:
         return draw_cut(random)[0]
     if style == 1 or header is None:
         return [b"info", b"v.idx"]
     if style == 2:
-        return [b"convert", b"v.idx", b"r.raw", *dataset.texts(random), b"0"]
+        return [b"convert", b"v.idx", b"r.raw", *dataset.texts(random), b"0", *draw_options(random, b"convert")]
+    if style == 3:
+        return [b"serve", b"v.idx", b"127.0.0.1:0", *draw_options(random, b"serve")]
     return draw_query(random, b"v.idx", header, 0)
 
 

@@ -1,13 +1,14 @@
 #!/usr/bin/env python3
-"""Holds idxtool against the reference over real folders.
+"""Holds idxtool against the reference over real folders and links.
 
-    check/compare.py PROGRAM [--seed 1] [--cases 300] [--first 0] [--keep]
+    check/compare.py PROGRAM [--seed 1] [--cases 300] [--served 18] [--heads 200] [--links 300] [--slow] [--keep]
+    check/compare.py PROGRAM [--seed 1] --only NAME [--keep]
 
 Each case is a folder of its own with some runs in it. Of each run standard output, the names and the bytes of all
-files, the exit status and the first line on standard error are what `reference.py` says, byte by byte, and further
-lines of standard error begin with two spaces. A difference is printed with the command line that shows it, and the case
-goes on. The seed and the number of a case determine it. The last line is `N passed, M failed`, of cases; the exit
-status is 1 where any failed.
+files, the exit status and the first line on standard error are what the reference says, byte by byte, and further lines
+of standard error begin with two spaces; of a run that serves also all that comes over its links. A difference is
+printed with the command line that shows it, and the case goes on. The seed and the name of a case determine it. The
+last line is `N passed, M failed`, of cases; the exit status is 1 where any failed.
 """
 from __future__ import annotations
 
@@ -15,162 +16,83 @@ import argparse
 import os
 import shlex
 import shutil
-import stat
 import subprocess
 import sys
 import tempfile
 import traceback
 from collections.abc import Iterator, Sequence
-from dataclasses import dataclass
+from concurrent.futures import ThreadPoolExecutor
 from pathlib import Path
 from random import Random
-from typing import BinaryIO
 
 import cases
+import commands
 import reference
+import server
+import server_cases
+import slow_cases
+from differences import (Tree, difference, error_differences, put_tree, quoted, short, tree, tree_differences,
+                         with_files, without_staged)
+from serving import Ended, Link, Server, Talk, play_links, read_back
 
+SERVED, SLOW = "served", "slow"
 SECONDS = 60
 LONGEST_PRINTED = 2_000
-STAGED = b".part"
-"""How the name of a folder ends in which an unfinished conversion leaves what it has staged."""
-
-Tree = dict[bytes, bytes]
-"""The paths in a folder, each with the bytes of the file, or with what else stands there."""
-
-
-@dataclass
-class Ended:
-    """How a run ended."""
-    status: int
-    output: bytes
-    errors: bytes
-
-
-FOLDER, PIPE, LINK = b"<folder>", b"<pipe>", b"<link>"
-
-
-def what_stands(path: bytes) -> bytes:
-    """The bytes of a regular file, or what else stands at a path."""
-    mode = os.lstat(path).st_mode
-    if stat.S_ISREG(mode):
-        return Path(os.fsdecode(path)).read_bytes()
-    if stat.S_ISLNK(mode):
-        return LINK + os.readlink(path)
-    return FOLDER if stat.S_ISDIR(mode) else PIPE
-
-
-def tree(folder: bytes) -> Tree:
-    """What stands below a folder."""
-    found: Tree = {}
-    for at, folders, files in os.walk(folder):
-        for name in folders + files:
-            path = os.path.join(at, name)
-            found[os.path.relpath(path, folder)] = what_stands(path)
-    return found
-
-
-def with_files(before: Tree, folder: bytes, files: dict[bytes, bytes]) -> Tree:
-    """A tree with further files, and with the folders that they need."""
-    after = dict(before)
-    for path, content in files.items():
-        place = os.path.relpath(path, folder)
-        after[place] = content
-        while place := os.path.dirname(place):
-            after[place] = FOLDER
-    return after
-
-
-def put_tree(folder: bytes, content: Tree) -> None:
-    """Writes a tree into a folder, for a person who wants to see the case."""
-    for path, what in sorted(content.items()):
-        whole = os.path.join(folder, path)
-        if what == FOLDER:
-            os.makedirs(whole, exist_ok=True)
-        elif what == PIPE:
-            os.mkfifo(whole)
-        elif what.startswith(LINK):
-            os.symlink(what.removeprefix(LINK), whole)
-        else:
-            os.makedirs(os.path.dirname(whole), exist_ok=True)
-            Path(os.fsdecode(whole)).write_bytes(what)
-
-
-def quoted(word: bytes) -> str:
-    """A word as bash reads it."""
-    if all(0x20 <= byte <= 0x7E for byte in word):
-        return shlex.quote(word.decode())
-    plain = [0x20 <= byte <= 0x7E and byte not in b"'\\" for byte in word]
-    return "$'" + "".join(chr(byte) if as_it_is else f"\\x{byte:02x}" for byte, as_it_is in zip(word, plain)) + "'"
-
-
-def short(content: bytes | None) -> str:
-    """Some bytes, for a person."""
-    if content is None:
-        return "nothing"
-    return repr(content[:200])[1:] + ("" if len(content) <= 200 else f".. of {len(content)} bytes")
-
-
-def difference(what: str, want: bytes | None, came: bytes | None) -> Iterator[str]:
-    """A line where two texts differ."""
-    if want == came:
-        return
-    where = ""
-    if want is not None and came is not None:
-        place = next((at for at, (a, b) in enumerate(zip(want, came)) if a != b), min(len(want), len(came)))
-        where = f" (from byte {place} on, {len(want)} bytes wanted, {len(came)} came)" if place > 0 else ""
-    yield f"{what}: want {short(want)}, came {short(came)}{where}"
-
-
-def tree_differences(want: Tree, came: Tree) -> Iterator[str]:
-    """The paths where two trees differ."""
-    for path in sorted(want.keys() | came.keys()):
-        yield from difference(f"file {quoted(path)}", want.get(path), came.get(path))
-
-
-def error_differences(want: bytes | None, came: bytes) -> Iterator[str]:
-    """Where standard error differs: its first line, the ends of its lines and the two spaces before further ones."""
-    if want is None:
-        yield from difference("standard error", b"", came)
-        return
-    lines = came.split(b"\n")
-    yield from difference("first line of standard error", want, lines[0])
-    if lines[-1] != b"":
-        yield f"standard error does not end with a line feed: {short(came)}"
-    for line in lines[1:-1]:
-        if not line.startswith(b"  "):
-            yield f"a further line of standard error does not begin with two spaces: {short(line)}"
-
-
-def without_staged(content: Tree) -> Tree:
-    """A tree without what unfinished conversions leave."""
-    return {path: what for path, what in content.items() if not any(part.endswith(STAGED) for part in path.split(b"/"))}
 
 
 class Case:
     """A folder, with runs of the program in it that are compared one by one."""
 
-    def __init__(self, program: str, seed: int, number: int, at: Path, keep: bool) -> None:
-        self.random = Random(f"{seed}/{number}")
-        self.program = program
-        self.number = number
+    def __init__(self, arguments: argparse.Namespace, name: str, at: Path) -> None:
+        self.random = Random(f"{arguments.seed}/{name}")
+        self.program = arguments.program
+        self.name = name
         self.at = at
-        self.keep = keep
-        self.folder = os.fsencode(at / f"case-{number}")
+        self.keep = arguments.keep
+        self.heads = arguments.heads
+        self.links = arguments.links
+        self.folder = os.fsencode(at / f"case-{name}")
         self.unfinished = False
         self.differences: list[str] = []
         self.runs = 0
         os.mkdir(self.folder)
 
-    def run(self, words: Sequence[bytes], sink: bytes | None = None) -> reference.Outcome:
+    def run(self, words: Sequence[bytes], sink: bytes | None = None) -> commands.Outcome:
         """Runs the program with these words, compares, and gives what the reference says."""
         self.runs += 1
         before = tree(self.folder)
-        want = expected(words, self.folder, sink)
+        want = of_sink(commands.run(words, self.folder), sink)
         came = self.start(words, sink)
         found = list(self.compare(want, came, before, sink is None))
         if found:
             self.report(words, sink, found, before)
         return want
+
+    def serve(self, words: Sequence[bytes], links: Sequence[Link], sink: bytes | None = None) -> None:
+        """Runs the program as a server of these links, and compares what each gets and how the run ends."""
+        self.serve_peers(words, len(links), lambda address, site: play_links(address, site, links), sink)
+
+    def serve_peers(self, words: Sequence[bytes], links: int, talk: Talk, sink: bytes | None = None) -> None:
+        """Runs the program as a server of so many links, which are talked over, and compares how the run ends."""
+        self.runs += 1
+        before = tree(self.folder)
+        whole = [*words, b"--links", b"%d" % links]
+        site = server.open_site(words, self.folder)
+        with Server([os.fsencode(self.program), *whole], self.folder, sink) as running:
+            found = list(running.listening_differences(b"%d steps of %s" % (len(site.posts), words[1])))
+            if running.address is not None:
+                differences, counts = talk(running.address, site)
+                found += differences or self.end_differences(running, links, counts, sink, before)
+        if found:
+            self.report(whole, sink, found, before)
+
+    def end_differences(self, running: Server, links: int, counts: Sequence[int], sink: bytes | None,
+                        before: Tree) -> list[str]:
+        """Where the end of a server differs of whose replies there are as many as one of these counts."""
+        came = running.end()
+        outputs = [b"links %d replies %d\n" % (links, count) for count in counts]
+        output = came.output if came is not None and came.output in outputs else outputs[0]
+        return list(self.compare(of_sink(commands.Outcome(output=output), sink), came, before, sink is None, True))
 
     def start(self, words: Sequence[bytes], sink: bytes | None) -> Ended | None:
         """Runs the program; None where it does not end."""
@@ -184,13 +106,14 @@ class Case:
             return None
         return Ended(ended.returncode, written, ended.stderr)
 
-    def compare(self, want: reference.Outcome, came: Ended | None, before: Tree, has_output: bool) -> Iterator[str]:
+    def compare(self, want: commands.Outcome, came: Ended | None, before: Tree, has_output: bool,
+                may_begin_early: bool = False) -> Iterator[str]:
         """Where a run differs from what the reference says."""
         if came is None:
             yield f"the program did not end in {SECONDS} seconds"
             return
         yield from difference("exit status", b"%d" % want.status, b"%d" % came.status)
-        yield from error_differences(want.line, came.errors)
+        yield from error_differences(want.line, came.errors, may_begin_early)
         if has_output and want.output is not None:
             yield from difference("standard output", want.output, came.output)
         elif has_output and not came.output.startswith(b"idxtool"):
@@ -202,15 +125,14 @@ class Case:
     def report(self, words: Sequence[bytes], sink: bytes | None, found: list[str], before: Tree) -> None:
         """Prints a run that differs, and keeps the folder as it was before it."""
         self.differences += found
-        print(f"case {self.number}, run {self.runs}:")
+        lines = [f"case {self.name}, run {self.runs}:"]
         if self.keep:
-            kept = self.at / f"kept-{self.number}-{self.runs}"
+            kept = self.at / f"kept-{self.name}-{self.runs}"
             self.put_again(kept, words, sink, before)
-            print(f"  again: bash {shlex.quote(str(kept / 'run.sh'))}")
+            lines.append(f"  again: bash {shlex.quote(str(kept / 'run.sh'))}")
         line = shell_line(self.program, words, sink)
-        print(f"  {line if len(line) <= LONGEST_PRINTED else line[:LONGEST_PRINTED] + ' ..'}")
-        for each in found:
-            print(f"    {each}")
+        lines.append(f"  {line if len(line) <= LONGEST_PRINTED else line[:LONGEST_PRINTED] + ' ..'}")
+        print("\n".join(lines + [f"    {each}" for each in found]))
 
     def put_again(self, kept: Path, words: Sequence[bytes], sink: bytes | None, before: Tree) -> None:
         """Puts a folder with a script that runs a run again in it."""
@@ -227,34 +149,52 @@ def shell_line(program: str, words: Sequence[bytes], sink: bytes | None) -> str:
     return " ".join([shlex.quote(program), *map(quoted, words)]) + (f" >{quoted(sink)}" if sink else "")
 
 
-def read_back(file: BinaryIO) -> bytes:
-    """What was written to a file."""
-    file.seek(0)
-    return file.read()
-
-
-def expected(words: Sequence[bytes], folder: bytes, sink: bytes | None) -> reference.Outcome:
-    """What the reference says; a sink that is named takes nothing."""
-    want = reference.run(words, folder)
+def of_sink(want: commands.Outcome, sink: bytes | None) -> commands.Outcome:
+    """What a run leaves whose output goes to a sink; one that is named takes nothing."""
     if sink is not None and want.status == 0 and want.output != b"":
-        return reference.Outcome(9, b"idxtool: sink fault")
+        return commands.Outcome(9, b"idxtool: sink fault")
     return want
 
 
-def run_case(arguments: argparse.Namespace, number: int, at: Path) -> bool:
+def run_case(arguments: argparse.Namespace, name: str, at: Path) -> bool:
     """Runs one case and answers whether it passed."""
-    case = Case(arguments.program, arguments.seed, number, at, arguments.keep)
+    case = Case(arguments, name, at)
     try:
-        kind = cases.draw_case(case)
+        kind = draw_case(case, name)
     except Exception:
-        traceback.print_exc(file=sys.stdout)
-        print(f"case {number}: the case could not be made, or the reference failed")
+        print(f"{traceback.format_exc()}case {name}: the case could not be made, or the reference failed")
         return False
     finally:
         shutil.rmtree(case.folder)
     if case.differences:
-        print(f"  (of the kind {kind}; the case alone: --seed {arguments.seed} --first {number} --cases 1 --keep)")
+        print(f"  (of the kind {kind}; the case alone: --seed {arguments.seed} --only {name} --keep)")
     return not case.differences
+
+
+def draw_case(case: Case, name: str) -> str:
+    """Makes and runs the case of a name, and gives its kind."""
+    kind, _, number = name.rpartition("-")
+    if kind == SERVED:
+        return server_cases.draw_case(case, int(number))
+    return slow_cases.draw_case(case, int(number)) if kind == SLOW else cases.draw_case(case)
+
+
+def names_of_cases(arguments: argparse.Namespace) -> list[str]:
+    """The names of the cases that are run one after the other."""
+    if arguments.only is not None:
+        return [arguments.only]
+    plain = [str(number) for number in range(arguments.first, arguments.first + arguments.cases)]
+    return plain + [f"{SERVED}-{number}" for number in range(arguments.served)]
+
+
+def run_cases(arguments: argparse.Namespace, at: Path) -> list[bool]:
+    """Runs the cases, and answers for each whether it passed; the slow ones run side by side."""
+    passed = [run_case(arguments, name, at) for name in names_of_cases(arguments)]
+    if arguments.slow and arguments.only is None:
+        names = [f"{SLOW}-{number}" for number in range(len(slow_cases.KINDS))]
+        with ThreadPoolExecutor(len(names)) as pool:
+            passed += pool.map(lambda name: run_case(arguments, name, at), names)
+    return passed
 
 
 def parse_arguments() -> argparse.Namespace:
@@ -262,8 +202,13 @@ def parse_arguments() -> argparse.Namespace:
     parser = argparse.ArgumentParser(description="Holds idxtool against the reference.")
     parser.add_argument("program")
     parser.add_argument("--seed", type=int, default=1)
-    parser.add_argument("--cases", type=int, default=300)
-    parser.add_argument("--first", type=int, default=0, help="the number of the first case")
+    parser.add_argument("--cases", type=int, default=300, help="the number of cases of the other commands")
+    parser.add_argument("--first", type=int, default=0, help="the number of the first of these")
+    parser.add_argument("--served", type=int, default=len(server_cases.KINDS), help="the number of cases of a server")
+    parser.add_argument("--heads", type=int, default=200, help="the number of random heads in one of these")
+    parser.add_argument("--links", type=int, default=300, help="the number of links in a row in another")
+    parser.add_argument("--slow", action="store_true", help="peers too that a server waits for, for about a minute")
+    parser.add_argument("--only", help="the name of the one case to run")
     parser.add_argument("--keep", action="store_true", help="keep the folders of runs that differ")
     return parser.parse_args()
 
@@ -274,16 +219,16 @@ def main() -> int:
     sys.stdout.reconfigure(line_buffering=True)
     arguments.program = os.path.abspath(arguments.program)
     reference.check_example()
+    server.check_example()
     at = Path(tempfile.mkdtemp(prefix="idxtool-check-"))
-    failed = 0
+    passed: list[bool] = []
     try:
-        for number in range(arguments.first, arguments.first + arguments.cases):
-            failed += not run_case(arguments, number, at)
+        passed = run_cases(arguments, at)
     finally:
-        if not (arguments.keep and failed):
+        if not arguments.keep or all(passed):
             shutil.rmtree(at)
-    print(f"{arguments.cases - failed} passed, {failed} failed")
-    return 1 if failed else 0
+    print(f"{sum(passed)} passed, {len(passed) - sum(passed)} failed")
+    return 0 if all(passed) else 1
 
 
 if __name__ == "__main__":

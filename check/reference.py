@@ -1,17 +1,16 @@
-"""What idxtool does, written from docs/FORMATS.md alone.
+"""What a dataset is and what its answers are, written from docs/FORMATS.md alone.
 
-This is the model that `compare.py` holds the program against. It shares nothing with the program's code and stands on
-the Python standard library alone. It is as slow and as plain as the page: a question is a filter over all points of a
-region. The sections follow the page. Texts are bytes throughout, since a header may hold bytes that are no text.
+This is the ground of the model that `compare.py` holds the program against; `commands.py` and `server.py` stand on it.
+It shares nothing with the program's code and stands on the Python standard library alone. It is as slow and as plain as
+the page: a question is a filter over all points of a region. The sections follow the page. Texts are bytes throughout,
+since a header may hold bytes that are no text.
 """
 from __future__ import annotations
 
-import os
 import re
-import stat
 import struct
-from collections.abc import Callable, Iterator, Sequence
-from dataclasses import dataclass, field
+from collections.abc import Iterator, Sequence
+from dataclasses import dataclass
 from functools import lru_cache
 from itertools import product
 
@@ -422,6 +421,16 @@ def parse_header(text: bytes) -> Header:
     return Header(box, fields, mask, bits, blocks_per_file, template, time)
 
 
+def header_words(words: Sequence[bytes]) -> bytes:
+    """The header text in the canonical layout whose values are the seven texts of `convert`."""
+    box, fields, mask, bits, blocks_per_file, template, time = words
+    if mask == b"auto":
+        read = box_word(box)
+        mask = b"V" if read is None else guessed_mask(read)
+    values = (b"6", box, fields, mask, bits, blocks_per_file, template, time)
+    return b"".join(b"(%s)\n%s\n" % (key, value) for key, value in zip(KNOWN_KEYS, values))
+
+
 # Names of files
 
 
@@ -573,343 +582,49 @@ def check_table(header: Header, file: int, content: bytes) -> None:
             raise Refusal(10, f"table file {file} row {place} {kind}")
 
 
+def row_of_block(header: Header, which: int, block: int, contents: dict[int, bytes]) -> Row | None:
+    """The row of a field's block in the checked files of a step; None where its file is not there."""
+    content = contents.get(file_of_block(block, header.blocks_per_file))
+    return None if content is None else read_row(content, row_number(header, which, block))
+
+
 def stored_sample(header: Header, which: int, address: int, contents: dict[int, bytes]) -> bytes:
     """A sample of a field in the checked files of a step; zero bytes where its block is absent."""
     size = header.fields[which].sample_size()
     block, inside = divmod(address, 2**header.bits_per_block)
-    content = contents.get(file_of_block(block, header.blocks_per_file))
-    row = read_row(content, row_number(header, which, block)) if content is not None else None
+    row = row_of_block(header, which, block, contents)
     if row is None or row.size == 0:
         return bytes(size)
     start = row.offset + inside * size
-    return content[start:start + size]
+    return contents[file_of_block(block, header.blocks_per_file)][start:start + size]
 
 
-# The words of the command line
+# Questions
 
 
-Rule = Callable[[Sequence[bytes]], bool]
-"""Whether the last of some words is right behind those before it, which are right."""
+LARGEST_ANSWER = 2**28
 
 
-def is_path(text: bytes) -> bool:
-    """Whether a word is a path: 1 to 4,096 bytes, all of them 20 to 7e, not beginning with `-`."""
-    return re.fullmatch(rb"[\x20-\x7e]{1,4096}", text) is not None and not text.startswith(b"-")
+def outside_axis(header: Header, region: Box) -> int | None:
+    """The least axis on which a region leaves the box of the dataset."""
+    axes = range(len(region))
+    return next((axis for axis in axes if not is_inside(region[axis:axis + 1], header.box[axis:axis + 1])), None)
 
 
-def path_rule(words: Sequence[bytes]) -> bool:
-    """A path, or the name of a field."""
-    return is_path(words[-1])
+def has_levels(header: Header, low: int, high: int) -> bool:
+    """Whether a dataset has these levels."""
+    return low <= high <= len(header.mask)
 
 
-def value_rule(words: Sequence[bytes]) -> bool:
-    """A value of a header on one line."""
-    return is_path(words[-1]) and not words[-1].startswith(b"(")
+def answer_size(header: Header, which: int, region: Box, low: int, high: int) -> int:
+    """The bytes of an answer."""
+    return count_asked(region, header.mask, low, high) * header.fields[which].sample_size()
 
 
-def number_rule(words: Sequence[bytes]) -> bool:
-    """A number."""
-    return number(words[-1]) is not None
-
-
-def box_rule(words: Sequence[bytes]) -> bool:
-    """A box word."""
-    return box_word(words[-1]) is not None
-
-
-def level_rule(words: Sequence[bytes]) -> bool:
-    """A number up to 4,294,967,295."""
-    value = number(words[-1])
-    return value is not None and value <= 4_294_967_295
-
-
-def cut_size_rule(words: Sequence[bytes]) -> bool:
-    """A number from 1 to 64."""
-    value = number(words[-1])
-    return value is not None and 1 <= value <= 64
-
-
-def cut_box_rule(words: Sequence[bytes]) -> bool:
-    """A box word whose samples take at most 2^30 bytes, and that some mask covers."""
-    box = box_word(words[-1])
-    if box is None or count_of_points(box) * int(words[2]) > 2**30:
-        return False
-    return sum(high.bit_length() for _, high in box) <= 40
-
-
-def cut_mask_rule(words: Sequence[bytes]) -> bool:
-    """A mask whose digits name axes of BOX and inside which BOX lies."""
-    box, mask = box_word(words[3]), mask_word(words[-1])
-    return mask is not None and max(mask) < len(box) and covers(mask, box)
-
-
-def cut_region_rule(words: Sequence[bytes]) -> bool:
-    """A box word with as many axes as BOX, inside BOX."""
-    box, region = box_word(words[3]), box_word(words[-1])
-    return region is not None and len(region) == len(box) and is_inside(region, box)
-
-
-def cut_low_rule(words: Sequence[bytes]) -> bool:
-    """A number up to the number of digits in MASK."""
-    value = number(words[-1])
-    return value is not None and value <= len(mask_word(words[4]))
-
-
-def cut_high_rule(words: Sequence[bytes]) -> bool:
-    """A number from LO to the number of digits in MASK."""
-    return cut_low_rule(words) and int(words[6]) <= int(words[-1])
-
-
-RULES: dict[bytes, list[Rule]] = {
-    b"cut": [path_rule, cut_size_rule, cut_box_rule, cut_mask_rule, cut_region_rule, cut_low_rule, cut_high_rule],
-    b"info": [path_rule],
-    b"convert": [path_rule, path_rule] + [value_rule] * 7 + [number_rule],
-    b"query": [path_rule, number_rule, path_rule, box_rule, level_rule, level_rule],
-}
-
-
-def is_utf8(text: bytes) -> bool:
-    """Whether a text is UTF-8."""
-    try:
-        text.decode()
-    except UnicodeDecodeError:
-        return False
-    return True
-
-
-def usage_fault(words: Sequence[bytes]) -> int | None:
-    """The least place such that no right list begins with the words up to it; None where the words are right.
-
-    Where a word is not UTF-8 no word is read.
-    """
-    if not all(map(is_utf8, words)) or not words or words[0] not in RULES:
-        return 0
-    for place, rule in enumerate(RULES[words[0]], 1):
-        if place == len(words) or not rule(words[:place + 1]):
-            return place
-    last = len(RULES[words[0]])
-    return last + 1 if len(words) > last + 1 else None
-
-
-def header_words(words: Sequence[bytes]) -> bytes:
-    """The header text in the canonical layout whose values are the seven texts of `convert`."""
-    box, fields, mask, bits, blocks_per_file, template, time = words
-    if mask == b"auto":
-        read = box_word(box)
-        mask = b"V" if read is None else guessed_mask(read)
-    values = (b"6", box, fields, mask, bits, blocks_per_file, template, time)
-    return b"".join(b"(%s)\n%s\n" % (key, value) for key, value in zip(KNOWN_KEYS, values))
-
-
-# What stands in a folder
-
-
-class StoreFault(Exception):
-    """Something that stands could not be read, or is no regular file."""
-
-
-def read_file(path: bytes) -> bytes | None:
-    """The bytes of a regular file; None where none is there."""
-    try:
-        if not stat.S_ISREG(os.stat(path).st_mode):
-            raise StoreFault
-        with open(path, "rb") as file:
-            return file.read()
-    except FileNotFoundError:
-        return None
-    except OSError as fault:
-        raise StoreFault from fault
-
-
-def is_folder(path: bytes) -> bool:
-    """Whether a folder stands at a path, which has to be one that can be looked at."""
-    try:
-        return stat.S_ISDIR(os.stat(path).st_mode)
-    except FileNotFoundError:
-        return False
-    except OSError:
-        raise Refusal(5, "store fault") from None
-
-
-def is_too_long(path: bytes) -> bool:
-    """Whether a part of a path is longer than a folder takes."""
-    return any(len(part) > 255 for part in path.split(b"/"))
-
-
-def read_store(path: bytes) -> bytes | None:
-    """A file of a dataset; None where none is there."""
-    try:
-        return read_file(path)
-    except StoreFault:
-        raise Refusal(5, "store fault") from None
-
-
-def read_raw(path: bytes, want: int) -> bytes:
-    """A raw volume, which has the bytes that are asked for."""
-    try:
-        content = read_file(path)
-    except StoreFault:
-        content = None
-    if content is None:
-        raise Refusal(4, "raw fault")
-    if len(content) != want:
-        raise Refusal(3, f"raw size want {want} found {len(content)}")
-    return content
-
-
-def refuse_fault(text: bytes) -> Header:
-    """The header that a text is, or the refusal of its first fault."""
-    try:
-        return parse_header(text)
-    except HeaderFault as fault:
-        raise Refusal(2, f"header line {fault.line} {fault.kind}") from None
-
-
-def read_header(path: bytes) -> Header:
-    """The header of a dataset, where a file that is not there reads as an empty text."""
-    return refuse_fault(read_store(path) or b"")
-
-
-# The commands
-
-
-@dataclass
-class Outcome:
-    """What a run leaves: its status, the first line on standard error, standard output, and the files that it wrote.
-
-    Where the output is None, the page does not say it word for word. An unfinished run may leave staged files.
-    """
-    status: int = 0
-    line: bytes | None = None
-    output: bytes | None = b""
-    files: dict[bytes, bytes] = field(default_factory=dict)
-    unfinished: bool = False
-
-
-def cut(words: Sequence[bytes], folder: bytes) -> Outcome:
-    """The samples of a region of a raw volume."""
-    size, box, mask, region = int(words[2]), box_word(words[3]), mask_word(words[4]), box_word(words[5])
-    raw = read_raw(os.path.join(folder, words[1]), count_of_points(box) * size)
-    wanted = asked_points(region, mask, int(words[6]), int(words[7]))
-    starts = [place_in_volume(point, box) * size for point in wanted]
-    return Outcome(output=b"".join(raw[start:start + size] for start in starts))
-
-
-def info(words: Sequence[bytes], folder: bytes) -> Outcome:
-    """The lines that say what a header says."""
-    header = read_header(os.path.join(folder, words[1]))
-    levels = len(header.mask)
-    steps = b"%d %d" % (header.time.first, header.time.last) if header.time else b"none"
-    lines = [
-        b"version 6",
-        b"axes %d" % len(header.box),
-        b"box " + b" ".join(b"%d %d" % pair for pair in header.box),
-        b"bits V" + b"".join(b"%d" % axis for axis in header.mask),
-        b"levels %d" % levels,
-        b"bitsperblock %d" % header.bits_per_block,
-        b"blocksperfile %d" % header.blocks_per_file,
-        b"blocks %d" % 2 ** (levels - header.bits_per_block),
-        b"steps " + steps,
-    ]
-    lines += [b"field %s %s %d" % (each.name, each.canonical_type(), each.sample_size()) for each in header.fields]
-    return Outcome(output=b"".join(line + b"\n" for line in lines))
-
-
-def convert(words: Sequence[bytes], folder: bytes) -> Outcome:
-    """A step of a dataset out of a raw volume."""
-    dataset, text, step = os.path.join(folder, words[1]), header_words(words[3:10]), int(words[10])
-    header = refuse_fault(text)
-    if not header.time.first <= step <= header.time.last:
-        raise Refusal(8, f"no step {step}")
-    if volume_size(header) > 2**30:
-        raise Refusal(8, f"too large {volume_size(header)}")
-    standing = read_store(dataset)
-    if standing and refuse_fault(standing) != header:
-        raise Refusal(6, "other header")
-    beside = os.path.dirname(dataset)
-    step_path = os.path.join(beside, step_folder(header, step))
-    if is_folder(step_path):
-        raise Refusal(6, f"published {step}")
-    raw = read_raw(os.path.join(folder, words[2]), volume_size(header))
-    put = {} if standing else {dataset: text}
-    paths = {file: os.path.join(beside, file_path(header, step, file)) for file in files_of_step(header)}
-    if os.path.lexists(step_path) or any(map(is_too_long, paths.values())):
-        raise Refusal(5, "store fault", put)
-    return Outcome(files=put | {path: file_bytes(header, file, raw) for file, path in paths.items()})
-
-
-def field_place(header: Header, name: bytes) -> int:
-    """The place of the field of a name."""
-    for place, each in enumerate(header.fields):
-        if each.name == name:
-            return place
-    raise Refusal(8, "unknown field")
-
-
-def check_question(header: Header, which: int, region: Box, low: int, high: int) -> None:
-    """Refuses a region, levels or an answer that the dataset does not have."""
-    for axis in range(len(region)):
-        if not is_inside(region[axis:axis + 1], header.box[axis:axis + 1]):
-            raise Refusal(8, f"outside axis {axis}")
-    if low > high or high > len(header.mask):
-        raise Refusal(8, f"levels {low} {high} {len(header.mask)}")
-    answer = count_asked(region, header.mask, low, high) * header.fields[which].sample_size()
-    if answer > 2**28:
-        raise Refusal(8, f"too large {answer}")
-
-
-def check_step(header: Header, step: int, beside: bytes) -> None:
-    """Refuses a step that the header lacks or that does not stand; the step of a header without times stands."""
-    if header.time is None:
-        stands = step == 0
-    else:
-        path = os.path.join(beside, step_folder(header, step))
-        stands = header.time.first <= step <= header.time.last and is_folder(path)
-    if not stands:
-        raise Refusal(7, f"not published {step}")
-
-
-def read_step(header: Header, step: int, beside: bytes) -> dict[int, bytes]:
-    """The files of a step that are there, with right tables."""
-    contents: dict[int, bytes] = {}
-    for file in files_of_step(header):
-        content = read_store(os.path.join(beside, file_path(header, step, file)))
-        if content is not None:
-            check_table(header, file, content)
-            contents[file] = content
-    return contents
-
-
-def query(words: Sequence[bytes], folder: bytes) -> Outcome:
-    """The samples of a field of a step in a region."""
-    dataset, step, region = os.path.join(folder, words[1]), int(words[2]), box_word(words[4])
-    low, high = int(words[5]), int(words[6])
-    header = read_header(dataset)
-    if len(region) != len(header.box):
-        raise Refusal(8, "other axes")
-    which = field_place(header, words[3])
-    check_question(header, which, region, low, high)
-    check_step(header, step, os.path.dirname(dataset))
-    contents = read_step(header, step, os.path.dirname(dataset))
+def answer(header: Header, which: int, region: Box, low: int, high: int, contents: dict[int, bytes]) -> bytes:
+    """The samples of a field in a region between two levels, out of the checked files of a step."""
     addresses = [hierarchical_address(point, header.mask) for point in asked_points(region, header.mask, low, high)]
-    return Outcome(output=b"".join(stored_sample(header, which, address, contents) for address in addresses))
-
-
-COMMANDS = {b"cut": cut, b"info": info, b"convert": convert, b"query": query}
-
-
-def run(words: Sequence[bytes], folder: bytes) -> Outcome:
-    """What the program does with these words in a folder, which this call only reads."""
-    if list(words) in ([b"--help"], [b"--version"]):
-        return Outcome(output=None)
-    place = usage_fault(words)
-    try:
-        if place is not None:
-            raise Refusal(1, f"usage at {place}")
-        return COMMANDS[words[0]](words, folder)
-    except Refusal as refusal:
-        line = b"idxtool: " + refusal.line.encode()
-        return Outcome(refusal.status, line, files=refusal.files or {}, unfinished=refusal.files is not None)
+    return b"".join(stored_sample(header, which, address, contents) for address in addresses)
 
 
 # The example of the page
