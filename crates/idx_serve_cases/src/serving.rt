@@ -1,5 +1,6 @@
 //! Links in memory that are served.
-ghost use Rattle.std.specs.Prelude.{◌<◌};
+ghost use Rattle.std.specs.Prelude.{◌≡◌, ◌<◌, [], IfOk, length, replicate};
+ghost use Rattle.idx_memory.specs.Memory.{untouched};
 
 use crate::dataset::{Stage, reader_of};
 use idx_memory::MemLink;
@@ -44,6 +45,11 @@ pub fn serve(
 /// A link whose input comes in pieces of this length, and of whose calls these fail.
 pub fn link_of(alloc: Global, input: &[u8], piece: u64, fails: &[u64]) -> Result<MemLink, NoMemory>
     requires { 0 < piece }
+    ensures { IfOk result (λ link. link ≡ record {
+      input = record { bytes = input.now; pieces = replicate (length input.now) piece };
+      written = [];
+      script = untouched fails.now;
+    }) }
 {
     let pieces = vec![in alloc; piece; input.len()]?;
     let fails = Vec::from_slice(alloc, fails)?;
