@@ -1,5 +1,5 @@
 -- What a run of `query` comes to by what extracting its answer came to.
-use Rattle.std.proofs.Common.{◌≡◌, ◌≢◌, ℕ, List, Result, Ok, Err, is_ok, refl, ap, sym, ◌∙◌}
+use Rattle.std.proofs.Common.{◌≡◌, ◌≢◌, ℕ, Result, Ok, Err, is_ok, refl, ap, sym, ◌∙◌}
 use Rattle.std.proofs.lemmas.Bool.{false≢true}
 use Rattle.idx_plan.specs.declared.plan_fault.PlanFault.TheVariants as plans
 use Rattle.idx_words.specs.QueryValue.{QueryValue}

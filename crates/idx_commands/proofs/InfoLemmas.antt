@@ -10,7 +10,7 @@ use Rattle.idx_commands.specs.declared.causes.Cause.{Cause}
 use Rattle.idx_commands.specs.declared.causes.Cause.TheVariants as causes
 use Rattle.idx_commands.specs.Cause.{status_of}
 use Rattle.idx_commands.specs.InfoRun.{HasBadHeader, HasGoodHeader, InfoEnds, InfoMeans, KnownReads}
-use Rattle.idx_commands.specs.Seen.{BaySeen, IsUnchanged, SinkSeen, bay_after, bay_before, sink_after, sink_before}
+use Rattle.idx_commands.specs.Seen.{BaySeen, SinkSeen, bay_after, bay_before, sink_after, sink_before}
 
 -- a header text that reads is not refused, and one that is refused does not read
 not_refused : (header : Option (List ℕ)) (P : HeaderValue → Type 0) → KnownReads header P → HasBadHeader header → ⊥

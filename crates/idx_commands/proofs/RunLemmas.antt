@@ -274,6 +274,7 @@ module _ {V B R K D L : Type 0} (words : List (List ℕ)) (seen : RunSeen V B R 
           ⊎ ((GiveQuery words ⊎ GiveServe words) × Rose (reader_count seen.readers.old) (reader_count seen.readers.new))
       outage (inl bay) = inl bay.rose
       outage (inr reader) = inr (inr (v, gives), reader.rose)
+
       answered : (cause ≡ causes.DoorFault) ⊎ (cause ≡ causes.NoMemory) → (status_of cause ≡ 12) ⊎ (status_of cause ≡ 11)
       answered (inl door) = inl (ap status_of door)
       answered (inr memory) = inr (ap status_of memory)

@@ -1,5 +1,5 @@
 -- What a run of `serve` comes to where what it meets is known.
-use Rattle.std.proofs.Common.{◌≡◌, ◌≢◌, ◌⊎◌, ℕ, ◌<◌, List, length, Option, Some, None, IfSome, IsSomeAnd, inl, inr, refl, sym, ◌∙◌, ap, subst, arith}
+use Rattle.std.proofs.Common.{◌≡◌, ◌≢◌, ◌⊎◌, ℕ, ◌<◌, List, length, Option, Some, None, IfSome, inl, inr, refl, sym, ◌∙◌, ap, subst, arith}
 use Rattle.idx_outside.specs.Cause.{NeverFalls, Rose}
 use Rattle.idx_outside.specs.Contents.{appended, AppendsPrefix}
 use Rattle.idx_outside.specs.Objects.{OthersUntouched, faults_at}

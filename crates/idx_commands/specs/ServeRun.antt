@@ -5,7 +5,6 @@ use Rattle.idx_outside.specs.Contents.{appended, AppendsPrefix}
 use Rattle.idx_outside.specs.Objects.{OthersUntouched}
 use Rattle.idx_outside.specs.declared.bay_call.BayCall.TheVariants as calls
 use Rattle.idx_outside.specs.declared.mem_file.MemFile.{MemFile}
-use Rattle.idx_header.specs.declared.header_kind.HeaderKind.{HeaderKind}
 use Rattle.idx_table.specs.declared.table_fault.TableKind.{TableKind}
 use Rattle.idx_edition.specs.declared.load_fault.LoadFault.TheVariants as loads
 use Rattle.idx_serve.specs.Visits.{LinkTells}

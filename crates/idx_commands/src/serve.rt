@@ -121,7 +121,14 @@ fn serve<B: Bay, R: Reader<B::Leaf>, K: Sink, D: Door>(
     ensures sink_count { NeverFalls (K.faults out.old) (K.faults out.new) }
     ensures door_count { NeverFalls (D.faults door.old) (D.faults door.new) }
 {
-    match host(alloc, site_name(words.dataset), words.cache, bay, reader, door) {
+    match host(
+        alloc,
+        site_name(words.dataset),
+        words.cache,
+        bay,
+        reader,
+        door,
+    ) {
         Ok(summary) => conclude(alloc, &summary, out),
         Err(fault) => cause_of(fault),
     }

@@ -7,5 +7,5 @@ pub returns : goal.returns
 returns c =
     record {
       line = ap (λ links. codes "links " ++ links ++ codes " replies " ++ decimal 3 ++ 10 ∷ []) (decimal_digit 2 (lit< tt))
-      ∙ ap (λ replies. codes "links " ++ (50 ∷ []) ++ codes " replies " ++ replies ++ 10 ∷ []) (decimal_digit 3 (lit< tt));
+          ∙ ap (λ replies. codes "links " ++ (50 ∷ []) ++ codes " replies " ++ replies ++ 10 ∷ []) (decimal_digit 3 (lit< tt));
     }

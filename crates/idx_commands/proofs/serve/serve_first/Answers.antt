@@ -1,6 +1,5 @@
 use Rattle.std.proofs.Common.{◌≡◌, ℕ, ◌<◌, length, rules, slice_set, subst, sym, ◌∙◌}
 use Rattle.std.proofs.lemmas.List.{set-get_or}
-use Rattle.idx_outside.specs.Cause.{NeverFalls}
 use Rattle.idx_outside.specs.Objects.{faults_at}
 use Rattle.idx_commands.specs.Seen.{DoorPair, ReaderCounts, bay_seen, doors_seen, readers_seen, sink_seen, told_at}
 use Rattle.idx_commands.proofs.KnownLemmas.{first_count, first_told, placed_count, placed_told}
