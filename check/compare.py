@@ -1,7 +1,7 @@
 #!/usr/bin/env python3
 """Holds idxtool against the reference over real folders and links.
 
-    check/compare.py PROGRAM [--seed 1] [--cases 300] [--served 18] [--heads 200] [--links 300] [--slow] [--keep]
+    check/compare.py PROGRAM [--seed 1] [--cases 300] [--served 19] [--heads 200] [--links 300] [--slow] [--keep]
     check/compare.py PROGRAM [--seed 1] --only NAME [--keep]
 
 Each case is a folder of its own with some runs in it. Of each run standard output, the names and the bytes of all
@@ -14,6 +14,7 @@ from __future__ import annotations
 
 import argparse
 import os
+import resource
 import shlex
 import shutil
 import subprocess
@@ -72,13 +73,19 @@ class Case:
         """Runs the program as a server of these links, and compares what each gets and how the run ends."""
         self.serve_peers(words, len(links), lambda address, site: play_links(address, site, links), sink)
 
-    def serve_peers(self, words: Sequence[bytes], links: int, talk: Talk, sink: bytes | None = None) -> None:
+    def serve_short(self, words: Sequence[bytes], links: Sequence[Link], memory: int, room: int) -> None:
+        """The same in so many bytes of address space, which have room for answers of so many bytes."""
+        talk: Talk = lambda address, site: play_links(address, site.with_room(room), links)
+        self.serve_peers(words, len(links), talk, memory=memory)
+
+    def serve_peers(self, words: Sequence[bytes], links: int, talk: Talk, sink: bytes | None = None,
+                    memory: int = resource.RLIM_INFINITY) -> None:
         """Runs the program as a server of so many links, which are talked over, and compares how the run ends."""
         self.runs += 1
         before = tree(self.folder)
         whole = [*words, b"--links", b"%d" % links]
         site = server.open_site(words, self.folder)
-        with Server([os.fsencode(self.program), *whole], self.folder, sink) as running:
+        with Server([os.fsencode(self.program), *whole], self.folder, sink, memory) as running:
             found = list(running.listening_differences(b"%d steps of %s" % (len(site.posts), words[1])))
             if running.address is not None:
                 differences, counts = talk(running.address, site)

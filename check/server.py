@@ -276,17 +276,23 @@ def needs_files(header: Header, ask: Ask, contents: dict[int, bytes]) -> bool:
 class Site:
     """A dataset that is served: its header, its name and its posts, the files of each step that stands.
 
-    Where it is unreadable its files have no block left, though their tables say so.
+    Where it is unreadable its files have no block left, though their tables say so. For an answer of more bytes than there is
+    room for, if that is known, there is no memory.
     """
     header: Header
     name: bytes
     posts: dict[int, dict[int, bytes]]
     unreadable: bool = False
+    room: int | None = None
     known: dict[bytes, Reply] = field(default_factory=dict)
 
     def without_blocks(self) -> Site:
         """The same dataset, unreadable."""
         return Site(self.header, self.name, self.posts, True)
+
+    def with_room(self, room: int) -> Site:
+        """The same dataset, with memory for answers of so many bytes."""
+        return Site(self.header, self.name, self.posts, self.unreadable, room)
 
     def reply(self, target: bytes) -> Reply:
         """The reply to a right head with a target."""
@@ -309,6 +315,8 @@ class Site:
 
     def answer(self, ask: Ask) -> Reply:
         """The reply with an answer."""
+        if self.room is not None and answer_size(self.header, ask.which, ask.region, ask.low, ask.high) > self.room:
+            return refusal(503, "NoMemory")
         if self.unreadable and needs_files(self.header, ask, self.posts[ask.time]):
             return refusal(500, "StoreFault")
         which = self.header.fields[ask.which]

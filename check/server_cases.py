@@ -43,6 +43,9 @@ class Bench(cases.Bench, Protocol):
     def serve_peers(self, words: Sequence[bytes], links: int, talk: Talk, sink: bytes | None = None) -> None:
         """Runs the program as a server of so many links, which are talked over, and compares how the run ends."""
 
+    def serve_short(self, words: Sequence[bytes], links: Sequence[Link], memory: int, room: int) -> None:
+        """As `serve`, in so many bytes of address space, which have room for answers of so many bytes."""
+
 
 @dataclass
 class Shelf:
@@ -251,6 +254,14 @@ def too_large(bench: Bench) -> None:
     bench.serve(shelf.words(random), [draw_link(random, b"".join(random.sample(heads, len(heads)))) for _ in range(3)])
 
 
+def short_memory(bench: Bench) -> None:
+    """Answers for which there is no memory, and others on the same link, for which there is."""
+    random, shelf = bench.random, large_shelf(bench)
+    heads = boxes_of(b"v", [b"1+4194304+0+0&time=6", b"0+4095+0+0&time=8", b"7+7+0+0&time=6", b"0+3000000+0+0&time=8"])
+    links = [draw_link(random, b"".join(random.choices(heads, k=12))) for _ in range(3)]
+    bench.serve_short([b"serve", shelf.path, ANYWHERE], links, 2**27, 2**24)
+
+
 def posts(bench: Bench) -> None:
     """A dataset without a step that stands, and one with many; what stands in the place of a folder is no step."""
     random = bench.random
@@ -418,7 +429,7 @@ def full_output(bench: Bench) -> None:
 
 
 KINDS: list[Callable[[Bench], None]] = [
-    questions, odd_files, pieces, target_faults, plan_faults, too_large, posts, odd_heads, leavings, hostile_heads,
+    questions, odd_files, pieces, target_faults, plan_faults, too_large, short_memory, posts, odd_heads, leavings, hostile_heads,
     many_links, links_at_once, large_answers, lost_blocks, slips, damaged, wrong_words, full_output,
 ]
 """The kinds of cases, which come in turn."""

@@ -2,6 +2,7 @@
 from __future__ import annotations
 
 import re
+import resource
 import select
 import socket
 import struct
@@ -34,6 +35,11 @@ class Ended:
     errors: bytes
 
 
+def limit_memory(memory: int) -> None:
+    """Lets this process have so many bytes of address space."""
+    resource.setrlimit(resource.RLIMIT_AS, (memory, resource.RLIM_INFINITY))
+
+
 def read_back(file: BinaryIO) -> bytes:
     """What was written to a file."""
     file.seek(0)
@@ -43,11 +49,12 @@ def read_back(file: BinaryIO) -> bytes:
 class Server:
     """A run of `serve`, which is killed where it has not ended when its block is left."""
 
-    def __init__(self, line: Sequence[bytes], folder: bytes, sink: bytes | None = None) -> None:
+    def __init__(self, line: Sequence[bytes], folder: bytes, sink: bytes | None = None,
+                 memory: int = resource.RLIM_INFINITY) -> None:
         self.output = open(sink, "wb") if sink else tempfile.TemporaryFile()
         self.is_read_back = sink is None
         self.process = subprocess.Popen(line, cwd=folder, stdin=subprocess.DEVNULL, stdout=self.output,
-                                        stderr=subprocess.PIPE)
+                                        stderr=subprocess.PIPE, preexec_fn=lambda: limit_memory(memory))
         self.errors = b""
         self.address: Address | None = None
         self.said = threading.Event()
