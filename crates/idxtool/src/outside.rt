@@ -1,5 +1,8 @@
 //! The objects of the outside that a run uses: files, standard output and sockets, as the words name them.
-ghost use Rattle.std.specs.Prelude.{◌≡◌, IfOk, vec_len};
+ghost use Rattle.std.specs.Prelude.{◌≡◌, IfOk, map, string_bytes, vec_len};
+ghost use Rattle.idx_words.specs.declared.command.Command.{Command};
+ghost use Rattle.idx_words.specs.ServeValue.{ServeValue};
+ghost use Rattle.idx_words.specs.Words.{Give};
 
 use crate::announced_door::AnnouncedDoor;
 use crate::notice::Notice;
@@ -47,7 +50,7 @@ pub fn file_readers(rt: &HostRuntime) -> Result<Vec<FileReader<HostRuntime>>, Al
     Ok(readers)
 }
 
-/// The doors at the address that the words name: one.
+/// The doors at the address that the words name: one, which hands out as many links as they say.
 pub fn tcp_doors<R: Sockets>(
     rt: &HostRuntime,
     sockets: R,
@@ -72,7 +75,9 @@ pub fn tcp_doors<R: Sockets>(
 }
 
 /// How many links the words let a door hand out; `None` for as many as come.
-fn links_of(words: &[String]) -> Option<u64> {
+fn links_of(words: &[String]) -> Option<u64>
+    ensures serve { (v : ServeValue) → Give (map string_bytes words.now) (Command.Serve v) → result ≡ v.links }
+{
     match read_words(words) {
         Ok(Command::Serve(serve)) => serve.links,
         _ => None,

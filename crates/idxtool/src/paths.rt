@@ -1,7 +1,14 @@
+ghost use Rattle.std.specs.Prelude.{◌≡◌, map, string_bytes};
+ghost use Rattle.idx_words.specs.declared.command.Command.{Command};
+ghost use Rattle.idx_words.specs.ServeValue.{ServeValue};
+ghost use Rattle.idx_words.specs.Words.{Give};
+
 use idx_words::{given_path, third_word};
 
 /// The path of the dataset that the words name, or none.
-pub fn dataset_path(words: &[String]) -> &str {
+pub fn dataset_path(words: &[String]) -> &str
+    ensures serve { (v : ServeValue) → Give (map string_bytes words.now) (Command.Serve v) → result.now ≡ v.dataset }
+{
     given_path(words)
 }
 
@@ -14,7 +21,9 @@ pub fn raw_path(words: &[String]) -> &str {
 }
 
 /// The address that the words name, or none.
-pub fn door_address(words: &[String]) -> &str {
+pub fn door_address(words: &[String]) -> &str
+    ensures serve { (v : ServeValue) → Give (map string_bytes words.now) (Command.Serve v) → result.now ≡ v.address }
+{
     match words.first() {
         Some(name) if name.as_str() == "serve" => third_word(words),
         _ => "",
