@@ -150,8 +150,8 @@ module _ {B R K D L : Type 0} (v : ServeValue) (bay : BaySeen B) (readers : Read
 
     not_failed : Met (λ s. s.end ≡ ends.DoorFault door.faults_after) → ⊥
     not_failed (s, (h, (reads, hosted)), is) =
-        let end : IsEnd door.told_after door.faults_before door.faults_after hosted.starved (ends.DoorFault door.faults_after) =
-        subst (IsEnd door.told_after door.faults_before door.faults_after hosted.starved) is hosted.end in
+        let end : IsEnd door.told_after door.faults_before door.faults_after s.links hosted.starved (ends.DoorFault door.faults_after) =
+        subst (IsEnd door.told_after door.faults_before door.faults_after s.links hosted.starved) is hosted.end in
         opened end.0
 
     completes : (cause : Cause) → Ends cause → (status_of cause ≡ 0) ⊎ (status_of cause ≡ 11)
@@ -176,13 +176,13 @@ module _ {B R K D L : Type 0} (v : ServeValue) (bay : BaySeen B) (readers : Read
   reader_told more (causes.BadTable file row kind) m = absurd (not_risen _ _ m.1.reader more)
   reader_told more causes.StoreFault m = inl refl
   reader_told more causes.NoMemory (inl m) = absurd (not_risen _ _ m.reader more)
-  reader_told more causes.NoMemory (inr m) = inr m.0
+  reader_told more causes.NoMemory (inr m) = inr (any_met _ m.0)
   reader_told more _ m = absurd m
 
   door_kept : (P : Summary → Type 0) → ((s : Summary) → P s → s.end ≡ ends.Done) → Met P → door_after doors ≡ door_before doors
   door_kept P done (s, (h, (reads, hosted)), p) =
-      let end : IsEnd door.told_after door.faults_before door.faults_after hosted.starved ends.Done =
-      subst (IsEnd door.told_after door.faults_before door.faults_after hosted.starved) (done s p) hosted.end in
+      let end : IsEnd door.told_after door.faults_before door.faults_after s.links hosted.starved ends.Done =
+      subst (IsEnd door.told_after door.faults_before door.faults_after s.links hosted.starved) (done s p) hosted.end in
       end.1
 
   same_doors : doors.new ≡ doors.old → door_after doors ≡ door_before doors
@@ -221,8 +221,8 @@ module _ {B R K D L : Type 0} (v : ServeValue) (bay : BaySeen B) (readers : Read
   -- a fault of the door was counted
   pub door_rose : Ends causes.DoorFault → Rose (door_before doors) (door_after doors)
   door_rose ((s, (h, (reads, hosted)), is), silent) =
-      let end : IsEnd door.told_after door.faults_before door.faults_after hosted.starved (ends.DoorFault door.faults_after) =
-      subst (IsEnd door.told_after door.faults_before door.faults_after hosted.starved) is hosted.end in
+      let end : IsEnd door.told_after door.faults_before door.faults_after s.links hosted.starved (ends.DoorFault door.faults_after) =
+      subst (IsEnd door.told_after door.faults_before door.faults_after s.links hosted.starved) is hosted.end in
       end.0
 
   -- what the cause says by the counts of the one reader and the one door that are used

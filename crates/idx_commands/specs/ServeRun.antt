@@ -69,7 +69,8 @@ ServeMeans v bay counts sink links door Untouched (causes.BadTable file row kind
 ServeMeans v bay counts sink links door Untouched causes.StoreFault =
     IsCause (known_of bay counts) faults.StoreFault × IsBefore sink Untouched
 ServeMeans v bay counts sink links door Untouched causes.NoMemory =
-    IsQuietBefore sink counts Untouched ⊎ (HasServed v bay counts links door (λ s. Unit {0}) × (sink.new ≡ sink.old))
+    IsQuietBefore sink counts Untouched
+    ⊎ (HasServed v bay counts links door (λ s. (s.end ≡ ends.Done) ⊎ (s.end ≡ ends.NoMemory)) × (sink.new ≡ sink.old))
 ServeMeans v bay counts sink links door Untouched _ = ⊥
 
 -- The header reads, and no row of the steps that stand is faulty.

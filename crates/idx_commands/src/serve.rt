@@ -143,7 +143,8 @@ fn conclude<K: Sink>(alloc: Global, summary: &Summary, out: &mut K) -> Cause
         × AppendsPrefix (K.contents out.old) (K.contents out.new) (totals summary.now.links summary.now.replies) }
     ensures door_fault { result ≡ Cause.DoorFault → ((faults : ℕ) × (summary.now.end ≡ ServeEnd.DoorFault faults))
         × (out.new ≡ out.old) }
-    ensures no_memory { result ≡ Cause.NoMemory → out.new ≡ out.old }
+    ensures no_memory { result ≡ Cause.NoMemory → ((summary.now.end ≡ ServeEnd.Done)
+        ⊎ (summary.now.end ≡ ServeEnd.NoMemory)) × (out.new ≡ out.old) }
     ensures only { (result ≡ Cause.Done) ⊎ ((result ≡ Cause.SinkFault)
         ⊎ ((result ≡ Cause.DoorFault) ⊎ (result ≡ Cause.NoMemory))) }
     ensures answered { K.faults out.old < K.faults out.new → result ≡ Cause.SinkFault }

@@ -22,7 +22,7 @@ module _ {L : Type 0} (tell : LinkTells L) (h : HeaderValue) (name : List ℕ) (
       → hv.cache ≡ cached [] (capacity_for h wish) → IfSome k.files (λ files. MadeReads k.reads_before reads (reads_of h files (step_numbers h)))
       → kept ≡ Some hv → site_name ≡ name → faults ≡ k.counts.reader_before
       → AtDoor tell true (site_of h site_name) (state_of (latest kept taken).board true faults reads kept) left old new summary.links summary.replies starved
-      → IsEnd new before after starved summary.end → left.faults ≡ k.counts.reader_after → left.reads ≡ k.reads_after → IsHosted tell h name wish k old new before after summary
+      → IsEnd new before after summary.links starved summary.end → left.faults ≡ k.counts.reader_after → left.reads ≡ k.reads_after → IsHosted tell h name wish k old new before after summary
   hosted_of hv kept taken site_name faults reads left starved sound board shape cache made kept_is name_is faults_is served end left_faults left_reads = record {
     sound = sound;
     opened = opened;

@@ -43,7 +43,7 @@ pub record IsHosted {L : Type 0} (tell : LinkTells L) (h : HeaderValue) (name : 
   pub left : State
   pub starved : Bool
   pub served : AtDoor tell true (site_of h name) opened left old new summary.links summary.replies starved
-  pub end : IsEnd new before after starved summary.end
+  pub end : IsEnd new before after summary.links starved summary.end
   pub faults : left.faults ≡ k.counts.reader_after
   pub reads : left.reads ≡ k.reads_after
 

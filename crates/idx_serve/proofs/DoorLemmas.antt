@@ -1,5 +1,5 @@
 -- One more link of a door.
-use Rattle.std.proofs.Common.{◌≡◌, ℕ, ◌+◌, ◌-◌, ◌^◌, ◌≤◌, Bool, true, false, ◌||◌, List, [], ◌∷◌, ◌++◌, Option, Some, None, length, map, refl, sym, ap, subst, ◌∙◌, arith, append_assoc, append-nil, length-append}
+use Rattle.std.proofs.Common.{◌≡◌, ℕ, ◌+◌, ◌-◌, ◌^◌, ◌≤◌, Bool, true, false, ◌||◌, List, [], ◌∷◌, ◌++◌, Option, Some, None, inl, inr, length, map, refl, sym, ap, subst, ◌∙◌, arith, append_assoc, append-nil, length-append}
 use Rattle.std.specs.Prelude.{min, sum_by, if◌then◌else◌}
 use Rattle.std.specs.List.{list_any}
 use Rattle.std.specs.Option.{ForSome}
@@ -105,16 +105,19 @@ module _ {L : Type 0} where
   }
 
   -- the door hands out no more
-  pub ends_done : (told mid : Option (DoorTold L)) (before after : ℕ) (starved : Bool) → ForSome told (λ t. t.coming ≡ []) → after ≡ before
-      → IsEnd told before after starved (if starved then S.NoMemory else S.Done)
-  ends_done told mid before after true none same = omega (arith, same)
-  ends_done told mid before after false none same = (none, same, refl)
+  pub ends_done : (told mid : Option (DoorTold L)) (before after links : ℕ) (starved : Bool) → ForSome told (λ t. t.coming ≡ []) → after ≡ before
+      → IsEnd told before after links starved (if starved then S.NoMemory else S.Done)
+  ends_done told mid before after links true none same = inl (refl, inl (none, same))
+  ends_done told mid before after links false none same = (none, same, refl)
 
   -- the door failed
-  pub ends_fault : (told : Option (DoorTold L)) (before after faults : ℕ) (starved : Bool) → Rose before after → faults ≡ after
-      → IsEnd told before after starved (if starved then S.NoMemory else S.DoorFault faults)
-  ends_fault told before after faults true rose same = by rose
-    where
-      by : Rose before after → NeverFalls before after
-      by rose = omega (arith, rose)
-  ends_fault told before after faults false rose same = (rose, same, refl)
+  pub ends_fault : (told : Option (DoorTold L)) (before after faults links : ℕ) (starved : Bool) → Rose before after → faults ≡ after
+      → IsEnd told before after links starved (if starved then S.NoMemory else S.DoorFault faults)
+  ends_fault told before after faults links true rose same = inl (refl, inr rose)
+  ends_fault told before after faults links false rose same = (rose, same, refl)
+
+  -- there were as many links as can be counted
+  pub ends_counted : (told : Option (DoorTold L)) (before after links : ℕ) (starved : Bool) → links ≡ 2 ^ 64 - 1 → after ≡ before
+      → IsEnd told before after links starved (if starved then S.NoMemory else S.NoMemory)
+  ends_counted told before after links true many same = inr (many, same)
+  ends_counted told before after links false many same = inr (many, same)

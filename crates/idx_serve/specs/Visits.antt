@@ -1,5 +1,5 @@
 -- What is answered on the links of a door, one after another.
-use Rattle.std.specs.Prelude.{◌≡◌, ℕ, ◌-◌, ◌^◌, ◌≤◌, Bool, true, false, List, [], ◌∷◌, ◌++◌, length, map, min, sum_by, Option, Some, None}
+use Rattle.std.specs.Prelude.{◌≡◌, ◌⊎◌, ℕ, ◌-◌, ◌^◌, ◌≤◌, Bool, true, false, List, [], ◌∷◌, ◌++◌, length, map, min, sum_by, Option, Some, None}
 use Rattle.std.specs.List.{list_any}
 use Rattle.std.specs.Option.{ForSome}
 use Rattle.idx_outside.specs.Cause.{NeverFalls, Rose}
@@ -75,9 +75,15 @@ pub record AtDoor {L : Type 0} (tell : LinkTells L) (tells : Bool) (site : Site)
   pub replies_are : replies ≡ capped (sum_by (λ v. length v.served) visits)
   pub starved_is : starved ≡ list_any is_starved visits
 
--- How serving a door ends, by what it tells afterwards, by its counts before and afterwards, and by whether there was no memory for
--- some head: no link is left and no fault was counted, or the door failed. Want of memory goes before both.
-abbrev pub IsEnd : {L : Type 0} → Option (DoorTold L) → ℕ → ℕ → Bool → ServeEnd → Type 0
-IsEnd told before after starved S.Done = ForSome told (λ t. t.coming ≡ []) × (after ≡ before) × (starved ≡ false)
-IsEnd told before after starved (S.DoorFault faults) = Rose before after × (faults ≡ after) × (starved ≡ false)
-IsEnd told before after starved S.NoMemory = NeverFalls before after
+-- The door is through: no link is left and no fault was counted, or it failed.
+abbrev pub IsThrough : {L : Type 0} → Option (DoorTold L) → ℕ → ℕ → Type 0
+IsThrough told before after = (ForSome told (λ t. t.coming ≡ []) × (after ≡ before)) ⊎ Rose before after
+
+-- How serving a door ends, by what it tells afterwards, by its counts before and afterwards, by how many links there were, and by
+-- whether there was no memory for some head: no link is left and no fault was counted, or the door failed. Want of memory for some
+-- head goes before both; it is also what is said where there were as many links as can be counted.
+abbrev pub IsEnd : {L : Type 0} → Option (DoorTold L) → ℕ → ℕ → ℕ → Bool → ServeEnd → Type 0
+IsEnd told before after links starved S.Done = ForSome told (λ t. t.coming ≡ []) × (after ≡ before) × (starved ≡ false)
+IsEnd told before after links starved (S.DoorFault faults) = Rose before after × (faults ≡ after) × (starved ≡ false)
+IsEnd told before after links starved S.NoMemory =
+    ((starved ≡ true) × IsThrough told before after) ⊎ ((links ≡ 2 ^ 64 - 1) × (after ≡ before))

@@ -46,7 +46,7 @@ pub fn serve_door<E: Blocks + Drop, T: Turn<Hall<E>>, R: Reader<E::Leaf>, D: Doo
         (state_of (T.seen turn.old) (T.may_add turn.old) (R.faults reader.old) (R.reads reader.old) (T.kept turn.old))
         (state_of (T.seen turn.new) (T.may_add turn.new) (R.faults reader.new) (R.reads reader.new) (T.kept turn.new))
         (D.told door.old) (D.told door.new) result.links result.replies starved
-        × IsEnd (D.told door.new) (D.faults door.old) (D.faults door.new) starved result.end }
+        × IsEnd (D.told door.new) (D.faults door.old) (D.faults door.new) result.links starved result.end }
     ensures later { IsLater
         (state_of (T.seen turn.old) (T.may_add turn.old) (R.faults reader.old) (R.reads reader.old) (T.kept turn.old))
         (state_of (T.seen turn.new) (T.may_add turn.new) (R.faults reader.new) (R.reads reader.new) (T.kept turn.new))
