@@ -7,6 +7,7 @@ right; what is made here is meant to be right or wrong, and nothing depends on w
 from __future__ import annotations
 
 import os
+import shutil
 import struct
 from collections.abc import Callable, Sequence
 from dataclasses import dataclass
@@ -23,8 +24,11 @@ class Bench(Protocol):
     random: Random
     folder: bytes
 
-    def run(self, words: Sequence[bytes], sink: bytes | None = None) -> commands.Outcome:
-        """Runs the program with these words, compares, and gives what the reference says."""
+    def run(self, words: Sequence[bytes], sink: bytes | None = None, memory: int | None = None) -> commands.Outcome:
+        """Runs the program with these words, in so many bytes of address space, and compares.
+
+        It gives what the reference says.
+        """
 
 
 BASES = list(reference.BASES)
@@ -145,7 +149,7 @@ def draw_template(random: Random, most: int) -> bytes:
 def draw_time(random: Random) -> bytes:
     """A template of the names of the folders of steps."""
     mark = b"%%0%dd" % random.randint(1, 9)
-    return random.choice([b"time", b"", b"t_", b"T-0."]) + mark + random.choice([b"", b".d"]) + b"/"
+    return random.choice([b"time", b"", b"t_", b"T-0."]) + mark + random.choice([b"", b"", b".d", b"_x", b".r1"]) + b"/"
 
 
 def cost(dataset: Dataset) -> int:
@@ -491,15 +495,15 @@ def odd_file(random: Random, header: Header, file: int, raw: bytes) -> bytes:
     return bytes(table) + blocks
 
 
-def put_step(bench: Bench, header: Header, path: bytes, step: int) -> None:
-    """Puts the files of a step as another program could."""
+def put_step(bench: Bench, header: Header, path: bytes, step: int, revision: int = 0) -> None:
+    """Puts the files of a revision of a step as another program could."""
     random = bench.random
     raw = random.randbytes(reference.volume_size(header))
     beside = os.path.dirname(path)
-    os.makedirs(os.path.join(bench.folder, beside, reference.step_folder(header, step)), exist_ok=True)
+    os.makedirs(os.path.join(bench.folder, beside, reference.step_folder(header, step, revision)), exist_ok=True)
     for file in reference.files_of_step(header):
         if chance(random, 90):
-            path = os.path.join(beside, reference.file_path(header, step, file))
+            path = os.path.join(beside, reference.file_path(header, step, file, revision))
             write(bench, path, odd_file(random, header, file, raw))
 
 
@@ -557,6 +561,148 @@ def damage(bench: Bench, header: Header, path: bytes) -> None:
         write(bench, path, content)
     elif chance(random, 30):
         os.mkdir(path)
+
+
+# Steps that are written again
+
+
+def right_texts(random: Random, most_bytes: int = MOST_BYTES) -> list[bytes]:
+    """The seven texts of a random dataset that `convert` takes, of so many bytes a step."""
+    while True:
+        dataset = draw_dataset(random)
+        texts = dataset.texts(random)
+        words = [b"convert", b"v.idx", b"r.raw", *texts, b"0"]
+        is_right = header_of(texts) is not None and commands.usage_fault(words) is None
+        if is_right and cost(dataset) <= most_bytes:
+            return texts
+
+
+@dataclass
+class Series:
+    """A step of a dataset whose words are right, and its revisions."""
+    bench: Bench
+    path: bytes
+    texts: list[bytes]
+    header: Header
+    step: int
+
+    def convert(self) -> None:
+        """Writes the step once more, out of another volume."""
+        write(self.bench, b"r.raw", self.bench.random.randbytes(reference.volume_size(self.header)))
+        self.bench.run([b"convert", self.path, b"r.raw", *self.texts, b"%d" % self.step])
+
+    def ask(self) -> None:
+        """Asks for a field of the whole step, and for something else."""
+        field = self.bench.random.choice(self.header.fields).name
+        box = b" ".join(b"%d %d" % pair for pair in self.header.box)
+        self.bench.run([b"query", self.path, b"%d" % self.step, field, box, b"0", b"%d" % len(self.header.mask)])
+        self.bench.run(draw_query(self.bench.random, self.path, self.header, self.step))
+
+    def folder(self, revision: int) -> bytes:
+        """The path of the folder of a revision."""
+        beside = os.path.join(self.bench.folder, os.path.dirname(self.path))
+        return os.path.join(beside, reference.step_folder(self.header, self.step, revision))
+
+    def standing(self) -> list[int]:
+        """The first revisions that stand, those behind a gap too."""
+        return [revision for revision in range(12) if os.path.isdir(self.folder(revision))]
+
+
+def draw_series(bench: Bench, texts: list[bytes]) -> Series:
+    """A step that is not yet written, of a dataset with these texts."""
+    header = header_of(texts)
+    return Series(bench, draw_path(bench.random, bench), texts, header, bench.random.choice(commands.steps_of(header)))
+
+
+def remove(path: bytes) -> None:
+    """Takes a file away, or a folder with what is in it."""
+    if os.path.isdir(path) and not os.path.islink(path):
+        shutil.rmtree(path)
+    elif os.path.lexists(path):
+        os.remove(path)
+
+
+def remove_a_revision(series: Series) -> None:
+    """Takes the newest revision away, or another one."""
+    standing = series.standing()
+    if standing:
+        remove(series.folder(series.bench.random.choice([standing[-1], *standing])))
+
+
+def keep_the_newest(series: Series) -> None:
+    """Takes all revisions away but the newest, which gets the name of the first."""
+    *others, last = series.standing() or [0]
+    for revision in others:
+        remove(series.folder(revision))
+    if last > 0:
+        remove(series.folder(0))
+        os.rename(series.folder(last), series.folder(0))
+
+
+def put_empty_revision(series: Series) -> None:
+    """Puts an empty folder where a revision could stand, or where none can."""
+    place = series.folder(series.bench.random.choice([0, 1, 2, 3, 4, 10, 255, 256]))
+    if not os.path.lexists(place):
+        os.makedirs(place)
+
+
+def put_other_names(series: Series) -> None:
+    """Puts folders whose names are nearly those of revisions."""
+    first = series.folder(0)
+    for behind in (b".r", b".r0", b".r01", b".r1x", b".R1", b"r1", b".1", b".r-1", b".r+1", b".r1.r1", b".r256"):
+        os.makedirs(first + behind, exist_ok=True)
+
+
+def put_no_folder(series: Series) -> None:
+    """Puts a file, a pipe or a link where the folder of the next revision should be."""
+    place = series.folder(series.bench.random.choice([len(series.standing()), 1, 2]))
+    os.makedirs(os.path.dirname(place), exist_ok=True)
+    if os.path.lexists(place):
+        return
+    style = series.bench.random.randrange(4)
+    if style == 0:
+        os.mkfifo(place)
+    elif style == 1:
+        os.symlink(os.path.basename(series.folder(0)), place)
+    elif style == 2:
+        os.symlink(b"nowhere", place)
+    else:
+        write(series.bench, place, b"no folder")
+
+
+def clear_the_way(series: Series) -> None:
+    """Takes away what is no folder and stands where one of a revision should be."""
+    for revision in range(12):
+        if not os.path.isdir(series.folder(revision)):
+            remove(series.folder(revision))
+
+
+def put_staged(series: Series, revision: int) -> None:
+    """Puts what a conversion that died could have staged of a revision."""
+    file = reference.files_of_step(series.header)[0]
+    path = reference.file_path(series.header, series.step, file, revision)
+    inside = os.path.relpath(path, reference.step_folder(series.header, series.step, revision))
+    write(series.bench, os.path.join(series.folder(revision) + b".part", inside), b"half of a table")
+
+
+def leave_staged(series: Series) -> None:
+    """Leaves what was staged of the next revision, or of another one."""
+    put_staged(series, series.bench.random.choice([len(series.standing()), 1, 2]))
+
+
+def damage_a_revision(series: Series) -> None:
+    """Damages a file of some revision."""
+    standing = [revision for revision in series.standing() if files_below(series.folder(revision))]
+    if standing:
+        path = series.bench.random.choice(files_below(series.folder(series.bench.random.choice(standing))))
+        damage(series.bench, series.header, path)
+
+
+CHANGES: list[Callable[[Series], None]] = [
+    remove_a_revision, remove_a_revision, keep_the_newest, put_empty_revision, put_other_names, put_no_folder,
+    clear_the_way, leave_staged, leave_staged, damage_a_revision, damage_a_revision,
+]
+"""What can be done by hand between two conversions."""
 
 
 # Words
@@ -682,6 +828,137 @@ def standing_headers(bench: Bench) -> None:
     ask(bench, made, 2)
 
 
+def revisions(bench: Bench) -> None:
+    """A step that is written again and again, with changes by hand between."""
+    series = draw_series(bench, right_texts(bench.random, 2**16))
+    for _ in range(bench.random.randint(2, 4)):
+        series.convert()
+        series.ask()
+        for change in bench.random.sample(CHANGES, bench.random.choice([0, 0, 1, 2])):
+            change(series)
+            series.ask()
+
+
+def revision_gaps(bench: Bench) -> None:
+    """Revisions behind one that is missing, which are not read before it is written again."""
+    texts = small_texts(bench.random)
+    texts[5] = bench.random.choice([b"./%01x.bin", b"./d/%02x/%02x.bin", b"a/b/%04x/all", b"%01x"])
+    texts[6] = b"0 9 " + bench.random.choice([b"time%04d/", b"t%03d_x/", b"%01d/", b"t%02d.r1/"])
+    series = draw_series(bench, texts)
+    for missing in (None, None, None, 1, 0, None, 2, 3):
+        if missing is not None:
+            remove(series.folder(missing))
+            series.ask()
+        series.convert()
+        series.ask()
+    for revision in reversed(series.standing()):
+        remove(series.folder(revision))
+        series.ask()
+
+
+def revision_faults(bench: Bench) -> None:
+    """Revisions that are damaged or half staged, and what is no folder in the place of one."""
+    series = draw_series(bench, small_texts(bench.random))
+    for revision in range(3):
+        series.convert()
+    for revision in range(3):
+        for path in files_below(series.folder(revision))[:1]:
+            os.truncate(path, bench.random.choice([0, 39, 79]))
+        series.ask()
+    put_staged(series, 3)
+    put_staged(series, 5)
+    series.convert()
+    series.ask()
+    write(bench, series.folder(4), b"no folder")
+    for _ in range(2):
+        series.convert()
+        series.ask()
+        remove(series.folder(4))
+
+
+def last_revisions(bench: Bench) -> None:
+    """The last revision that a step can have, and conversions and questions behind it."""
+    series = draw_series(bench, small_texts(bench.random))
+    for revision in range(reference.REVISIONS):
+        os.makedirs(series.folder(revision))
+    series.ask()
+    bench.run([b"convert", series.path, b"none.raw", *series.texts, b"%d" % series.step])
+    write(bench, series.path, reference.header_words(series.texts))
+    for free in (255, bench.random.randint(1, 254), 0, None):
+        if free is not None:
+            remove(series.folder(free))
+        for _ in range(2):
+            series.ask()
+            series.convert()
+    series.ask()
+
+
+def without_time(bench: Bench) -> None:
+    """A header without a time, whose files have no revisions."""
+    random = bench.random
+    texts = small_texts(random)
+    text = lay_out_header(random, entries_of(texts)[:-1])
+    write(bench, b"v.idx", text)
+    for name in (b".r1", b"r1", b"00.bin.r1", b"02.bin.r1", b"time0000.r1"):
+        os.mkdir(os.path.join(bench.folder, name))
+    write(bench, b"r.raw", random.randbytes(16))
+    put_step(bench, reference.parse_header(text), b"v.idx", 0)
+    for step in (b"0", b"0", b"1"):
+        bench.run([b"query", b"v.idx", step, b"a", b"0 3 0 3", b"0", b"4"])
+    bench.run([b"convert", b"v.idx", b"r.raw", *texts, b"0"])
+
+
+# Questions whose blocks are too many to be held at once
+
+
+SPREAD_BOX: Box = ((4_194_300, 4_194_308), (0, 0))
+"""A few points whose blocks lie far apart."""
+
+
+def spread_texts(box: bytes) -> list[bytes]:
+    """The seven texts of a dataset of eight blocks of 2^24 bytes in one file."""
+    return [box, b"a uint8[16]", b"V" + b"0" * 23, b"20", b"8", b"./%02x.bin", b"0 9 time%04d/"]
+
+
+def comb_texts() -> list[bytes]:
+    """The seven texts of a dataset of 64 points in 32 blocks of 2^24 bytes in one file."""
+    return [b"0 63 1 1", b"a uint8[16]", b"V000000" + b"1" * 20, b"20", b"64", b"./%02x.bin", b"0 9 time%04d/"]
+
+
+def put_spread_file(bench: Bench, header: Header, step: int) -> None:
+    """Puts the file of a step in which most blocks are there, each beginning a little behind the one before."""
+    random = bench.random
+    table = bytearray(header.table_size())
+    size = header.fields[0].sample_size() << header.bits_per_block
+    present = [row for row in range(header.blocks_per_file) if chance(random, 90)]
+    for place, row in enumerate(random.sample(present, len(present))):
+        table[40 + 40 * row:80 + 40 * row] = reference.row_bytes(len(table) + 17 * place, size)
+    content = bytes(table) + random.randbytes(size + 17 * len(present))
+    write(bench, reference.file_path(header, step, 0), content)
+
+
+def rounds(bench: Bench) -> None:
+    """Questions that need more than 2^26 bytes of blocks, of which none or most are there.
+
+    The last one needs twice as many bytes of blocks as it has memory.
+    """
+    texts = spread_texts(b"0 8388607 0 0")
+    write(bench, b"v.idx", reference.header_words(texts))
+    os.mkdir(os.path.join(bench.folder, b"time0000"))
+    bench.run([b"query", b"v.idx", b"0", b"a", b"4194300 4194308 0 0", b"0", b"23"])
+    texts = spread_texts(b" ".join(b"%d %d" % pair for pair in SPREAD_BOX))
+    write(bench, b"v.idx", reference.header_words(texts))
+    put_spread_file(bench, header_of(texts), 0)
+    for low, high in [(0, 23), (0, 22), (22, 23), draw_levels(bench.random, 23)]:
+        region = box_text(bench.random, draw_region(bench.random, SPREAD_BOX) if high == 22 else SPREAD_BOX)
+        cache = bench.random.choice([[], [b"--cache", b"1"], [b"--cache", b"3"]])
+        bench.run([b"query", b"v.idx", b"0", b"a", region, b"%d" % low, b"%d" % high, *cache])
+    write(bench, b"v.idx", reference.header_words(comb_texts()))
+    put_spread_file(bench, header_of(comb_texts()), 0)
+    words = [b"query", b"v.idx", b"0", b"a", b"0 63 1 1", b"0", b"26", b"--cache", b"1"]
+    bench.run(words, memory=2**28)
+
+
 def damages(bench: Bench) -> None:
     """Questions of a dataset with damaged files."""
     random = bench.random
@@ -789,6 +1066,7 @@ def others_in_place(bench: Bench) -> None:
         if made.header is not None:
             beside = os.path.dirname(made.path)
             paths += [os.path.join(beside, reference.step_folder(made.header, made.step + 1))]
+            paths += [os.path.join(beside, reference.step_folder(made.header, made.step, 1))]
             paths += [os.path.join(beside, reference.file_path(made.header, made.step, 0))]
         put_in_place(bench, random.choice(paths))
         bench.run([b"info", random.choice([made.path, made.path + b"/x", b"none/v.idx", b".", b"r.raw/", b"n" * 300])])
@@ -803,12 +1081,17 @@ def long_names(bench: Bench) -> None:
     random = bench.random
     write(bench, b"r.raw", random.randbytes(16))
     texts = small_texts(random)
-    long = b"n" * random.choice([100, 200, 255, 300, 1500])
     place = random.choice([0, 1, 2])
+    near = [246, 247, 249, 250, 251, 252, 254] if place == 2 else []
+    long = b"n" * random.choice([100, 200, 255, 300, 1500, *near])
     texts[5] = long + b"%01x" if place == 0 else long + b"/%01x" if place == 1 else texts[5]
     texts[6] = b"0 9 " + long + b"%01d/" if place == 2 else texts[6]
-    bench.run([b"convert", b"v.idx", b"r.raw", *texts, b"1"])
+    for _ in range(2):
+        bench.run([b"convert", b"v.idx", b"r.raw", *texts, b"1"])
     bench.run([b"query", b"v.idx", b"1", b"a", b"0 3 0 3", b"0", b"4"])
+    if place == 2 and len(long) < 255:
+        os.makedirs(os.path.join(bench.folder, long + b"1"), exist_ok=True)
+        bench.run([b"query", b"v.idx", b"1", b"a", b"0 3 0 3", b"0", b"4"])
     write(bench, b"w.idx", reference.header_words(texts))
     bench.run([b"query", b"w.idx", b"1", b"a", b"0 3 0 3", b"0", b"4"])
 
@@ -902,7 +1185,8 @@ def large_volumes(bench: Bench) -> None:
 KINDS: list[tuple[int, Callable[[Bench], None]]] = [
     (25, conversions), (12, cuts), (10, second_conversions), (8, standing_headers), (12, damages), (8, odd_files),
     (14, headers), (8, asked_headers), (10, wrong_words), (6, others_in_place), (2, long_names), (3, sinks), (5, large),
-    (3, large_cuts), (2, large_volumes),
+    (3, large_cuts), (2, large_volumes), (8, revisions), (3, revision_gaps), (2, revision_faults), (1, last_revisions),
+    (2, without_time), (1, rounds),
 ]
 """The kinds of cases, each with how often it comes."""
 

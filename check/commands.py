@@ -12,8 +12,8 @@ import stat
 from collections.abc import Callable, Sequence
 from dataclasses import dataclass, field
 
-from reference import (LARGEST_ANSWER, Box, Header, HeaderFault, Refusal, answer, answer_size, asked_points, box_word,
-                       check_table, count_of_points, covers, file_bytes, file_path, files_of_step, has_levels,
+from reference import (LARGEST_ANSWER, REVISIONS, Box, Header, HeaderFault, Refusal, answer, answer_size, asked_points,
+                       box_word, check_table, count_of_points, covers, file_bytes, file_path, files_of_step, has_levels,
                        header_words, is_inside, mask_word, number, outside_axis, parse_header, place_in_volume,
                        step_folder, volume_size)
 
@@ -219,13 +219,15 @@ def read_header(path: bytes) -> Header:
 class Outcome:
     """What a run leaves: its status, the first line on standard error, standard output, and the files that it wrote.
 
-    Where the output is None, the page does not say it word for word. An unfinished run may leave staged files.
+    Where the output is None, the page does not say it word for word. An unfinished run may leave staged files. What was
+    staged at a path and stood there before is gone.
     """
     status: int = 0
     line: bytes | None = None
     output: bytes | None = b""
     files: dict[bytes, bytes] = field(default_factory=dict)
     unfinished: bool = False
+    staged: bytes | None = None
 
 
 def cut(words: Sequence[bytes], folder: bytes) -> Outcome:
@@ -269,15 +271,17 @@ def convert(words: Sequence[bytes], folder: bytes) -> Outcome:
     if standing and refuse_fault(standing) != header:
         raise Refusal(6, "other header")
     beside = os.path.dirname(dataset)
-    step_path = os.path.join(beside, step_folder(header, step))
-    if is_folder(step_path):
+    revision = count_of_revisions(header, step, beside)
+    if revision == REVISIONS:
         raise Refusal(6, f"published {step}")
     raw = read_raw(os.path.join(folder, words[2]), volume_size(header))
     put = {} if standing else {dataset: text}
-    paths = {file: os.path.join(beside, file_path(header, step, file)) for file in files_of_step(header)}
-    if os.path.lexists(step_path) or any(map(is_too_long, paths.values())):
+    place = os.path.join(beside, step_folder(header, step, revision))
+    staged = place + b".part"
+    paths = {file: os.path.join(beside, file_path(header, step, file, revision)) for file in files_of_step(header)}
+    if os.path.lexists(place) or any(map(is_too_long, [staged, *paths.values()])):
         raise Refusal(5, "store fault", put)
-    return Outcome(files=put | {path: file_bytes(header, file, raw) for file, path in paths.items()})
+    return Outcome(files=put | {path: file_bytes(header, file, raw) for file, path in paths.items()}, staged=staged)
 
 
 def field_place(header: Header, name: bytes) -> int:
@@ -305,21 +309,33 @@ def steps_of(header: Header) -> range:
     return range(header.time.first, header.time.last + 1) if header.time else range(1)
 
 
-def stands(header: Header, step: int, beside: bytes) -> bool:
-    """Whether a step stands, which the header has; the step of a header without times always does."""
-    return header.time is None or is_folder(os.path.join(beside, step_folder(header, step)))
+def count_of_revisions(header: Header, step: int, beside: bytes) -> int:
+    """How many revisions of a step stand before the first that does not, where the header has a time."""
+    for revision in range(REVISIONS):
+        if not is_folder(os.path.join(beside, step_folder(header, step, revision))):
+            return revision
+    return REVISIONS
 
 
-def is_empty_step(header: Header, step: int, beside: bytes) -> bool:
-    """Whether there is nothing in the folder of a step, so that no file has to be looked for."""
-    return header.time is not None and not os.listdir(os.path.join(beside, step_folder(header, step)))
+def newest_revision(header: Header, step: int, beside: bytes) -> int | None:
+    """The revision of a step that is read; None where the step, which the header has, does not stand.
+
+    The step of a header without a time always stands, as its only revision.
+    """
+    count = count_of_revisions(header, step, beside) if header.time else 1
+    return count - 1 if count > 0 else None
 
 
-def read_step(header: Header, step: int, beside: bytes) -> dict[int, bytes]:
-    """The files of a step that are there, with right tables."""
+def is_empty(header: Header, step: int, revision: int, beside: bytes) -> bool:
+    """Whether there is nothing in the folder of a revision, so that no file has to be looked for."""
+    return header.time is not None and not os.listdir(os.path.join(beside, step_folder(header, step, revision)))
+
+
+def read_revision(header: Header, step: int, revision: int, beside: bytes) -> dict[int, bytes]:
+    """The files of a revision that are there, with right tables."""
     contents: dict[int, bytes] = {}
-    for file in [] if is_empty_step(header, step, beside) else files_of_step(header):
-        content = read_store(os.path.join(beside, file_path(header, step, file)))
+    for file in [] if is_empty(header, step, revision, beside) else files_of_step(header):
+        content = read_store(os.path.join(beside, file_path(header, step, file, revision)))
         if content is not None:
             check_table(header, file, content)
             contents[file] = content
@@ -335,14 +351,21 @@ def query(words: Sequence[bytes], folder: bytes) -> Outcome:
         raise Refusal(8, "other axes")
     which = field_place(header, words[3])
     check_question(header, which, region, low, high)
-    if step not in steps_of(header) or not stands(header, step, os.path.dirname(dataset)):
+    beside = os.path.dirname(dataset)
+    revision = newest_revision(header, step, beside) if step in steps_of(header) else None
+    if revision is None:
         raise Refusal(7, f"not published {step}")
-    return Outcome(output=answer(header, which, region, low, high, read_step(header, step, os.path.dirname(dataset))))
+    return Outcome(output=answer(header, which, region, low, high, read_revision(header, step, revision, beside)))
 
 
 def standing_steps(header: Header, beside: bytes) -> dict[int, dict[int, bytes]]:
-    """The steps that stand, by rising number, each with its files."""
-    return {step: read_step(header, step, beside) for step in steps_of(header) if stands(header, step, beside)}
+    """The steps that stand, by rising number, each with the files of its newest revision."""
+    found: dict[int, dict[int, bytes]] = {}
+    for step in steps_of(header):
+        revision = newest_revision(header, step, beside)
+        if revision is not None:
+            found[step] = read_revision(header, step, revision, beside)
+    return found
 
 
 def address_word(text: bytes) -> tuple[str, int] | None:

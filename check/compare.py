@@ -1,7 +1,7 @@
 #!/usr/bin/env python3
 """Holds idxtool against the reference over real folders and links.
 
-    check/compare.py PROGRAM [--seed 1] [--cases 300] [--served 19] [--heads 200] [--links 300] [--slow] [--keep]
+    check/compare.py PROGRAM [--seed 1] [--cases 300] [--served 21] [--heads 200] [--links 300] [--slow] [--keep]
     check/compare.py PROGRAM [--seed 1] --only NAME [--keep]
 
 Each case is a folder of its own with some runs in it. Of each run standard output, the names and the bytes of all
@@ -33,8 +33,8 @@ import server
 import server_cases
 import slow_cases
 from differences import (Tree, difference, error_differences, put_tree, quoted, short, tree, tree_differences,
-                         with_files, without_staged)
-from serving import Ended, Link, Server, Talk, play_links, read_back
+                         with_files, without_path, without_staged)
+from serving import Ended, Link, Server, Talk, limit_memory, play_links, read_back
 
 SERVED, SLOW = "served", "slow"
 SECONDS = 60
@@ -58,12 +58,15 @@ class Case:
         self.runs = 0
         os.mkdir(self.folder)
 
-    def run(self, words: Sequence[bytes], sink: bytes | None = None) -> commands.Outcome:
-        """Runs the program with these words, compares, and gives what the reference says."""
+    def run(self, words: Sequence[bytes], sink: bytes | None = None, memory: int | None = None) -> commands.Outcome:
+        """Runs the program with these words, compares, and gives what the reference says.
+
+        Where a number of bytes is given, the program has so much address space.
+        """
         self.runs += 1
         before = tree(self.folder)
         want = of_sink(commands.run(words, self.folder), sink)
-        came = self.start(words, sink)
+        came = self.start(words, sink, memory)
         found = list(self.compare(want, came, before, sink is None))
         if found:
             self.report(words, sink, found, before)
@@ -101,13 +104,14 @@ class Case:
         output = came.output if came is not None and came.output in outputs else outputs[0]
         return list(self.compare(of_sink(commands.Outcome(output=output), sink), came, before, sink is None, True))
 
-    def start(self, words: Sequence[bytes], sink: bytes | None) -> Ended | None:
+    def start(self, words: Sequence[bytes], sink: bytes | None, memory: int | None) -> Ended | None:
         """Runs the program; None where it does not end."""
         line = [os.fsencode(self.program), *words]
+        prepare = None if memory is None else lambda: limit_memory(memory)
         try:
             with open(sink, "wb") if sink else tempfile.TemporaryFile() as output:
                 ended = subprocess.run(line, cwd=self.folder, stdin=subprocess.DEVNULL, stdout=output,
-                                       stderr=subprocess.PIPE, timeout=SECONDS, check=False)
+                                       stderr=subprocess.PIPE, timeout=SECONDS, check=False, preexec_fn=prepare)
                 written = b"" if sink else read_back(output)
         except subprocess.TimeoutExpired:
             return None
@@ -126,7 +130,8 @@ class Case:
         elif has_output and not came.output.startswith(b"idxtool"):
             yield f"standard output does not begin with the name: {short(came.output)}"
         self.unfinished = self.unfinished or want.unfinished
-        trees = with_files(before, self.folder, want.files), tree(self.folder)
+        standing = without_path(before, self.folder, want.staged)
+        trees = with_files(standing, self.folder, want.files), tree(self.folder)
         yield from tree_differences(*(map(without_staged, trees) if self.unfinished else trees))
 
     def report(self, words: Sequence[bytes], sink: bytes | None, found: list[str], before: Tree) -> None:

@@ -48,6 +48,14 @@ def with_files(before: Tree, folder: bytes, files: dict[bytes, bytes]) -> Tree:
     return after
 
 
+def without_path(content: Tree, folder: bytes, path: bytes | None) -> Tree:
+    """A tree without a path and what stands below it, where one is given."""
+    if path is None:
+        return content
+    gone = os.path.relpath(path, folder)
+    return {place: what for place, what in content.items() if place != gone and not place.startswith(gone + b"/")}
+
+
 def put_tree(folder: bytes, content: Tree) -> None:
     """Writes a tree into a folder, for a person who wants to see the case."""
     for path, what in sorted(content.items()):

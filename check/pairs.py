@@ -4,9 +4,10 @@
     check/pairs.py PROGRAM [--pairs 200]
 
 Each pair writes into a folder of its own. Some write the same step out of two volumes, some write other steps under one
-header, and some the same step under other headers. However a pair went: each step that stands is whole and of one run, a
-run that ends with 0 has left its files and its header, and the other says why. Runs of other steps under a header that
-stands both end with 0. The last line is `N passed, M failed`.
+header, and some the same step under other headers. However a pair went: each revision that stands is whole and of one
+run, a run that ends with 0 has left its files, as a revision of its own, and its header, and the other says why. Runs
+of other steps under a header that stands both end with 0, and runs under other headers never do. The last line is
+`N passed, M failed`.
 """
 import argparse
 import subprocess
@@ -21,7 +22,7 @@ FIELD = "a uint8"
 TIMES = "0 99 time%04d/"
 KINDS = ["same step", "same step, no header yet", "other steps", "other steps, no header yet", "other headers"]
 WHY = ("another run is writing this step", "something stands there already")
-PUBLISHED = 6
+OTHER_HEADER = 6
 STORE_FAULT = 5
 
 
@@ -41,10 +42,16 @@ def run_both(first, second):
 
 
 def files_of(folder):
-    """The files of a step, by name; none where the step does not stand."""
+    """The files of a revision, by name; none where it does not stand."""
     if not folder.is_dir():
         return None
     return {str(file.relative_to(folder)): file.read_bytes() for file in sorted(folder.rglob("*")) if file.is_file()}
+
+
+def revisions_of(top, time):
+    """The files of the revisions of a step, one more than two runs can leave; none where one does not stand."""
+    folders = [top / f"time{time:04}"] + [top / f"time{time:04}.r{revision}" for revision in (1, 2)]
+    return [files_of(folder) for folder in folders]
 
 
 class Wanted:
@@ -64,9 +71,11 @@ class Wanted:
                 self.files[name, blocks_per_file] = files_of(alone / "time0000")
 
 
-def refusal(status, said):
+def refusal(status, said, kind):
     """What is wrong with the answer of a run that did not end with 0."""
-    if status == PUBLISHED or (status == STORE_FAULT and any(why in said for why in WHY)):
+    if status == OTHER_HEADER and kind == "other headers":
+        return None
+    if status == STORE_FAULT and any(why in said for why in WHY):
         return None
     return f"status {status} with {said!r}"
 
@@ -87,10 +96,10 @@ def check_pair(program, top, raws, wanted, kind):
     names = ("a", "b")
     ends = run_both(*(words(program, dataset, raws[names[n]], times[n], blocks[n]) for n in (0, 1)))
     good = [n for n in (0, 1) if ends[n][0] == 0]
-    wrong = [found for n in (0, 1) if n not in good for found in [refusal(*ends[n])] if found]
+    wrong = [found for n in (0, 1) if n not in good for found in [refusal(*ends[n], kind)] if found]
     if kind == "other steps" and len(good) != 2:
         wrong.append(f"other steps ended with {ends[0][0]} and {ends[1][0]}")
-    if not kind.startswith("other steps") and len(good) == 2:
+    if kind == "other headers" and len(good) == 2:
         wrong.append("both ended with 0")
     header = dataset.read_bytes() if dataset.exists() else b""
     if header not in (b"", wanted.header[2], wanted.header[4]):
@@ -98,15 +107,18 @@ def check_pair(program, top, raws, wanted, kind):
     for n in good:
         if header != wanted.header[blocks[n]]:
             wrong.append(f"run {n} ended with 0, and its header does not stand")
-        if files_of(top / f"time{times[n]:04}") != wanted.files[names[n], blocks[n]]:
+        if wanted.files[names[n], blocks[n]] not in revisions_of(top, times[n]):
             wrong.append(f"run {n} ended with 0, and its files do not stand")
     for time in set(times):
-        stands = files_of(top / f"time{time:04}")
+        revisions = revisions_of(top, time)
+        stands = [files for files in revisions if files is not None]
         whole = [wanted.files[names[n], blocks[n]] for n in (0, 1) if times[n] == time]
-        if stands is not None and stands not in whole:
-            wrong.append(f"step {time} is of neither run")
-        if stands is None and any(times[n] == time for n in good):
-            wrong.append(f"step {time} does not stand")
+        if any(files not in whole for files in stands):
+            wrong.append(f"a revision of step {time} is of neither run")
+        if len(stands) == 2 and stands[0] == stands[1]:
+            wrong.append(f"a run has left two revisions of step {time}")
+        if stands != revisions[:len(stands)] or len(stands) < sum(times[n] == time for n in good):
+            wrong.append(f"revisions of step {time} are missing")
     if len(good) == 2 and left_overs(top):
         wrong.append(f"left over: {left_overs(top)}")
     return ends, wrong

@@ -461,16 +461,21 @@ def parts_before_step(header: Header) -> list[bytes]:
     return list(header.template[:first])
 
 
-def step_folder(header: Header, step: int) -> bytes:
-    """The folder of a step, seen from the folder of the header's file."""
-    name = [fill_time(header.time.template, step)] if header.time else []
+REVISIONS = 256
+"""How many revisions a step of a header with a time can have."""
+
+
+def step_folder(header: Header, step: int, revision: int = 0) -> bytes:
+    """The folder of a revision of a step, seen from the folder of the header's file."""
+    behind = b".r%d" % revision if revision > 0 else b""
+    name = [fill_time(header.time.template, step) + behind] if header.time else []
     return b"/".join(parts_before_step(header) + name)
 
 
-def file_path(header: Header, step: int, file: int) -> bytes:
-    """The path of a file of a step, seen from the folder of the header's file."""
+def file_path(header: Header, step: int, file: int, revision: int = 0) -> bytes:
+    """The path of a file of a revision of a step, seen from the folder of the header's file."""
     front = parts_before_step(header)
-    folder = step_folder(header, step)
+    folder = step_folder(header, step, revision)
     return b"/".join(([folder] if folder else []) + fill_marks(header.template, file)[len(front):])
 
 
@@ -627,11 +632,20 @@ def answer(header: Header, which: int, region: Box, low: int, high: int, content
     return b"".join(stored_sample(header, which, address, contents) for address in addresses)
 
 
-# The example of the page
+# The examples of the page
+
+
+def check_names() -> None:
+    """Stops where this model does not give the two paths of the page's example of names."""
+    texts = [b"0 3 0 3", b"a uint8", b"V0101", b"2", b"2", b"./d/%02x/%02x.bin", b"0 9 time%04d/"]
+    header = parse_header(header_words(texts))
+    assert file_path(header, 3, 0x1204) == b"d/time0003/12/04.bin"
+    assert file_path(header, 3, 0x1204, 2) == b"d/time0003.r2/12/04.bin"
 
 
 def check_example() -> None:
     """Stops where this model does not give the two files of the page's example."""
+    check_names()
     header = parse_header(header_words([b"0 3 0 3", b"a uint8", b"V0101", b"2", b"2", b"./%01x.bin", b"0 9 time%04d/"]))
     listed = {
         b"time0000/0.bin": bytes.fromhex("00 02 08 0a 01 09 03 0b"),

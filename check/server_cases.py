@@ -77,23 +77,15 @@ class Shelf:
 # Datasets
 
 
-def right_texts(random: Random) -> list[bytes]:
-    """The seven texts of a random dataset that `convert` takes."""
-    while True:
-        texts = cases.draw_dataset(random).texts(random)
-        words = [b"convert", b"v.idx", b"r.raw", *texts, b"0"]
-        if cases.header_of(texts) is not None and commands.usage_fault(words) is None:
-            return texts
-
-
-def convert_steps(bench: Bench) -> Shelf:
-    """A random dataset with one to three steps that the program itself has converted."""
+def convert_steps(bench: Bench, more: int = 0) -> Shelf:
+    """A random dataset with one to three steps that the program itself has converted, and some of them again."""
     random = bench.random
-    texts = right_texts(random)
+    texts = cases.right_texts(random)
     header, path = cases.header_of(texts), cases.draw_path(random, bench)
     steps = commands.steps_of(header)
     shelf = Shelf(path, header, sorted(random.sample(steps, min(len(steps), random.randint(1, 3)))))
     convert(bench, path, header, texts, shelf.steps)
+    convert(bench, path, header, texts, random.choices(shelf.steps, k=more))
     return shelf
 
 
@@ -362,6 +354,51 @@ def lost_blocks(bench: Bench) -> None:
     bench.serve(shelf.words(random), links + [Link([sent], before=restore), Link([sent])])
 
 
+def revisions(bench: Bench) -> None:
+    """Steps that were written again: each is served as its newest revision was at the start."""
+    random, shelf = bench.random, convert_steps(bench, bench.random.randint(2, 4))
+    step = random.choice(shelf.steps)
+    beside = os.path.join(bench.folder, os.path.dirname(shelf.path))
+
+    def folder(revision: int) -> bytes:
+        return os.path.join(beside, reference.step_folder(shelf.header, step, revision))
+
+    def asked() -> bytes:
+        form = right_form(random, shelf.header, shelf.name(), [step])
+        form.put(b"time", b"%d" % step)
+        return b"".join(draw_head(random, target) for target in (form.text(random), shelf.target(random)))
+
+    def write_next() -> None:
+        cases.put_step(bench, shelf.header, shelf.path, step, count)
+
+    def remove_next() -> None:
+        cases.remove(folder(count))
+
+    count = commands.count_of_revisions(shelf.header, step, beside)
+    links = [Link([asked()]), Link([asked()], before=write_next), Link([asked()], before=remove_next)]
+    bench.serve(shelf.words(random), links)
+    write_next()
+    bench.serve(shelf.words(random), [Link([asked() + asked()])])
+    cases.write(bench, os.path.join(folder(count + 2), b"behind a gap"), b"")
+    for file in reference.files_of_step(shelf.header):
+        cut_file(bench, shelf, step, file, random.randrange(count))
+    bench.serve(shelf.words(random), [Link([asked() + asked()])])
+    for file in reference.files_of_step(shelf.header):
+        cut_file(bench, shelf, step, file, count)
+    bench.run([b"serve", shelf.path, b"no address"])
+
+
+def rounds(bench: Bench) -> None:
+    """Questions that need more than 2^26 bytes of blocks."""
+    random = bench.random
+    texts = cases.spread_texts(b" ".join(b"%d %d" % pair for pair in cases.SPREAD_BOX))
+    shelf = empty_shelf(bench, texts, [2, 3])
+    cases.put_spread_file(bench, shelf.header, 3)
+    heads = boxes_of(b"v", [b"4194300+4194308+0+0&time=%d" % step for step in (2, 3, 3)])
+    heads += [plain_head(shelf.right_target(random)) for _ in range(3)]
+    bench.serve(shelf.words(random), [draw_link(random, b"".join(random.sample(heads, 3))) for _ in range(2)])
+
+
 def slips(bench: Bench) -> None:
     """Addresses that are none or are taken, wrong datasets and words, and an output that is full."""
     random, shelf = bench.random, convert_steps(bench)
@@ -378,10 +415,15 @@ def slips(bench: Bench) -> None:
 
 def spoil_step(bench: Bench, shelf: Shelf) -> None:
     """Damages a file of the last step of a dataset."""
+    cut_file(bench, shelf, shelf.steps[-1], bench.random.choice(reference.files_of_step(shelf.header)))
+
+
+def cut_file(bench: Bench, shelf: Shelf, step: int, file: int, revision: int = 0) -> None:
+    """Cuts a file of a revision of a step off in its table, where it is there."""
     beside = os.path.join(bench.folder, os.path.dirname(shelf.path))
-    file = bench.random.choice(reference.files_of_step(shelf.header))
-    path = os.path.join(beside, reference.file_path(shelf.header, shelf.steps[-1], file))
-    os.truncate(path, bench.random.choice([0, 39, 79, shelf.header.table_size() - 1]))
+    path = os.path.join(beside, reference.file_path(shelf.header, step, file, revision))
+    if os.path.exists(path):
+        os.truncate(path, bench.random.choice([0, 39, 79, shelf.header.table_size() - 1]))
 
 
 def damaged(bench: Bench) -> None:
@@ -429,8 +471,9 @@ def full_output(bench: Bench) -> None:
 
 
 KINDS: list[Callable[[Bench], None]] = [
-    questions, odd_files, pieces, target_faults, plan_faults, too_large, short_memory, posts, odd_heads, leavings, hostile_heads,
-    many_links, links_at_once, large_answers, lost_blocks, slips, damaged, wrong_words, full_output,
+    questions, odd_files, pieces, target_faults, plan_faults, too_large, short_memory, posts, odd_heads, leavings,
+    hostile_heads, many_links, links_at_once, large_answers, lost_blocks, slips, damaged, wrong_words, full_output,
+    revisions, rounds,
 ]
 """The kinds of cases, which come in turn."""
 

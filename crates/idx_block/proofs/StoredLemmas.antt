@@ -11,8 +11,8 @@ use Rattle.idx_hz.specs.Mask.{HasAddress}
 use Rattle.idx_hz.specs.Address.{hz_address}
 use Rattle.idx_hz.proofs.AddressLaws.{hz_address-injective}
 use Rattle.idx_header.specs.Header.{HeaderValue}
-use Rattle.idx_layout.specs.Layout.{block_of_samples}
-use Rattle.idx_layout.specs.OfHeader.{layout_of}
+use Rattle.idx_layout.specs.Placing.{block_of_samples}
+use Rattle.idx_layout.specs.OfHeader.{placing_of}
 use Rattle.idx_walk.proofs.WalkLemmas.{sample_at-raw}
 use Rattle.idx_block.specs.Stored.{stored}
 
@@ -67,14 +67,14 @@ stored-none mask box size raw address none =
 
 -- the samples of a block of a header
 pub block-stored : (h : HeaderValue) (size : ℕ) (raw : List ℕ) (block : ℕ) →
-    flat_map (stored h.mask h.box size raw) (range_with_len (block * 2 ^ h.block_bits) (2 ^ h.block_bits)) ≡ block_of_samples (layout_of h) size (samples_of size (length (points h.box)) raw) block
+    flat_map (stored h.mask h.box size raw) (range_with_len (block * 2 ^ h.block_bits) (2 ^ h.block_bits)) ≡ block_of_samples (placing_of h) size (samples_of size (length (points h.box)) raw) block
 unfolding stored
 block-stored h size raw block = refl
 
 -- a block by a mask, a box, bits and a size that are a header's
 pub block-of_header : (h : HeaderValue) (mask : List ℕ) (box : List (ℕ × ℕ)) (bits size bytes : ℕ) (raw : List ℕ) (block : ℕ) (new : List ℕ) → mask ≡ h.mask → box ≡ h.box →
     bits ≡ h.block_bits → bytes ≡ size →
-    new ≡ flat_map (stored mask box bytes raw) (range_with_len (block * 2 ^ bits) (2 ^ bits)) → new ≡ block_of_samples (layout_of h) size (samples_of size (length (points h.box)) raw) block
+    new ≡ flat_map (stored mask box bytes raw) (range_with_len (block * 2 ^ bits) (2 ^ bits)) → new ≡ block_of_samples (placing_of h) size (samples_of size (length (points h.box)) raw) block
 block-of_header h mask box bits size bytes raw block new same_mask same_box same_bits same_size is =
     is
     ∙ ap (λ (m : List ℕ). flat_map (stored m box bytes raw) (range_with_len (block * 2 ^ bits) (2 ^ bits))) same_mask

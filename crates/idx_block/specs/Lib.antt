@@ -1,5 +1,5 @@
 pub mod Stored
-pub use Rattle.idx_layout.specs.Layout
+pub use Rattle.idx_layout.specs.Placing
 pub use Rattle.idx_layout.specs.OfHeader
 pub use Rattle.idx_geom.specs.Volume
 pub use Rattle.idx_header.specs.Header

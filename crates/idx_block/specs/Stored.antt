@@ -2,10 +2,10 @@
 use Rattle.std.specs.Prelude.{ℕ, [], List, length}
 use Rattle.idx_geom.specs.Region.{points}
 use Rattle.idx_geom.specs.Volume.{samples_of}
-use Rattle.idx_layout.specs.Layout.{Layout, stored_sample}
+use Rattle.idx_layout.specs.Placing.{Placing, stored_sample}
 
 -- a layout of which only the mask and the box matter
-abbrev pub bare : List ℕ → List (ℕ × ℕ) → Layout
+abbrev pub bare : List ℕ → List (ℕ × ℕ) → Placing
 bare mask box = record { mask = mask; region = box; bits = 0; per_file = 0; sizes = [] }
 
 -- the sample with an address, where `raw` has one sample of `size` bytes for each point of the box, in row-major order

@@ -2,8 +2,8 @@ ghost use Rattle.std.specs.Prelude.{◌≡◌, ◌*◌, ◌<◌, length};
 ghost use Rattle.idx_geom.specs.Region.{points};
 ghost use Rattle.idx_geom.specs.Volume.{samples_of};
 ghost use Rattle.idx_header.specs.Header.{block_bytes, block_count, sample_bytes_of};
-ghost use Rattle.idx_layout.specs.Layout.{block_of_samples};
-ghost use Rattle.idx_layout.specs.OfHeader.{layout_of};
+ghost use Rattle.idx_layout.specs.Placing.{block_of_samples};
+ghost use Rattle.idx_layout.specs.OfHeader.{placing_of};
 
 use crate::by_lanes::fill_by_lanes;
 use crate::first_block::fill_first_block;
@@ -18,7 +18,7 @@ pub fn fill_block(header: &Header, field: u32, samples: &[u8], block: u64, into:
     requires samples { length samples.now ≡ sample_bytes_of header.now field * length (points header.now.box) }
     requires exists { block < block_count header.now }
     requires room { length into.old ≡ block_bytes header.now field }
-    ensures { into.new ≡ block_of_samples (layout_of header.now) (sample_bytes_of header.now field)
+    ensures { into.new ≡ block_of_samples (placing_of header.now) (sample_bytes_of header.now field)
         (samples_of (sample_bytes_of header.now field) (length (points header.now.box)) samples.now) block }
 {
     let (mask, region) = (header.mask(), header.region());

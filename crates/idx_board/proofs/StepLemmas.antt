@@ -1,18 +1,19 @@
 -- The post of an edition is that of its step.
-use Rattle.std.proofs.Common.{◌≡◌, ◌≢◌, ◌⊎◌, ℕ, zero, suc, ◌+◌, ◌<◌, Bool, true, false, List, [], ◌∷◌, ◌++◌, length, map, refl, sym, ap, subst, ◌∙◌, arith, inl, inr, Option, Some, None, IfSome, append-nil}
-use Rattle.std.specs.Prelude.{if◌then◌else◌, Result, Ok, Err, OnOk}
+use Rattle.std.proofs.Common.{◌≡◌, ◌≢◌, ◌⊎◌, ℕ, zero, suc, ◌+◌, ◌<◌, Bool, List, [], ◌∷◌, ◌++◌, length, map, refl, sym, ap, subst, ◌∙◌, arith, inl, inr, Option, Some, None, IfSome, append-nil}
+use Rattle.std.specs.Prelude.{Result, Ok, Err, OnOk}
 use Rattle.idx_edition.specs.declared.load_fault.LoadFault.{LoadFault}
 use Rattle.std.specs.List.{cons_option, filter_map, range_with_len}
-use Rattle.std.specs.Option.{ForSome, option_map}
+use Rattle.std.specs.Option.{ForSome, option_map, option_map_or}
 use Rattle.idx_outside.specs.Shape.{Shape}
 use Rattle.idx_outside.specs.declared.mem_file.MemFile.{MemFile}
 use Rattle.idx_header.specs.Header.{HeaderValue, HasTime}
-use Rattle.idx_header.specs.Names.{step_folder}
+use Rattle.idx_header.specs.Revisions.{IsRevisionOf}
 use Rattle.idx_layout.specs.Shape.{shape_of}
 use Rattle.idx_hall.specs.Posts.{Post, post_of, table_of}
 use Rattle.idx_edition.specs.Loaded.{HoldsStored, OfBlocks}
-use Rattle.idx_edition.specs.Stored.{Stands, has_block, stored_block}
-use Rattle.idx_board.specs.Standing.{IsStepAdded, is_standing, holds_folder, post_at, step_post}
+use Rattle.idx_edition.specs.Newest.{IsNewest}
+use Rattle.idx_edition.specs.Stored.{IsAbsent, StandsAs, first_bad, found_files, has_block, stored_block}
+use Rattle.idx_board.specs.Standing.{IsStepAdded, bad_at, post_at, reads_at, step_post}
 
 map_same : {A : Type 0} (f g : ℕ → A) (a n : ℕ) → ((i : ℕ) → i < n → f (a + i) ≡ g (a + i)) → map f (range_with_len a n) ≡ map g (range_with_len a n)
 map_same f g a zero same = refl
@@ -28,53 +29,34 @@ table_same s f g same =
 
 -- the post of what holds the stored blocks
 pub post_same : (h : HeaderValue) (step time : ℕ) (files : List MemFile) (shape : Shape) (has : ℕ → ℕ → Bool) (stored : Option (ℕ → ℕ → List ℕ)) (leaves : List (List ℕ × Option (List ℕ)))
-    → time ≡ step → shape ≡ shape_of h → HoldsStored h step files shape has stored leaves → post_of (shape_of h) time has stored ≡ step_post h files step
+    → time ≡ step → shape ≡ shape_of h → HoldsStored h step files shape has stored leaves → post_of (shape_of h) time has stored ≡ step_post files step h
 post_same h step time files shape has stored leaves same is holds = by stored holds.content holds.known
   where
     has_is : table_of (shape_of h) has ≡ table_of (shape_of h) (has_block h step files)
     has_is = table_same (shape_of h) has (has_block h step files) (subst (λ s. OfBlocks s (λ field block. has field block ≡ has_block h step files field block)) is holds.has_blocks)
 
     by : (o : Option (ℕ → ℕ → List ℕ)) → ForSome o (λ f. OfBlocks shape (λ field block. f field block ≡ stored_block h step files field block)) → o ≢ None
-        → post_of (shape_of h) time has o ≡ step_post h files step
+        → post_of (shape_of h) time has o ≡ step_post files step h
     by None content known = absurd (known refl)
     by (Some f) content known =
         let bytes : table_of (shape_of h) f ≡ table_of (shape_of h) (stored_block h step files) =
         table_same (shape_of h) f (stored_block h step files) (subst (λ s. OfBlocks s (λ field block. f field block ≡ stored_block h step files field block)) is (content f refl)) in
         (λ i. record { time = same i; has = has_is i; stored = Some (bytes i) })
 
--- a folder that some file is of, or no folder
-holds_it : (folder : Option (List ℕ)) (files : List MemFile) → IfSome folder (λ f. holds_folder (Some f) files ≡ true) → holds_folder folder files ≡ true
-holds_it None files held = refl
-holds_it (Some f) files held = held
+-- ---- a step that stands as this header
 
-held : (folder : Option (List ℕ)) (files : List MemFile) → holds_folder folder files ≡ true → IfSome folder (λ f. holds_folder (Some f) files ≡ true)
-held None files is = tt
-held (Some f) files is = is
+-- the header at a revision has the shape of the header
+pub same_shape : (h revised : HeaderValue) → IsRevisionOf h revised → shape_of revised ≡ shape_of h
+same_shape h revised is = ap shape_of is.same
 
-pub stands_true : (h : HeaderValue) (step : ℕ) (files : List MemFile) → Stands h step files → is_standing h files step ≡ true
-stands_true h step files stands = holds_it (step_folder h step) files stands.1
+pub bad_of : (h revised : HeaderValue) (step : ℕ) (files : List MemFile) → StandsAs h step files revised → bad_at h files step ≡ first_bad revised step files
+bad_of h revised step files stands = ap (λ (o : Option HeaderValue). option_map_or (λ r. first_bad r step files) o None) stands.1
 
-pub stands_false : (h : HeaderValue) (step : ℕ) (files : List MemFile) → HasTime h step → ¬ Stands h step files → is_standing h files step ≡ false
-stands_false h step files has lacks = by (is_standing h files step) refl
-  where
-    by : (b : Bool) → is_standing h files step ≡ b → b ≡ false
-    by false is = refl
-    by true is = absurd (lacks (has, held (step_folder h step) files is))
+pub reads_of_step : (h revised : HeaderValue) (step : ℕ) (files : List MemFile) → StandsAs h step files revised → reads_at h files step ≡ length (found_files revised step files)
+reads_of_step h revised step files stands = ap (λ (o : Option HeaderValue). option_map_or (λ r. length (found_files r step files)) o 0) stands.1
 
-if_true : {A : Type 0} (b : Bool) (x y : A) → b ≡ true → (if b then x else y) ≡ x
-if_true true x y is = refl
-if_true false x y is = absurd (cc)
-
-if_false : {A : Type 0} (b : Bool) (x y : A) → b ≡ false → (if b then x else y) ≡ y
-if_false true x y is = absurd (cc)
-if_false false x y is = refl
-
--- what a step that stands has
-pub at_standing : {A : Type 0} (h : HeaderValue) (step : ℕ) (files : List MemFile) (x y : A) → Stands h step files → (if is_standing h files step then x else y) ≡ x
-at_standing h step files x y stands = if_true (is_standing h files step) x y (stands_true h step files stands)
-
-pub at_lacking : {A : Type 0} (h : HeaderValue) (step : ℕ) (files : List MemFile) (x y : A) → HasTime h step → ¬ Stands h step files → (if is_standing h files step then x else y) ≡ y
-at_lacking h step files x y has lacks = if_false (is_standing h files step) x y (stands_false h step files has lacks)
+post_is : (h revised : HeaderValue) (step : ℕ) (files : List MemFile) → StandsAs h step files revised → post_at h files step ≡ Some (step_post files step revised)
+post_is h revised step files stands = ap (option_map (step_post files step)) stands.1
 
 one : (f : ℕ → Option Post) (step : ℕ) (p : Post) → f step ≡ Some p → filter_map f (step ∷ []) ≡ p ∷ []
 one f step p is = ap (λ (o : Option Post). cons_option o []) is
@@ -84,38 +66,49 @@ none f step is = ap (λ (o : Option Post). cons_option o []) is
 
 -- a step that stands was published
 pub step_added : (h : HeaderValue) (step : ℕ) (known : Option (List MemFile)) (before after : List Post) (p : Post) → p.time ≡ step → after ≡ before ++ p ∷ []
-    → IfSome known (λ files. Stands h step files × (p ≡ step_post h files step)) → IsStepAdded h step known before after
+    → IfSome known (λ files. post_at h files step ≡ Some p) → IsStepAdded h step known before after
 step_added h step known before after p time is stands = record { times = inr (p, time, is); post = by known stands }
   where
-    by : (o : Option (List MemFile)) → IfSome o (λ files. Stands h step files × (p ≡ step_post h files step)) → IfSome o (λ files. after ≡ before ++ filter_map (post_at h files) (step ∷ []))
+    by : (o : Option (List MemFile)) → IfSome o (λ files. post_at h files step ≡ Some p) → IfSome o (λ files. after ≡ before ++ filter_map (post_at h files) (step ∷ []))
     by None stands = tt
-    by (Some files) (stands, same) =
-        is ∙ ap (λ (ps : List Post). before ++ ps)
-        (sym (one (post_at h files) step p (at_standing h step files (Some (step_post h files step)) None stands ∙ ap Some (sym same))))
+    by (Some files) stands = is ∙ ap (λ (ps : List Post). before ++ ps) (sym (one (post_at h files) step p stands))
 
 -- a step that does not stand was not
-pub step_lacking : (h : HeaderValue) (step : ℕ) (known : Option (List MemFile)) (before : List Post) → HasTime h step → IfSome known (λ files. ¬ Stands h step files)
+pub step_lacking : (h : HeaderValue) (step : ℕ) (known : Option (List MemFile)) (before : List Post) → HasTime h step → IfSome known (IsAbsent h step)
     → IsStepAdded h step known before before
 step_lacking h step known before has lacks = record { times = inl refl; post = by known lacks }
   where
-    by : (o : Option (List MemFile)) → IfSome o (λ files. ¬ Stands h step files) → IfSome o (λ files. before ≡ before ++ filter_map (post_at h files) (step ∷ []))
+    by : (o : Option (List MemFile)) → IfSome o (IsAbsent h step) → IfSome o (λ files. before ≡ before ++ filter_map (post_at h files) (step ∷ []))
     by None lacks = tt
     by (Some files) lacks =
-        sym (append-nil before) ∙ ap (λ (ps : List Post). before ++ ps) (sym (none (post_at h files) step (at_lacking h step files (Some (step_post h files step)) None has lacks)))
+        sym (append-nil before) ∙ ap (λ (ps : List Post). before ++ ps) (sym (none (post_at h files) step (ap (option_map (step_post files step)) (lacks has))))
 
--- what is known of an edition that was loaded, where the committed files are known
-pub facts : (h : HeaderValue) (step time : ℕ) (known : Option (List MemFile)) (shape : Shape) (has : ℕ → ℕ → Bool) (stored : Option (ℕ → ℕ → List ℕ)) (leaves : List (List ℕ × Option (List ℕ)))
-    → time ≡ step → shape ≡ shape_of h → IfSome known (Stands h step) → IfSome known (λ files. HoldsStored h step files shape has stored leaves)
-    → IfSome known (λ files. Stands h step files × (post_of (shape_of h) time has stored ≡ step_post h files step))
-facts h step time None shape has stored leaves same is stands holds = tt
-facts h step time (Some files) shape has stored leaves same is stands holds = (stands, post_same h step time files shape has stored leaves same is holds)
+-- the post of an edition that was loaded, where the committed files are known
+pub facts : (h revised : HeaderValue) (step time : ℕ) (known : Option (List MemFile)) (shape : Shape) (has : ℕ → ℕ → Bool) (stored : Option (ℕ → ℕ → List ℕ)) (leaves : List (List ℕ × Option (List ℕ)))
+    → time ≡ step → shape ≡ shape_of h → IsNewest h step known revised → IfSome known (λ files. HoldsStored revised step files shape has stored leaves)
+    → IfSome known (λ files. post_at h files step ≡ Some (post_of (shape_of h) time has stored))
+facts h revised step time known shape has stored leaves same is newest holds = by known newest.stands holds
+  where
+    own : shape_of revised ≡ shape_of h
+    own = same_shape h revised newest.revision
+
+    by : (o : Option (List MemFile)) → IfSome o (λ files. StandsAs h step files revised) → IfSome o (λ files. HoldsStored revised step files shape has stored leaves)
+        → IfSome o (λ files. post_at h files step ≡ Some (post_of (shape_of h) time has stored))
+    by None stands holds = tt
+    by (Some files) stands holds =
+        post_is h revised step files stands ∙ ap Some (sym (post_same revised step time files shape has stored leaves same (is ∙ sym own) holds))
+        ∙ ap (λ (s : Shape). Some (post_of s time has stored)) own
 
 -- an edition that was added is its step
 pub published : {E : Type 0} (time : E → ℕ) (has : E → ℕ → ℕ → Bool) (stored : E → Option (ℕ → ℕ → List ℕ)) (h : HeaderValue) (step : ℕ) (known : Option (List MemFile)) (before after : List Post)
     (result : Result (Unit {0}) LoadFault) (s : Shape) (added e : E) → added ≡ e → time e ≡ step → s ≡ shape_of h
-    → IfSome known (λ files. Stands h step files × (post_of (shape_of h) (time e) (has e) (stored e) ≡ step_post h files step))
+    → IfSome known (λ files. post_at h files step ≡ Some (post_of (shape_of h) (time e) (has e) (stored e)))
     → OnOk result (after ≡ before ++ post_of s (time added) (has added) (stored added) ∷ []) → OnOk result (IsStepAdded h step known before after)
 published time has stored h step known before after (Err fault) s added e one same is facts gone = tt
 published time has stored h step known before after (Ok u) s added e one same is facts gone =
     step_added h step known before after (post_of (shape_of h) (time e) (has e) (stored e)) same
     (gone ∙ (λ i. before ++ post_of (is i) (time (one i)) (has (one i)) (stored (one i)) ∷ [])) facts
+
+-- nothing is not something
+pub not_some : (o : Option ℕ) (n : ℕ) → o ≡ None → o ≡ Some n → ⊥
+not_some o n none some = (let wrong : Some n ≡ None = sym some ∙ none in cc)

@@ -1,10 +1,10 @@
 -- The steps of a dataset that stand: their posts, the first faulty row of their files, and the reads of their tables.
-use Rattle.std.specs.Prelude.{◌≡◌, ◌⊎◌, ℕ, ◌+◌, ◌-◌, ◌++◌, Bool, true, if◌then◌else◌, List, [], ◌∷◌, length, Option, Some, None, slice_get, sum_by, IfSome}
+use Rattle.std.specs.Prelude.{◌≡◌, ◌⊎◌, ℕ, ◌+◌, ◌-◌, ◌++◌, List, [], ◌∷◌, length, Option, Some, None, slice_get, sum_by, IfSome}
 use Rattle.std.specs.List.{filter_map, range_with_len}
-use Rattle.idx_outside.specs.Files.{has_folder}
+use Rattle.std.specs.Option.{option_map, option_map_or}
 use Rattle.idx_outside.specs.declared.mem_file.MemFile.{MemFile}
 use Rattle.idx_header.specs.Header.{HeaderValue, ends_of}
-use Rattle.idx_header.specs.Names.{step_folder}
+use Rattle.idx_header.specs.Revisions.{header_that_stands}
 use Rattle.idx_layout.specs.Shape.{shape_of}
 use Rattle.idx_hall.specs.Posts.{Post, post_of}
 use Rattle.idx_edition.specs.Loaded.{Counts, IsCause}
@@ -19,38 +19,30 @@ numbers_between (Some ends) = range_with_len ends.0 (ends.1 - ends.0 + 1)
 abbrev pub step_numbers : HeaderValue → List ℕ
 step_numbers h = numbers_between (ends_of h.steps)
 
--- some committed file is of the folder, if there is one
-abbrev pub holds_folder : Option (List ℕ) → List MemFile → Bool
-holds_folder None files = true
-holds_folder (Some folder) files = has_folder folder files
+-- the post of a step at a header's own revision: the blocks that its committed files store
+abbrev pub step_post : List MemFile → ℕ → HeaderValue → Post
+step_post files step h = post_of (shape_of h) step (has_block h step files) (Some (stored_block h step files))
 
--- a step of the header stands: where the header has a time, some committed file is of its folder
-abbrev pub is_standing : HeaderValue → List MemFile → ℕ → Bool
-is_standing h files step = holds_folder (step_folder h step) files
-
--- the post of a step: the blocks that its committed files store
-abbrev pub step_post : HeaderValue → List MemFile → ℕ → Post
-step_post h files step = post_of (shape_of h) step (has_block h step files) (Some (stored_block h step files))
-
--- the post of a step that stands
+-- the post of a step that stands: that of its newest revision
 abbrev pub post_at : HeaderValue → List MemFile → ℕ → Option Post
-post_at h files step = if is_standing h files step then Some (step_post h files step) else None
+post_at h files step = option_map (step_post files step) (header_that_stands h step files)
 
 -- the posts of the steps that stand, by rising time
 abbrev pub standing_posts : HeaderValue → List MemFile → List Post
 standing_posts h files = filter_map (post_at h files) (step_numbers h)
 
--- the first faulty row of a step that stands
+-- the first faulty row of a step that stands, in its newest revision
 abbrev pub bad_at : HeaderValue → List MemFile → ℕ → Option LoadFault
-bad_at h files step = if is_standing h files step then first_bad h step files else None
+bad_at h files step = option_map_or (λ revised. first_bad revised step files) (header_that_stands h step files) None
 
 -- the first faulty row of the steps that stand, in the order of steps, files and rows
 abbrev pub first_bad_row : HeaderValue → List MemFile → Option LoadFault
 first_bad_row h files = slice_get (filter_map (bad_at h files) (step_numbers h)) 0
 
--- how many reads the tables of a step take: one of each of its files that is there, where it stands
+-- how many reads the tables of a step take: one of each file of its newest revision that is there
 abbrev pub reads_at : HeaderValue → List MemFile → ℕ → ℕ
-reads_at h files step = if is_standing h files step then length (found_files h step files) else 0
+reads_at h files step =
+    option_map_or (λ revised. length (found_files revised step files)) (header_that_stands h step files) 0
 
 -- how many reads the tables of these steps take
 abbrev pub reads_of : HeaderValue → List MemFile → List ℕ → ℕ
@@ -61,7 +53,7 @@ abbrev pub IsBoardCause : HeaderValue → Option (List MemFile) → Counts → L
 IsBoardCause h known c fault = IsCause (λ bad. IfSome known (λ files. first_bad_row h files ≡ Some bad)) c fault
 
 -- A step was published, or nothing happened: where the committed files are known, it was published exactly where it stands, with
--- the blocks that they store.
+-- the blocks that its newest revision stores.
 pub record IsStepAdded (h : HeaderValue) (step : ℕ) (known : Option (List MemFile)) (before after : List Post) : Type 0 where
   pub times : (after ≡ before) ⊎ ((p : Post) × (p.time ≡ step) × (after ≡ before ++ p ∷ []))
   pub post : IfSome known (λ files. after ≡ before ++ filter_map (post_at h files) (step ∷ []))

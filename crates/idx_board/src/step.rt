@@ -15,7 +15,7 @@ use idx_outside::{Bay, Blocks, Reader};
 use std::alloc::Global;
 use std::sync::Arc;
 
-/// Loads a step, if it stands, and publishes it.
+/// Loads the newest revision of a step, if the step stands, and publishes it in a hall that has no cached block.
 pub(crate) fn publish_step<B: Bay, R: Reader<B::Leaf>>(
     alloc: Global,
     header: &Header,
@@ -27,6 +27,7 @@ pub(crate) fn publish_step<B: Bay, R: Reader<B::Leaf>>(
     requires has { HasTime header.now time }
     requires shape { hall.old.shape ≡ shape_of header.now }
     requires lacks { Lacks time hall.old.board }
+    requires empty { hall.old.cache.pairs ≡ [] }
     ensures added { OnOk result (IsStepAdded header.now time (B.files bay.old) hall.old.board hall.new.board) }
     ensures sound { OnOk result (IfSome (B.files bay.old) (λ files. bad_at header.now files time ≡ None)) }
     ensures reads { OnOk result (IfSome (B.files bay.old) (λ files.
@@ -47,7 +48,7 @@ pub(crate) fn publish_step<B: Bay, R: Reader<B::Leaf>>(
     ensures begun { B.begun bay.new ≡ B.begun bay.old }
     ensures changes { B.changes bay.new ≡ B.changes bay.old }
 {
-    let Some(edition) = Edition::load(alloc, header, time, bay, reader)? else {
+    let Some(edition) = Edition::load_newest(alloc, header, time, bay, reader)? else {
         return Ok(());
     };
     let Ok(edition) = Arc::new(alloc, edition) else {
@@ -56,17 +57,18 @@ pub(crate) fn publish_step<B: Bay, R: Reader<B::Leaf>>(
     add(hall, edition)
 }
 
-/// Publishes a step that the hall lacks.
+/// Publishes a step that the hall lacks, which has no cached block.
 fn add<E: Blocks + Drop>(hall: &mut Hall<E>, edition: Arc<E>) -> Result<(), LoadFault>
     requires shape { E.shape (arc_value edition) ≡ hall.old.shape }
     requires lacks { Lacks (E.time (arc_value edition)) hall.old.board }
+    requires empty { hall.old.cache.pairs ≡ [] }
     ensures added { OnOk result (hall.new.board ≡ hall.old.board ++ post_of hall.old.shape
         (E.time (arc_value edition)) (E.has (arc_value edition)) (E.stored (arc_value edition)) ∷ []) }
     ensures refused { IfErr result (λ fault. fault ≡ LoadFault.NoMemory) }
     ensures shape { hall.new.shape ≡ hall.old.shape }
     ensures cache { hall.new.cache ≡ hall.old.cache }
 {
-    match hall.publish(edition) {
+    match hall.publish(edition, None) {
         Ok(_) => Ok(()),
         Err((_, PublishRefusal::NoMemory)) => Err(LoadFault::NoMemory),
         Err((_, PublishRefusal::AlreadyPublished { .. })) => unreachable!(),

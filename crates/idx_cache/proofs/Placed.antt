@@ -1,5 +1,5 @@
 -- What the order of the slots and their contents say together.
-use Rattle.std.proofs.Common.{◌≡◌, ℕ, zero, suc, ◌-◌, ◌<◌, Bool, true, false, cond, List, [], ◌∷◌, ◌++◌, length, nat_eq, set, Option, Some, None, IsSome, is_some, refl, sym, ap, ◌∙◌, subst, arith, slice_get}
+use Rattle.std.proofs.Common.{◌≡◌, ℕ, zero, suc, ◌-◌, ◌<◌, Bool, true, false, cond, List, [], ◌∷◌, ◌++◌, length, nat_eq, set, Option, Some, None, IsSome, is_some, refl, sym, ap, ◌∙◌, subst, arith, append_assoc, slice_get}
 use Rattle.std.specs.List.{IsDistinct, AllByRecursion}
 use Rattle.std.specs.Option.{option_map, option_map_or, option_flatten}
 use Rattle.std.specs.Map.{lookup, lookup_entry, remove_entry, keys_of}
@@ -8,7 +8,7 @@ use Rattle.std.proofs.lemmas.Bool.Decides.{nat_tests}
 use Rattle.std.proofs.lemmas.List.{length-set}
 use Rattle.std.proofs.lemmas.Map.Keys.{IsDistinct-head, IsDistinct-tail}
 use Rattle.lru.specs.LruCache.{promoted, last_entry}
-use Rattle.idx_cache.specs.Slotted.{content_at, placed, contents_emptied, emptied, IsWithin}
+use Rattle.idx_cache.specs.Slotted.{content_at, filled, placed, contents_emptied, emptied, IsWithin}
 use Rattle.idx_cache.proofs.Keyed.{all_remove, others_apart}
 use Rattle.idx_cache.proofs.Ties.{some_of, entry_of}
 
@@ -157,3 +157,9 @@ module _ {U X : Type 0} where
   pub filled_placed : (cs : List (Option X)) (es : List (ℕ × U)) → AllByRecursion (λ e. is_some (content_at cs e.0) ≡ is_some e.1) (placed cs es)
   filled_placed cs [] = tt
   filled_placed cs (e ∷ es) = (refl, filled_placed cs es)
+
+-- the key of the pair in the first of the slots that are left goes to those before it
+pub keys_next : {K V : Type 0} (contents : List (Option (K × V))) (before all : List K) (slot : ℕ) (rest : List (ℕ × Unit {0})) (pair : K × V) → content_at contents slot ≡ Some pair → before ++ keys_of (filled (placed contents ((slot, tt) ∷ rest))) ≡ all → (before ++ pair.0 ∷ []) ++ keys_of (filled (placed contents rest)) ≡ all
+keys_next {K} {V} contents before all slot rest pair at is =
+    append_assoc before (pair.0 ∷ []) (keys_of (filled (placed contents rest)))
+    ∙ (sym (ap (λ (o : Option (K × V)). before ++ keys_of (filled ((slot, o) ∷ placed contents rest))) at) ∙ is)

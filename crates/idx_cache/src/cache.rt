@@ -1,5 +1,6 @@
 //! The cache: at most as many pairs as its capacity, the most recently used first.
 ghost use Rattle.std.specs.Prelude.{◌≡◌, ℕ, ◌<◌, ◌≤◌, [], length, min, is_some, option_copied, IfOk};
+ghost use Rattle.std.specs.Map.{keys_of};
 ghost use Rattle.idx_cache.specs.Cached.{cached, found, raised, put_pair, kept_after_evict, IsBounded};
 
 use crate::slots::Slots;
@@ -51,6 +52,13 @@ impl<K: Ord + Copy + Drop, V: Drop> Cache<K, V> {
         ensures { result ≡ self.now.cap }
     {
         self.slots.capacity() as u64
+    }
+
+    /// The keys, the most recently used first.
+    pub fn keys(&self, alloc: Global) -> Result<Vec<K>, NoMemory>
+        ensures { IfOk result (λ keys. keys.items ≡ keys_of self.now.pairs) }
+    {
+        self.slots.keys(alloc)
     }
 
     /// The key's value, with the order as it is.

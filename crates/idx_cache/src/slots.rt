@@ -71,6 +71,19 @@ impl<K: Ord + Copy + Drop, V: Drop> Slots<K, V> {
         self.order.len()
     }
 
+    /// The keys of the filled slots, in the order of their last use.
+    pub fn keys(&self, alloc: Global) -> Result<Vec<K>, NoMemory>
+        ensures { IfOk result (λ keys. keys.items ≡ keys_of (filled self.now)) }
+    {
+        let mut keys = Vec::with_capacity(alloc, self.index.len())?;
+        for (slot, _) in self.order.iter() {
+            if let Some(pair) = content_of(&self.contents, *slot) {
+                keys.push(pair.0)?;
+            }
+        }
+        Ok(keys)
+    }
+
     /// The value in the slot.
     pub fn peek(&self, slot: u32) -> Option<&V>
         requires { IsSome (lookup (nat_eq slot) self.now) }

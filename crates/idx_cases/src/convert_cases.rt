@@ -5,7 +5,8 @@ use idx_header::HeaderKind;
 use std::alloc::{AllocError, Global};
 use std::test::Fail;
 
-const WORDS: &str = "convert|v.idx|r.raw|0 3 0 3|a uint8|V0101|2|2|./%01x.bin|0 9 time%04d/|0";
+pub(crate) const WORDS: &str =
+    "convert|v.idx|r.raw|0 3 0 3|a uint8|V0101|2|2|./%01x.bin|0 9 time%04d/|0";
 
 /// The header text that these words ask for.
 const PUT: (&str, &str, &str) = (HEADER, "|", "");
@@ -14,7 +15,7 @@ const PUT: (&str, &str, &str) = (HEADER, "|", "");
 const ABSENT: (&str, &str, &str) = ("", "|", "");
 
 /// No file.
-const EMPTY: Step = Step {
+pub(crate) const EMPTY: Step = Step {
     behind: 0,
     folder: "time0000",
     files: (None, None),
@@ -45,12 +46,13 @@ const OTHERS: Fails = Fails {
 };
 
 /// A run of `convert` over an empty bay, which ends well, in which these calls would fail.
-const BASE: Case = Case {
+pub(crate) const BASE: Case = Case {
     words: WORDS,
     earlier: "",
     raw: (0, 16),
     header: ABSENT,
     step: None,
+    further: &[],
     fails: OTHERS,
     cause: Cause::Done,
     written: &[],
@@ -266,10 +268,10 @@ static REFUSALS: [Case; 8] = [
     },
 ];
 
-/// The first call of the raw volume and the third of the bay fail too.
+/// The first call of the raw volume and the fourth of the bay fail too.
 const LATER_CALLS: Fails = Fails {
     raw: 1,
-    bay: 3,
+    bay: 4,
     ..OTHERS
 };
 
@@ -289,17 +291,32 @@ const ONE_FILE: Step = Step {
     ..EMPTY
 };
 
-/// A header that does not agree comes before a step that stands, and that before the raw volume. The bay gets no call
-/// behind the one that shows it: that one would fail.
-static MEETINGS: [Case; 5] = [
+/// A header that does not agree comes before the revisions that stand are counted, and these before the raw volume. The
+/// bay gets no call behind the one that shows it: that one would fail.
+static MEETINGS: [Case; 6] = [
     Case {
-        cause: Cause::AlreadyPublished { time: 0 },
+        cause: Cause::RawFault,
         ..STANDING
     },
     Case {
         header: ABSENT,
-        cause: Cause::AlreadyPublished { time: 0 },
+        fails: Fails {
+            raw: 2,
+            ..LATER_CALLS
+        },
+        cause: Cause::RawWrongSize {
+            want: 16,
+            found: 15,
+        },
         header_after: Some(ABSENT),
+        ..STANDING
+    },
+    Case {
+        fails: Fails {
+            bay: 3,
+            ..LATER_CALLS
+        },
+        cause: Cause::StoreFault,
         ..STANDING
     },
     Case {

@@ -10,6 +10,7 @@ const BASE: Case = Case {
     raw: (0, 16),
     header: ("", "|", ""),
     step: None,
+    further: &[],
     fails: NONE_FAILS,
     cause: Cause::Done,
     written: &[0, 2, 8, 10],

@@ -18,6 +18,7 @@ const BASE: Case = Case {
     raw: (0, 0),
     header: (HEADER, "|", ""),
     step: None,
+    further: &[],
     fails: OTHERS,
     cause: Cause::Done,
     written: SUMMARY,

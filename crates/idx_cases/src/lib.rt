@@ -13,6 +13,8 @@ mod laws;
 #[cfg(test)]
 mod query_cases;
 #[cfg(test)]
+mod revision_cases;
+#[cfg(test)]
 mod serve_cases;
 #[cfg(test)]
 mod setting;

@@ -7,23 +7,24 @@ use idx_table::TableKind;
 use std::alloc::{AllocError, Global};
 use std::test::Fail;
 
-/// The calls fail that would be the first of the raw volume, the fifth of the bay, the seventh of the reader and the second
+/// The calls fail that would be the first of the raw volume, the seventh of the bay, the seventh of the reader and the second
 /// of the sink.
-const FURTHER_CALLS: Fails = Fails {
+pub(crate) const FURTHER_CALLS: Fails = Fails {
     raw: 1,
-    bay: 5,
+    bay: 7,
     reader: 7,
     sink: 2,
     ..NONE_FAILS
 };
 
 /// A run of `query` over the step of the bytes 0 to 15, which ends well, in which these calls would fail.
-const BASE: Case = Case {
+pub(crate) const BASE: Case = Case {
     words: "query|v.idx|0|a|0 3 0 3|0|4",
     earlier: "",
     raw: (0, 0),
     header: (HEADER, "|", ""),
     step: Some(STEP),
+    further: &[],
     fails: FURTHER_CALLS,
     cause: Cause::Done,
     written: &[0, 1, 2, 3, 4, 5, 6, 7, 8, 9, 10, 11, 12, 13, 14, 15],
@@ -290,20 +291,22 @@ static UNREAD: [Case; 5] = [
 /// The calls that fail, of the bay and of the reader; the cause that then comes; and how many reads are made.
 type Failure = (u64, u64, Cause, u64);
 
-/// Each call fails in turn: four of the bay, six of the reader, and the one of the sink. Nothing is written before all is
+/// Each call fails in turn: six of the bay, six of the reader, and the one of the sink. Nothing is written before all is
 /// read.
-static FAILURES: [Failure; 11] = [
+static FAILURES: [Failure; 13] = [
     (1, 7, Cause::StoreFault, 0),
     (2, 7, Cause::StoreFault, 0),
     (3, 7, Cause::StoreFault, 0),
-    (4, 7, Cause::StoreFault, 1),
-    (5, 1, Cause::StoreFault, 1),
-    (5, 2, Cause::StoreFault, 2),
-    (5, 3, Cause::StoreFault, 3),
-    (5, 4, Cause::StoreFault, 4),
-    (5, 5, Cause::StoreFault, 5),
-    (5, 6, Cause::StoreFault, 6),
-    (5, 7, Cause::SinkFault, 6),
+    (4, 7, Cause::StoreFault, 0),
+    (5, 7, Cause::StoreFault, 0),
+    (6, 7, Cause::StoreFault, 1),
+    (7, 1, Cause::StoreFault, 1),
+    (7, 2, Cause::StoreFault, 2),
+    (7, 3, Cause::StoreFault, 3),
+    (7, 4, Cause::StoreFault, 4),
+    (7, 5, Cause::StoreFault, 5),
+    (7, 6, Cause::StoreFault, 6),
+    (7, 7, Cause::SinkFault, 6),
 ];
 
 /// The number of the first failure that does not end as it is to, if there is one.

@@ -1,6 +1,7 @@
 //! Cases of `serve`.
 use crate::convert_cases::STEP;
 use crate::query_cases::{DAMAGES, first_damaged, second_damaged};
+use crate::revision_cases::SECOND_AGAIN;
 use crate::setting::{Case, Fails, HEADER, NONE_FAILS, calls, door_after};
 use idx_commands::Cause;
 use idx_header::HeaderKind;
@@ -35,6 +36,8 @@ enum Replies {
     First,
     /// The replies to both where the step 9 does not stand.
     Both,
+    /// The same where the step 0 has the bytes 16 to 31.
+    Newest,
     /// The replies to both where no step stands.
     Neither,
     /// Twice all of the step 0.
@@ -47,6 +50,7 @@ impl Replies {
             Replies::Nothing => b"",
             Replies::First => FIRST,
             Replies::Both => BOTH,
+            Replies::Newest => NEWEST,
             Replies::Neither => NEITHER,
             Replies::Every => EVERY,
         }
@@ -94,6 +98,20 @@ const BOTH: &[u8] = b"HTTP/1.1 200 OK\r\n\
     \r\n\
     NotPublished\n";
 
+const NEWEST: &[u8] = b"HTTP/1.1 200 OK\r\n\
+    Content-Type: application/octet-stream\r\n\
+    Content-Length: 4\r\n\
+    visus-compression: raw\r\n\
+    visus-dtype: uint8\r\n\
+    visus-samples: 4\r\n\
+    visus-post: 0\r\n\
+    \r\n\
+    \x10\x12\x18\x1aHTTP/1.1 404 Not Found\r\n\
+    Content-Type: text/plain\r\n\
+    Content-Length: 13\r\n\
+    \r\n\
+    NotPublished\n";
+
 const NEITHER: &[u8] = b"HTTP/1.1 404 Not Found\r\n\
     Content-Type: text/plain\r\n\
     Content-Length: 13\r\n\
@@ -127,15 +145,17 @@ const EVERY: &[u8] = b"HTTP/1.1 200 OK\r\n\
     \r\n\
     \x00\x01\x02\x03\x04\x05\x06\x07\x08\x09\x0a\x0b\x0c\x0d\x0e\x0f";
 
-/// A run that serves two heads of the step of the bytes 0 to 15, which ends well. It makes 13 calls of the bay: for the header,
-/// for each of ten steps whether it stands, and for each file of the one that does. It reads each table and one block, and
-/// writes once to the sink. The next call of the bay and of the sink would fail, and the first of the raw volume.
+/// A run that serves two heads of the step of the bytes 0 to 15, which ends well. It makes 15 calls of the bay: for the header,
+/// for each of ten steps whether it stands, and for the one that does whether its next revision does and this one still does,
+/// and for each of its files. It reads each table and one block, and writes once to the sink. The next call of the bay and of
+/// the sink would fail, and the first of the raw volume.
 const CASE: Case = Case {
     words: "serve|v.idx|a",
     earlier: "",
     raw: (0, 0),
     header: (HEADER, "|", ""),
     step: Some(STEP),
+    further: &[],
     fails: FURTHER_CALLS,
     cause: Cause::Done,
     written: b"links 1 replies 2\n",
@@ -146,7 +166,7 @@ const CASE: Case = Case {
 
 const FURTHER_CALLS: Fails = Fails {
     raw: 1,
-    bay: 14,
+    bay: 16,
     sink: 2,
     ..NONE_FAILS
 };
@@ -159,9 +179,22 @@ const BASE: Serving = Serving {
 };
 
 /// A cache of four blocks has them all when the second head asks again, and one of a single block has the last of them.
-/// Where no step stands nothing is read.
-static ANSWERS: [Serving; 4] = [
+/// Where no step stands nothing is read. A step that was written again is answered out of its newest revision alone.
+static ANSWERS: [Serving; 5] = [
     BASE,
+    Serving {
+        case: Case {
+            further: &[SECOND_AGAIN],
+            fails: Fails {
+                bay: 17,
+                ..FURTHER_CALLS
+            },
+            step_after: None,
+            ..CASE
+        },
+        written: &[Replies::Newest],
+        ..BASE
+    },
     Serving {
         case: Case {
             words: "serve|v.idx|a|--cache|4",
@@ -317,14 +350,14 @@ static BREAKS: [Serving; 4] = [
 /// The calls of the bay and of the reader that fail, and how many reads are made.
 type Failure = (u64, u64, u64);
 
-/// Each call before the first link fails in turn: 13 of the bay, and two of the reader.
-static FAILURES: [Failure; 15] = [
+/// Each call before the first link fails in turn: 15 of the bay, and two of the reader.
+static FAILURES: [Failure; 17] = [
     (1, 0, 0),
     (2, 0, 0),
     (3, 0, 0),
-    (4, 0, 1),
-    (5, 0, 2),
-    (6, 0, 2),
+    (4, 0, 0),
+    (5, 0, 0),
+    (6, 0, 1),
     (7, 0, 2),
     (8, 0, 2),
     (9, 0, 2),
@@ -332,6 +365,8 @@ static FAILURES: [Failure; 15] = [
     (11, 0, 2),
     (12, 0, 2),
     (13, 0, 2),
+    (14, 0, 2),
+    (15, 0, 2),
     (0, 1, 1),
     (0, 2, 2),
 ];

@@ -65,8 +65,9 @@ pub(crate) struct Case {
     pub(crate) raw: (u8, usize),
     /// The header text that stands, with the first of two texts replaced by the second.
     pub(crate) header: (&'static str, &'static str, &'static str),
-    /// The files that stand.
+    /// The files that stand, and those that stand behind them.
     pub(crate) step: Option<Step>,
+    pub(crate) further: &'static [Step],
     pub(crate) fails: Fails,
     /// The cause that it ends with, the bytes that it writes to the sink, and how many reads it makes.
     pub(crate) cause: Cause,
@@ -112,14 +113,14 @@ pub(crate) fn door_after(
 }
 
 /// A door without links, whose first call fails.
-fn unused_door(alloc: Global) -> Result<MemDoor, AllocError> {
+pub(crate) fn unused_door(alloc: Global) -> Result<MemDoor, AllocError> {
     Ok(MemDoor::new(Vec::new(alloc), calls(alloc, 1)?))
 }
 
 /// How a run ended, what it wrote to the sink, how many leaves it read, and its door.
 #[derive(Drop)]
-struct End {
-    done: Done,
+pub(crate) struct End {
+    pub(crate) done: Done,
     written: Vec<u8>,
     reads: u64,
     door: Option<MemDoor>,
@@ -139,10 +140,23 @@ fn leaves_as_wanted(alloc: Global, case: &Case, bay: &MemBay) -> Result<bool, Al
             return Ok(false);
         }
     }
+    if !begins_with(bay, &standing_files(alloc, case)?) {
+        return Ok(false);
+    }
     match case.step_after {
         Some(step) => holds_step(alloc, step, bay),
         None => Ok(true),
     }
+}
+
+/// Whether the first files of a bay are these.
+fn begins_with(bay: &MemBay, files: &Vec<MemFile>) -> bool {
+    let committed = bay.committed();
+    committed.len() >= files.len()
+        && committed
+            .iter()
+            .zip(files.iter())
+            .all(|(found, wanted)| is_same(found, wanted))
 }
 
 /// Whether the last files of a bay are exactly those of a step, behind as many as it says.
@@ -167,7 +181,7 @@ fn is_same(found: &MemFile, wanted: &MemFile) -> bool {
 }
 
 /// A run on these words over a bay, this raw volume, a reader, a sink and a door.
-fn run_over(
+pub(crate) fn run_over(
     alloc: Global,
     line: &str,
     raw: (u8, usize),
@@ -232,14 +246,23 @@ fn text_of(alloc: Global, (text, usual, given): (&str, &str, &str)) -> Result<St
 /// The bay of a case.
 fn bay_of(alloc: Global, case: &Case) -> Result<MemBay, AllocError> {
     let header = Bytes::from_vec(text_of(alloc, case.header)?.into_bytes());
-    let files = match case.step {
-        Some(step) => files_of(alloc, step)?,
-        None => Vec::new(alloc),
-    };
+    let files = standing_files(alloc, case)?;
     let mut drafts = Vec::new(alloc);
     drafts.push(calls(alloc, case.fails.drafts.0)?)?;
     drafts.push(calls(alloc, case.fails.drafts.1)?)?;
     Ok(MemBay::new(header, files, calls(alloc, case.fails.bay)?, drafts))
+}
+
+/// The files that stand before a case.
+fn standing_files(alloc: Global, case: &Case) -> Result<Vec<MemFile>, AllocError> {
+    let mut files = match case.step {
+        Some(step) => files_of(alloc, step)?,
+        None => Vec::new(alloc),
+    };
+    for step in case.further {
+        files.append(&mut files_of(alloc, *step)?)?;
+    }
+    Ok(files)
 }
 
 /// The files of a step.
@@ -255,7 +278,12 @@ fn files_of(alloc: Global, step: Step) -> Result<Vec<MemFile>, AllocError> {
 }
 
 /// A file of this name in this folder.
-fn file_of(alloc: Global, folder: &str, name: &str, stored: Stored) -> Result<MemFile, AllocError> {
+pub(crate) fn file_of(
+    alloc: Global,
+    folder: &str,
+    name: &str,
+    stored: Stored,
+) -> Result<MemFile, AllocError> {
     let path = format!(in alloc; "{folder}/{name}")?;
     Ok(MemFile {
         folder: Bytes::from_vec(Vec::from_slice(alloc, folder.as_bytes())?),

@@ -1,9 +1,8 @@
 -- What a run of `convert` comes to where what it meets is known.
-use Rattle.std.proofs.Common.{◌≡◌, ◌≢◌, ◌⊎◌, ℕ, ◌^◌, ◌<◌, ◌≤◌, List, [], length, Option, Some, None, Ok, Err, IsErr, IfSome, IsSomeAnd, inl, inr, refl, sym, ap, ◌∙◌, subst, arith}
+use Rattle.std.proofs.Common.{◌≡◌, ◌≢◌, ◌⊎◌, ℕ, ◌<◌, List, [], length, Option, Some, None, Ok, Err, IsErr, IsSome, IfSome, IsSomeAnd, inl, inr, refl, sym, ap, ◌∙◌, subst, arith}
 use Rattle.std.specs.Prelude.{Result}
 use Rattle.std.proofs.lemmas.Bool.{false≢true}
 use Rattle.idx_outside.specs.Cause.{NeverFalls, Rose}
-use Rattle.idx_outside.specs.Files.{HasStep as HasCommitted}
 use Rattle.idx_outside.specs.Objects.{UsesOnly}
 use Rattle.idx_outside.specs.declared.bay_call.BayCall.{BayCall}
 use Rattle.idx_outside.specs.declared.bay_call.BayCall.TheVariants as calls
@@ -11,12 +10,12 @@ use Rattle.idx_outside.specs.declared.mem_file.MemFile.{MemFile}
 use Rattle.idx_header.specs.declared.header_kind.HeaderKind.{HeaderKind}
 use Rattle.idx_header.specs.Header.{HeaderValue, Agree, volume_bytes}
 use Rattle.idx_header.specs.HeaderOf.{header_of}
-use Rattle.idx_header.specs.Names.{step_folder}
 use Rattle.idx_header.specs.OfBay.{IsFaultOfSome}
-use Rattle.idx_gather.specs.Gather.{HasFolder, LacksVolume}
+use Rattle.idx_header.specs.Revisions.{header_to_write}
+use Rattle.idx_gather.specs.Gather.{HasFolder, LacksVolume, too_large}
 use Rattle.idx_convert.specs.declared.convert_fault.ConvertFault.{ConvertFault}
 use Rattle.idx_convert.specs.declared.convert_fault.ConvertFault.TheVariants as faults
-use Rattle.idx_convert.specs.Convert.{Asks, AsksFor, Begins, Converted, Differs, Ends, IsCause, IsEarly, IsFailedCall, IsNew, IsRight, LeavesFailed, IsTaken, Suits, Takes, put_where_none}
+use Rattle.idx_convert.specs.Convert.{Asks, AsksFor, Begins, Converted, Differs, Ends, IsCause, IsEarly, IsFailedCall, IsRight, LeavesFailed, Suits, Takes, put_where_none}
 use Rattle.idx_convert.specs.Known.{KeepsBay, Known}
 use Rattle.idx_words.specs.ConvertValue.{ConvertValue}
 use Rattle.idx_words.specs.Built.{IsBuilt}
@@ -53,11 +52,15 @@ suits_not_differs h known (inl none) (some, differs) = some none
 suits_not_differs h known (inr (one, (reads, agree))) (some, (other, (too, differ))) =
     differ (subst (λ g. Agree g h) (one_header known one other reads too) agree)
 
--- a step that stands is not new
-new_not_taken : (h : HeaderValue) (step : ℕ) (files : List MemFile) → IsNew h step files → IsTaken h step files → ⊥
-new_not_taken h step files new stands =
-    both_hold (step_folder h step) (λ folder. ¬ HasCommitted folder files) (λ folder. HasCommitted folder files)
-    (λ folder fresh there. fresh there) new stands
+-- a revision of the step is left to write, or none is
+abbrev HasNext : HeaderValue → ℕ → List MemFile → Type 0
+HasNext h step files = IsSome (header_to_write h step files)
+
+abbrev IsFull : HeaderValue → ℕ → List MemFile → Type 0
+IsFull h step files = header_to_write h step files ≡ None
+
+next_not_full : (h : HeaderValue) (step : ℕ) (files : List MemFile) → HasNext h step files → IsFull h step files → ⊥
+next_not_full h step files some none = false≢true (subst IsSome none some)
 
 module _ (text : List ℕ) (step : ℕ) (k : Known) where
   abbrev C : ConvertFault → Type 0
@@ -80,7 +83,7 @@ module _ (text : List ℕ) (step : ℕ) (k : Known) where
 
   not_large : (h : HeaderValue) → AsksFor text step h → IsTooLarge text step → ⊥
   not_large h asked (g, (reads, (folder, large))) =
-      let small = moved (λ x. volume_bytes x ≤ 2 ^ 30) h g asked.reads reads asked.small in omega (arith, small, large)
+      let small = moved (λ x. too_large x ≡ None) h g asked.reads reads asked.small in false≢true (subst IsSome small large)
 
   -- a text that is refused
   bad_text : (fault : ConvertFault) → C fault → IsBadText text step → (st fault ≡ 2) ⊎ (st fault ≡ 11)
@@ -108,17 +111,17 @@ module _ (text : List ℕ) (step : ℕ) (k : Known) where
   no_step faults.NoMemory c h = inr refl
 
   -- too many bytes
-  too_large : (fault : ConvertFault) → C fault → IsTooLarge text step → (st fault ≡ 8) ⊎ (st fault ≡ 11)
-  too_large (faults.Header line kind) (real, inl refused) (h, (reads, large)) = absurd (not_refused text h _ reads refused)
-  too_large (faults.Header line kind) (real, inr (g, (asked, c))) h = absurd (not_large g asked h)
-  too_large faults.NoStep c h = inl refl
-  too_large (faults.TooLarge bytes) c h = inl refl
-  too_large faults.OtherHeader (g, (asked, c)) h = absurd (not_large g asked h)
-  too_large faults.AlreadyPublished (g, (asked, c)) h = absurd (not_large g asked h)
-  too_large (faults.RawWrongSize want found) (g, (asked, c)) h = absurd (not_large g asked h)
-  too_large faults.RawFault (g, (asked, c)) h = absurd (not_large g asked h)
-  too_large faults.StoreFault (g, (asked, c)) h = absurd (not_large g asked h)
-  too_large faults.NoMemory c h = inr refl
+  too_many : (fault : ConvertFault) → C fault → IsTooLarge text step → (st fault ≡ 8) ⊎ (st fault ≡ 11)
+  too_many (faults.Header line kind) (real, inl refused) (h, (reads, large)) = absurd (not_refused text h _ reads refused)
+  too_many (faults.Header line kind) (real, inr (g, (asked, c))) h = absurd (not_large g asked h)
+  too_many faults.NoStep c h = inl refl
+  too_many (faults.TooLarge bytes) c h = inl refl
+  too_many faults.OtherHeader (g, (asked, c)) h = absurd (not_large g asked h)
+  too_many faults.AlreadyPublished (g, (asked, c)) h = absurd (not_large g asked h)
+  too_many (faults.RawWrongSize want found) (g, (asked, c)) h = absurd (not_large g asked h)
+  too_many faults.RawFault (g, (asked, c)) h = absurd (not_large g asked h)
+  too_many faults.StoreFault (g, (asked, c)) h = absurd (not_large g asked h)
+  too_many faults.NoMemory c h = inr refl
 
   -- what is asked for is right: what each fault then says of its header
   module _ (h : HeaderValue) (asked : AsksFor text step h) where
@@ -127,7 +130,7 @@ module _ (text : List ℕ) (step : ℕ) (k : Known) where
     Late faults.NoStep = ⊥
     Late (faults.TooLarge bytes) = ⊥
     Late faults.OtherHeader = IfSome k.header (Differs h)
-    Late faults.AlreadyPublished = IfSome k.header (Suits h) × IfSome k.files (IsTaken h step)
+    Late faults.AlreadyPublished = IfSome k.header (Suits h) × IfSome k.files (IsFull h step)
     Late (faults.RawWrongSize want found) =
         Takes h step k.header k.files × (want ≡ volume_bytes h) × (found ≢ want) × IfSome k.raw (λ bytes. found ≡ length bytes)
     Late faults.RawFault = Takes h step k.header k.files × Rose k.raw_before k.raw_after
@@ -141,10 +144,10 @@ module _ (text : List ℕ) (step : ℕ) (k : Known) where
     late (faults.Header line kind) (real, inl refused) = absurd (not_refused text h _ asked.reads refused)
     late (faults.Header line kind) (real, inr c) = of_header (λ g. IfSome k.header (λ known. IsFaultOfSome known line kind)) c
     late faults.NoStep c = absurd (not_lacking h asked c)
-    late (faults.TooLarge bytes) (g, (reads, (folder, same, large))) =
-        absurd (not_large h asked (g, (reads, (folder, subst (λ n. 2 ^ 30 < n) same large))))
+    late (faults.TooLarge bytes) (g, (reads, (folder, large))) =
+        absurd (not_large h asked (g, (reads, (folder, subst IsSome (sym large) refl))))
     late faults.OtherHeader c = of_header (λ g. IfSome k.header (Differs g)) c
-    late faults.AlreadyPublished c = of_header (λ g. IfSome k.header (Suits g) × IfSome k.files (IsTaken g step)) c
+    late faults.AlreadyPublished c = of_header (λ g. IfSome k.header (Suits g) × IfSome k.files (IsFull g step)) c
     late (faults.RawWrongSize want found) c =
         of_header (λ g. Takes g step k.header k.files × (want ≡ volume_bytes g) × (found ≢ want)
         × IfSome k.raw (λ bytes. found ≡ length bytes)) c
@@ -201,32 +204,32 @@ module _ (text : List ℕ) (step : ℕ) (k : Known) where
     other_header other faults.NoStep f c = absurd c
     other_header other (faults.TooLarge bytes) f c = absurd c
 
-    -- the step stands
-    published : IsSomeAnd k.header (Suits h) → IsSomeAnd k.files (IsTaken h step) → (fault : ConvertFault) → F fault → Late fault →
+    -- no revision of the step is left
+    published : IsSomeAnd k.header (Suits h) → IsSomeAnd k.files (IsFull h step) → (fault : ConvertFault) → F fault → Late fault →
         (st fault ≡ 6) ⊎ (FailsFirst (st fault) k.failed_after ⊎ (st fault ≡ 11))
     published suits stands (faults.Header line kind) f c = absurd (both_hold k.header (λ known. IsFaultOfSome known line kind) _ (suits_not_refused h line kind) c suits)
     published suits stands faults.OtherHeader f c = inl refl
     published suits stands faults.AlreadyPublished f c = inl refl
-    published suits stands (faults.RawWrongSize want found) f c = absurd (both_hold k.files (IsNew h step) _ (new_not_taken h step) c.0.new stands)
-    published suits stands faults.RawFault f c = absurd (both_hold k.files (IsNew h step) _ (new_not_taken h step) c.0.new stands)
-    published suits stands faults.StoreFault f c = inr (inl (refl, first_call (λ right. both_hold k.files (IsNew h step) _ (new_not_taken h step) right.0.new stands) k.failed_after f))
+    published suits stands (faults.RawWrongSize want found) f c = absurd (both_hold k.files (HasNext h step) _ (next_not_full h step) c.0.next stands)
+    published suits stands faults.RawFault f c = absurd (both_hold k.files (HasNext h step) _ (next_not_full h step) c.0.next stands)
+    published suits stands faults.StoreFault f c = inr (inl (refl, first_call (λ right. both_hold k.files (HasNext h step) _ (next_not_full h step) right.0.next stands) k.failed_after f))
     published suits stands faults.NoMemory f c = inr (inr refl)
     published suits stands faults.NoStep f c = absurd c
     published suits stands (faults.TooLarge bytes) f c = absurd c
 
     -- all is right but the length
-    module _ (suits : IsSomeAnd k.header (Suits h)) (new : IsSomeAnd k.files (IsNew h step)) where
+    module _ (suits : IsSomeAnd k.header (Suits h)) (new : IsSomeAnd k.files (HasNext h step)) where
       differs_too : (known : List ℕ) → Differs h known → Suits h known → ⊥
       differs_too known differs same = suits_not_differs h known same differs
 
-      taken_too : (files : List MemFile) → IsTaken h step files → IsNew h step files → ⊥
-      taken_too files stands is_new = new_not_taken h step files is_new stands
+      full_too : (files : List MemFile) → IsFull h step files → HasNext h step files → ⊥
+      full_too files full next = next_not_full h step files next full
 
       other_length : IsSomeAnd k.raw (HasOtherLength h) → (fault : ConvertFault) → F fault → Late fault →
           (st fault ≡ 3) ⊎ ((st fault ≡ 4) ⊎ (FailsFirst (st fault) k.failed_after ⊎ (st fault ≡ 11)))
       other_length other (faults.Header line kind) f c = absurd (both_hold k.header (λ known. IsFaultOfSome known line kind) _ (suits_not_refused h line kind) c suits)
       other_length other faults.OtherHeader f c = absurd (both_hold k.header (Differs h) _ differs_too c suits)
-      other_length other faults.AlreadyPublished f c = absurd (both_hold k.files (IsTaken h step) _ taken_too c.1 new)
+      other_length other faults.AlreadyPublished f c = absurd (both_hold k.files (IsFull h step) _ full_too c.1 new)
       other_length other (faults.RawWrongSize want found) f c = inl refl
       other_length other faults.RawFault f c = inr (inl refl)
       other_length other faults.StoreFault f c = inr (inr (inl (refl, first_call (λ right. both_hold k.raw (HasRightLength h) (HasOtherLength h) (λ bytes fits wrong. wrong fits) right.1 other) k.failed_after f)))
@@ -239,7 +242,7 @@ module _ (text : List ℕ) (step : ℕ) (k : Known) where
           (st fault ≡ 0) ⊎ (st fault ≡ 11)
       complete right raw_quiet bay_quiet (faults.Header line kind) c = absurd (both_hold k.header (λ known. IsFaultOfSome known line kind) _ (suits_not_refused h line kind) c suits)
       complete right raw_quiet bay_quiet faults.OtherHeader c = absurd (both_hold k.header (Differs h) _ differs_too c suits)
-      complete right raw_quiet bay_quiet faults.AlreadyPublished c = absurd (both_hold k.files (IsTaken h step) _ taken_too c.1 new)
+      complete right raw_quiet bay_quiet faults.AlreadyPublished c = absurd (both_hold k.files (IsFull h step) _ full_too c.1 new)
       complete right raw_quiet bay_quiet (faults.RawWrongSize want found) (takes, asks, other, found_is) =
           absurd (both_hold k.raw (λ bytes. found ≡ length bytes) (HasRightLength h) (λ bytes is fits. other (is ∙ fits ∙ sym asks)) found_is right)
       complete right raw_quiet bay_quiet faults.RawFault c = absurd (raw_quiet c.1)
@@ -293,7 +296,7 @@ module _ (c : ConvertValue) (k : Known) (cause : Cause) (ends : ConvertMeans c k
   too_large_ends text built large =
       judged (λ s. (s ≡ 8) ⊎ (s ≡ 11)) c k text built
       (λ wrote. absurd (not_large text c.step k wrote.header wrote.asked large)) (inr refl)
-      (λ fault caused call. too_large text c.step k fault caused large) cause ends
+      (λ fault caused call. too_many text c.step k fault caused large) cause ends
 
   pub bad_standing_ends : (text : List ℕ) → IsBuilt c text → MeetsBadHeader k.header text c.step →
       (status_of cause ≡ 2) ⊎ (FailsAtHeader (status_of cause) k.failed_after ⊎ (status_of cause ≡ 11))
@@ -315,7 +318,7 @@ module _ (c : ConvertValue) (k : Known) (cause : Cause) (ends : ConvertMeans c k
   published_ends text built (h, (asked, (suits, stands))) =
       judged (λ s. (s ≡ 6) ⊎ (FailsFirst s k.failed_after ⊎ (s ≡ 11))) c k text built
       (λ wrote. let taken = wrote_for text c.step h asked wrote (λ g. Takes g c.step k.header k.files) wrote.taken in
-      absurd (both_hold k.files (IsNew h c.step) (IsTaken h c.step) (new_not_taken h c.step) taken.new stands)) (inr (inr refl))
+      absurd (both_hold k.files (HasNext h c.step) (IsFull h c.step) (next_not_full h c.step) taken.next stands)) (inr (inr refl))
       (λ fault caused call. published text c.step k h asked suits stands fault call (late text c.step k h asked fault caused)) cause ends
 
   pub other_length_ends : (text : List ℕ) → IsBuilt c text → IsFree k.header k.files k.raw HasOtherLength text c.step →

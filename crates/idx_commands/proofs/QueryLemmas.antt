@@ -13,7 +13,9 @@ use Rattle.idx_plan.specs.Needed.{plan_fault}
 use Rattle.idx_plan.specs.declared.ask.Ask.{Ask}
 use Rattle.idx_plan.specs.declared.plan_fault.PlanFault.{PlanFault}
 use Rattle.idx_plan.specs.declared.plan_fault.PlanFault.TheVariants as plans
-use Rattle.idx_edition.specs.Stored.{Stands, first_bad, stored_block}
+use Rattle.idx_edition.specs.Newest.{HasBadTable}
+use Rattle.idx_edition.specs.Stored.{IsAbsent, StandsAs, first_bad, stored_block}
+use Rattle.idx_edition.proofs.NewestLemmas.{newest-not, newest-one}
 use Rattle.idx_edition.specs.declared.load_fault.LoadFault.{LoadFault}
 use Rattle.idx_edition.specs.declared.load_fault.LoadFault.TheVariants as loads
 use Rattle.idx_table.specs.declared.table_fault.TableKind.{TableKind}
@@ -30,7 +32,7 @@ use Rattle.idx_commands.specs.Seen.{BaySeen, ReaderCounts, ReadersSeen, SinkSeen
 use Rattle.idx_commands.specs.InfoRun.{HasBadHeader, KnownReads}
 use Rattle.idx_commands.proofs.CauseLemmas.{store_fault_is}
 use Rattle.idx_commands.proofs.KnownLemmas.{both_hold, not_refused, one_header}
-use Rattle.idx_commands.specs.QueryRun.{HasCause, HasSoundStep, IsBayOutage, IsDue, IsOfQuestion, IsReaderOutage, IsUnreadCause, QueryEnds, QueryMeans, ReadsAs, cause_of_extract, known_of, question_of}
+use Rattle.idx_commands.specs.QueryRun.{AnswersStored, HasCause, HasSoundStep, IsBayOutage, IsDue, IsOfQuestion, IsReaderOutage, IsSound, IsUnreadCause, QueryEnds, QueryMeans, ReadsAs, cause_of_extract, known_of, question_of}
 
 -- ---- what is known
 
@@ -60,6 +62,18 @@ load_in None = loads.NoMemory
 
 pub some_not_none : {X : Type 0} (x : X) (o : Option X) → o ≡ Some x → o ≡ None → ⊥
 some_not_none x o some none = let same = sym some ∙ none in cc
+
+-- a step has one newest revision, and this one first faulty row or none
+one_bad : (h : HeaderValue) (step : ℕ) (a b : LoadFault) (files : List MemFile) → HasBadTable h step files a → HasBadTable h step files b → Some a ≡ Some b
+one_bad h step a b files (m, (stands, bad)) (n, (too, other)) =
+    sym bad ∙ ap (λ (r : HeaderValue). first_bad r step files) (newest-one h m n step files stands too) ∙ other
+
+sound_not_bad : (h m : HeaderValue) (step : ℕ) (bad : LoadFault) (files : List MemFile) → StandsAs h step files m → first_bad m step files ≡ None → HasBadTable h step files bad → ⊥
+sound_not_bad h m step bad files stands sound (n, (too, is)) =
+    some_not_none bad (first_bad n step files) is (ap (λ (r : HeaderValue). first_bad r step files) (newest-one h n m step files too stands) ∙ sound)
+
+bad_not_absent : (h : HeaderValue) (step : ℕ) (bad : LoadFault) (files : List MemFile) → HasBadTable h step files bad → IsAbsent h step files → ⊥
+bad_not_absent h step bad files (m, (stands, is)) absent = newest-not h m step files stands absent
 
 module _ (h : HeaderValue) (q : QuestionValue) (files : Option (List MemFile)) where
   -- the words ask one thing
@@ -112,41 +126,43 @@ module _ (h : HeaderValue) (q : QuestionValue) (files : Option (List MemFile)) w
     never_stopped : (fault : PlanFault) → (other : Ask) → IsAsk h q other → plan_fault h other ≡ Some fault → ⊥
     never_stopped fault other too is = some_not_none fault (plan_fault h other) is (same_plan other ask too asked ∙ sound)
 
-    not_published : IsSomeAnd files (λ files. ¬ Stands h q.time files) → (g : ExtractFault) → IsStop h q files g → g ≡ faults.NotPublished
+    not_published : IsSomeAnd files (IsAbsent h q.time) → (g : ExtractFault) → IsStop h q files g → g ≡ faults.NotPublished
     not_published lacks (faults.Header line kind) c = absurd c
     not_published lacks faults.OtherAxes c = absurd (c asked.axes)
     not_published lacks faults.UnknownField c = absurd (lacks_none ask asked c.1)
     not_published lacks (faults.Plan fault) c = absurd (never_stopped fault c.0 c.1.0 c.1.1)
     not_published lacks faults.NotPublished c = refl
     not_published lacks (faults.BadTable file row kind) c =
-        absurd (both_hold files _ (λ files. ¬ Stands h q.time files) (λ files both not. not both.0) c.1 lacks)
+        absurd (both_hold files (λ files. HasBadTable h q.time files (loads.BadTable file row kind)) (IsAbsent h q.time)
+        (bad_not_absent h q.time (loads.BadTable file row kind)) c.1 lacks)
     not_published lacks faults.StoreFault c = absurd c
     not_published lacks faults.NoMemory c = absurd c
 
     bad_table : (file row : ℕ) (kind : TableKind) →
-        IsSomeAnd files (λ files. Stands h q.time files × (first_bad h q.time files ≡ Some (loads.BadTable file row kind))) →
+        IsSomeAnd files (λ files. HasBadTable h q.time files (loads.BadTable file row kind)) →
         (g : ExtractFault) → IsStop h q files g → g ≡ faults.BadTable file row kind
     bad_table file row kind bad (faults.Header line which) c = absurd c
     bad_table file row kind bad faults.OtherAxes c = absurd (c asked.axes)
     bad_table file row kind bad faults.UnknownField c = absurd (lacks_none ask asked c.1)
     bad_table file row kind bad (faults.Plan fault) c = absurd (never_stopped fault c.0 c.1.0 c.1.1)
     bad_table file row kind bad faults.NotPublished c =
-        absurd (both_hold files (λ files. ¬ Stands h q.time files) _ (λ files not both. not both.0) c.1 bad)
+        absurd (both_hold files (IsAbsent h q.time) (λ files. HasBadTable h q.time files (loads.BadTable file row kind))
+        (λ files absent is. bad_not_absent h q.time (loads.BadTable file row kind) files is absent) c.1 bad)
     bad_table file row kind bad (faults.BadTable f r k) c =
-        both_hold files (λ files. Stands h q.time files × (first_bad h q.time files ≡ Some (loads.BadTable f r k))) _
-        (λ files mine yours. ap (λ o. fault_of_load (load_in o)) (sym mine.1 ∙ yours.1)) c.1 bad
+        both_hold files (λ files. HasBadTable h q.time files (loads.BadTable f r k)) (λ files. HasBadTable h q.time files (loads.BadTable file row kind))
+        (λ files mine yours. ap (λ o. fault_of_load (load_in o)) (one_bad h q.time (loads.BadTable f r k) (loads.BadTable file row kind) files mine yours)) c.1 bad
     bad_table file row kind bad faults.StoreFault c = absurd c
     bad_table file row kind bad faults.NoMemory c = absurd c
 
-    never : IsSomeAnd files (λ files. Stands h q.time files × (first_bad h q.time files ≡ None)) → (g : ExtractFault) → IsStop h q files g → ⊥
+    never : IsSomeAnd files (IsSound h q.time) → (g : ExtractFault) → IsStop h q files g → ⊥
     never good (faults.Header line kind) c = c
     never good faults.OtherAxes c = c asked.axes
     never good faults.UnknownField c = lacks_none ask asked c.1
     never good (faults.Plan fault) c = never_stopped fault c.0 c.1.0 c.1.1
-    never good faults.NotPublished c = both_hold files (λ files. ¬ Stands h q.time files) _ (λ files not both. not both.0) c.1 good
+    never good faults.NotPublished c = both_hold files (IsAbsent h q.time) (IsSound h q.time) (λ files absent sound. newest-not h sound.0 q.time files sound.1.0 absent) c.1 good
     never good (faults.BadTable file row kind) c =
-        both_hold files (λ files. Stands h q.time files × (first_bad h q.time files ≡ Some (loads.BadTable file row kind))) _
-        (λ files bad right. some_not_none (loads.BadTable file row kind) (first_bad h q.time files) bad.1 right.1) c.1 good
+        both_hold files (λ files. HasBadTable h q.time files (loads.BadTable file row kind)) (IsSound h q.time)
+        (λ files bad sound. sound_not_bad h sound.0 q.time (loads.BadTable file row kind) files sound.1.0 sound.1.1 bad) c.1 good
     never good faults.StoreFault c = c
     never good faults.NoMemory c = c
 
@@ -155,7 +171,7 @@ module _ (h : HeaderValue) (q : QuestionValue) (files : Option (List MemFile)) w
 -- the bytes of an answer are those that the committed files store, where these and the header are known
 pub query_writes : (P : List ℕ → Type 0) (q : QueryValue) (header : Option (List ℕ)) (files : Option (List MemFile)) (before after : ℕ) (bytes : List ℕ) →
     Extracted (question_of q) header files before after bytes → P bytes →
-    KnownReads header (λ h. Asks (question_of q) h (λ ask. IfSome files (λ files. P (answer_of h ask (stored_block h q.time files)))))
+    KnownReads header (λ h. Asks (question_of q) h (λ ask. IfSome files (AnswersStored h ask q.time P)))
 query_writes P q None files before after bytes u holds = tt
 query_writes P q (Some text) files before after bytes (h, (reads, e)) holds = (h, (reads, (e.ask, (e.asked, at files e.stored))))
   where
@@ -163,9 +179,12 @@ query_writes P q (Some text) files before after bytes (h, (reads, e)) holds = (h
     time = ap (λ (a : Ask). a.time) e.asked.same
 
     at : (known : Option (List MemFile)) → IfSome known (λ files. IsAnswer h e.ask files before after bytes) →
-        IfSome known (λ files. P (answer_of h e.ask (stored_block h q.time files)))
+        IfSome known (AnswersStored h e.ask q.time P)
     at None is = tt
-    at (Some files) is = subst P (is.answer ∙ ap (λ t. answer_of h e.ask (stored_block h t files)) time) holds
+    at (Some files) is = (
+      is.revised,
+      (subst (λ t. StandsAs h t files is.revised) time is.stands, subst P (is.answer ∙ ap (λ t. answer_of h e.ask (stored_block is.revised t files)) time) holds),
+    )
 
 -- ---- the run
 
@@ -245,11 +264,12 @@ module _ {B R K : Type 0} (q : QueryValue) (bay : BaySeen B) (readers : ReadersS
       both_of header _ _ d u (λ h p e. some_not_none fault (plan_fault h p.0) p.1.1 (same_plan h (question_of q) files p.0 e.ask p.1.0 e.asked ∙ e.sound))
   due_unanswered faults.NotPublished d bytes u =
       both_of header _ _ d u (λ h p e. both_hold files (λ files. IsAnswer h e.ask files reads_before reads_after bytes) _
-      (λ files answer not. not (subst (λ t. Stands h t files) (time_of h bytes e) answer.stands)) e.stored p.1)
+      (λ files answer absent. newest-not h answer.revised q.time files (subst (λ t. StandsAs h t files answer.revised) (time_of h bytes e) answer.stands) absent) e.stored p.1)
   due_unanswered (faults.BadTable file row kind) d bytes u =
       both_of header _ _ d u (λ h p e. both_hold files (λ files. IsAnswer h e.ask files reads_before reads_after bytes) _
-      (λ files answer bad. some_not_none (loads.BadTable file row kind) (first_bad h q.time files) bad.1
-      (subst (λ t. first_bad h t files ≡ None) (time_of h bytes e) answer.tables)) e.stored p.1)
+      (λ files answer bad. sound_not_bad h answer.revised q.time (loads.BadTable file row kind) files
+      (subst (λ t. StandsAs h t files answer.revised) (time_of h bytes e) answer.stands)
+      (subst (λ t. first_bad answer.revised t files ≡ None) (time_of h bytes e) answer.tables) bad) e.stored p.1)
   due_unanswered faults.StoreFault d bytes u = both_of header _ _ d u (λ h p e. p)
   due_unanswered faults.NoMemory d bytes u = both_of header _ _ d u (λ h p e. p)
 

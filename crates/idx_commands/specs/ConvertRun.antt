@@ -73,7 +73,7 @@ IsEarlyCause raw (causes.AlreadyPublished time) = Unit {0}
 IsEarlyCause raw (causes.RawWrongSize want found) = IsSome raw
 IsEarlyCause raw cause = ⊥
 
--- The store failed as it was asked for the header that stands; or so, or as it was asked for the step.
+-- The store failed as it was asked for the header that stands; or so, or as it was asked for the revisions of the step.
 abbrev pub FailsAtHeader : ℕ → Option BayCall → Type 0
 FailsAtHeader status failed = (status ≡ 5) × (failed ≡ Some calls.Header)
 
@@ -86,7 +86,8 @@ AsksToConvert c P = AsksForText c (λ text. P text c.step)
 
 -- How a run ends with this cause.
 pub record ConvertEnds {V B : Type 0} (c : ConvertValue) (raws : RawsSeen V) (bay : BaySeen B) (cause : Cause) : Type 0 where
-  -- What the cause says: at Done exactly the files of the step were added, and the header text put where none stood, and one
+  -- What the cause says: at Done exactly the files of the step at the next revision were added, and the header text put where
+  -- none stood, and one
   -- volume's bytes were asked of the raw volume; at each other one no file was, but at StoreFault all of them may be, and the
   -- cause is there. Nothing is asked of the raw volume where its length is wrong, or something that comes before.
   pub means : ConvertMeans c (known raws bay) cause
@@ -116,7 +117,7 @@ pub record ConvertEnds {V B : Type 0} (c : ConvertValue) (raws : RawsSeen V) (ba
   -- the calls of the bay come in their order, as the one that failed tells; at any other cause none failed
   pub failed : status_of cause ≡ 5 → AsksForText c (λ text. IsFailedCall text c.step (known raws bay) (bay.failed bay.new))
   pub unfailed : ¬ (status_of cause ≡ 5) → bay.failed bay.new ≡ bay.failed bay.old
-  -- no step is begun but the one that is asked for
+  -- no step is begun but the one that is asked for, at some revision, and the next one where the committed files are known
   pub begun : (bay.begun bay.new ≡ bay.begun bay.old)
       ⊎ AsksForText c (λ text. Asks text c.step (λ h. Begins h c.step (known raws bay)))
   -- what is known of the raw volumes' bytes stays, none but the first was touched, and no count fell

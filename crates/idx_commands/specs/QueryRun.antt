@@ -7,11 +7,14 @@ use Rattle.idx_outside.specs.declared.bay_call.BayCall.TheVariants as calls
 use Rattle.idx_outside.specs.declared.mem_file.MemFile.{MemFile}
 use Rattle.idx_header.specs.Header.{HeaderValue}
 use Rattle.idx_header.specs.HeaderOf.{header_of}
+use Rattle.idx_plan.specs.Answer.{answer_of}
 use Rattle.idx_plan.specs.QuestionValue.{QuestionValue}
+use Rattle.idx_plan.specs.declared.ask.Ask.{Ask}
 use Rattle.idx_plan.specs.declared.plan_fault.PlanFault.{PlanFault}
 use Rattle.idx_plan.specs.declared.plan_fault.PlanFault.TheVariants as plans
 use Rattle.idx_edition.specs.Loaded.{AsksStep}
-use Rattle.idx_edition.specs.Stored.{Stands, first_bad}
+use Rattle.idx_edition.specs.Newest.{HasBadTable}
+use Rattle.idx_edition.specs.Stored.{IsAbsent, StandsAs, first_bad, stored_block}
 use Rattle.idx_edition.specs.declared.load_fault.LoadFault.TheVariants as load_faults
 use Rattle.idx_words.specs.QueryValue.{QueryValue}
 use Rattle.idx_extract.specs.declared.extract_fault.ExtractFault.{ExtractFault}
@@ -50,6 +53,11 @@ abbrev pub HasAnswer : {B : Type 0} → QueryValue → BaySeen B → ReaderCount
 HasAnswer q bay counts P =
     (bytes : List ℕ)
     × (Extracted (question_of q) (bay.header bay.old) (bay.files bay.old) counts.reads_before counts.reads_after bytes × P bytes)
+
+-- The step stands, and the answer out of the blocks that its newest revision stores is what P holds of.
+abbrev pub AnswersStored : HeaderValue → Ask → ℕ → (List ℕ → Type 0) → List MemFile → Type 0
+AnswersStored h ask step P files =
+    (revised : HeaderValue) × (StandsAs h step files revised × P (answer_of h ask (stored_block revised step files)))
 
 -- what is known of the dataset, and what its bay and the reader counted
 abbrev pub known_of : {B : Type 0} → BaySeen B → ReaderCounts → Known
@@ -113,20 +121,24 @@ IsUnreadCause cause = ⊥
 abbrev pub ReadsAs : Option (List ℕ) → (HeaderValue → Type 0) → Type 0
 ReadsAs known P = IsSomeAnd known (λ text. (h : HeaderValue) × ((header_of text ≡ Ok h) × P h))
 
+-- the step stands, and no row of the files of its newest revision is faulty
+abbrev pub IsSound : HeaderValue → ℕ → List MemFile → Type 0
+IsSound h step files =
+    (revised : HeaderValue) × (StandsAs h step files revised × (first_bad revised step files ≡ None))
+
 -- Each refusal of a question is due, by what is known of the header text and of the committed files.
 abbrev pub IsDue : QueryValue → Option (List ℕ) → Option (List MemFile) → ExtractFault → Type 0
 IsDue q header files faults.NotPublished =
-    ReadsAs header (λ h. HasPlan (question_of q) h × IsSomeAnd files (λ files. ¬ Stands h q.time files))
+    ReadsAs header (λ h. HasPlan (question_of q) h × IsSomeAnd files (IsAbsent h q.time))
 IsDue q header files (faults.BadTable file row kind) =
-    ReadsAs header (λ h. HasPlan (question_of q) h × IsSomeAnd files (λ files. Stands h q.time files
-    × (first_bad h q.time files ≡ Some (load_faults.BadTable file row kind))))
+    ReadsAs header (λ h. HasPlan (question_of q) h × IsSomeAnd files (λ files.
+    HasBadTable h q.time files (load_faults.BadTable file row kind)))
 IsDue q header files fault = ReadsAs header (λ h. IsStop h (question_of q) files fault)
 
--- None is due: the header reads, the question has a plan, the step stands, and no row of its files is faulty.
+-- None is due: the header reads, the question has a plan, the step stands, and no row of the files of its newest revision is faulty.
 abbrev pub HasSoundStep : QueryValue → Option (List ℕ) → Option (List MemFile) → Type 0
 HasSoundStep q header files =
-    ReadsAs header (λ h. HasPlan (question_of q) h
-    × IsSomeAnd files (λ files. Stands h q.time files × (first_bad h q.time files ≡ None)))
+    ReadsAs header (λ h. HasPlan (question_of q) h × IsSomeAnd files (IsSound h q.time))
 
 -- The refusal is one of the question, by the header alone.
 abbrev pub IsOfQuestion : ExtractFault → Type 0

@@ -7,8 +7,6 @@ use Rattle.idx_outside.specs.declared.mem_file.MemFile.{MemFile}
 use Rattle.idx_words.specs.declared.command.Command.{Command}
 use Rattle.idx_words.specs.declared.command.Command.TheVariants.{Cut, Info, Convert, Query, Serve}
 use Rattle.idx_words.specs.Words.{Give, GiveConvert, GiveCut, GiveInfo, GiveQuery, GiveServe}
-use Rattle.idx_plan.specs.Answer.{answer_of}
-use Rattle.idx_edition.specs.Stored.{stored_block}
 use Rattle.idx_extract.specs.Extract.{Asks}
 use Rattle.idx_commands.specs.declared.causes.Cause.{Cause}
 use Rattle.idx_commands.specs.Cause.{status_of}
@@ -17,7 +15,7 @@ use Rattle.idx_commands.specs.Summary.{summary}
 use Rattle.idx_commands.specs.InfoRun.{InfoEnds, KnownReads}
 use Rattle.idx_commands.specs.CutRun.{CutEnds}
 use Rattle.idx_commands.specs.ConvertRun.{ConvertEnds}
-use Rattle.idx_commands.specs.QueryRun.{QueryEnds, question_of}
+use Rattle.idx_commands.specs.QueryRun.{AnswersStored, QueryEnds, question_of}
 use Rattle.idx_commands.specs.ServeRun.{ServeEnds}
 use Rattle.idx_commands.specs.Totals.{totals}
 use Rattle.idx_commands.specs.Seen.{BaySeen, DoorsSeen, IsUnchanged, RawsSeen, ReadersSeen, SinkSeen, bay_after, bay_before, door_after, door_before, raw_after, raw_before, reader_after, reader_before, sink_after, sink_before}
@@ -39,7 +37,7 @@ Writes (Cut c) raw header files P Nothing = IfSome raw (λ bytes. P (cut_output 
 Writes Info raw header files P Nothing = KnownReads header (λ h. P (summary h))
 Writes (Convert c) raw header files P Nothing = Nothing
 Writes (Query q) raw header files P Nothing =
-    KnownReads header (λ h. Asks (question_of q) h (λ ask. IfSome files (λ files. P (answer_of h ask (stored_block h q.time files)))))
+    KnownReads header (λ h. Asks (question_of q) h (λ ask. IfSome files (AnswersStored h ask q.time P)))
 Writes (Serve v) raw header files P Nothing = (links : ℕ) × (replies : ℕ) × P (totals links replies)
 
 -- The words are in the grammar. Where what the command reads is known, and what was written to the sink, all of the answer

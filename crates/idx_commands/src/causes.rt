@@ -33,7 +33,7 @@ pub enum Cause {
     RawFault,
     /// The dataset could not be read or written.
     StoreFault,
-    /// The step of this number stands already.
+    /// 256 revisions of the step of this number stand already, and no step has more.
     AlreadyPublished {
         time: u64,
     },

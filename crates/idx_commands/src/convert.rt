@@ -15,8 +15,8 @@ use std::alloc::Global;
 
 /// Does what the words ask for, whose first is `convert`, and says how it ended. The first refusal ends it, in this order:
 /// the words, the header text that they ask for, its step, its volume's bytes; the header that stands, whether it agrees,
-/// whether the step stands; the raw volume's length; putting the header, beginning the step, reading the raw volume,
-/// writing and committing the files. It uses the first raw volume and the bay.
+/// whether a revision of the step is left to write; the raw volume's length; putting the header, beginning the step,
+/// reading the raw volume, writing and committing the files. It uses the first raw volume and the bay.
 pub(crate) fn run_convert<V: Source, B: Bay>(
     alloc: Global,
     words: &[String],
@@ -46,8 +46,8 @@ pub(crate) fn run_convert<V: Source, B: Bay>(
     }
 }
 
-/// Writes the step that the words ask for out of the first raw volume, and puts the header text that they ask for where
-/// none stands.
+/// Writes the step that the words ask for out of the first raw volume, at its next revision, and puts the header text that
+/// they ask for where none stands.
 fn convert_volume<V: Source, B: Bay>(
     alloc: Global,
     words: &ConvertWords<'_>,

@@ -1,9 +1,14 @@
 -- What the stages of a conversion say, for the whole of it.
-use Rattle.std.proofs.Common.{◌≡◌, ◌≢◌, ℕ, List, Option, Ok, Err, inl, refl, sym, subst, arith}
+use Rattle.std.proofs.Common.{◌≡◌, ◌≢◌, ℕ, List, Option, Some, None, Ok, Err, inl, inr, refl, sym, subst, ◌∙◌, arith}
 use Rattle.std.specs.Prelude.{Result, IfErr}
+use Rattle.idx_outside.specs.Cause.{AskedFor}
+use Rattle.idx_header.specs.Header.{HeaderValue, volume_bytes}
+use Rattle.idx_header.specs.HeaderOf.{header_of}
+use Rattle.idx_header.specs.Revisions.{IsRevisionOf}
+use Rattle.idx_gather.specs.Gather.{HasVolume, LacksVolume, SomeStepAdded}
 use Rattle.idx_convert.specs.declared.convert_fault.ConvertFault.{ConvertFault}
 use Rattle.idx_convert.specs.declared.convert_fault.ConvertFault.TheVariants as faults
-use Rattle.idx_convert.specs.Convert.{Ends, IsCause, IsEarly, LeavesAsked, LeavesFailed, LeavesFiles, LeavesHeader}
+use Rattle.idx_convert.specs.Convert.{Asks, AsksFor, BeginsAt, Ends, HasPut, IsCause, IsEarly, IsNext, LeavesAsked, LeavesFailed, LeavesFiles, LeavesHeader, Takes}
 use Rattle.idx_convert.specs.Known.{KeepsBay, Known}
 
 -- A fault that comes late is none that can be known before the first change.
@@ -50,6 +55,51 @@ module _ (text : List ℕ) (step : ℕ) (k : Known) where
         unasked = λ _. unasked;
         begun = inl keeps.begun;
         failed = none_failed fault other unfailed;
+        raw_answered = λ more. absurd (omega (arith, raw_same, more));
+        store_answered = λ more. absurd (omega (arith, bay_same, more));
+        count = omega (arith, bay_same);
+      }
+
+  -- a raw volume that has the right length has no other one
+  fits_lacks : (h : HeaderValue) (raw : Option (List ℕ)) → HasVolume h raw → LacksVolume h raw → ⊥
+  fits_lacks h None fits lacks = absurd lacks
+  fits_lacks h (Some bytes) fits lacks = lacks fits
+
+  one_header : (g h : HeaderValue) → header_of text ≡ Ok g → header_of text ≡ Ok h → g ≡ h
+  one_header g h first second = let same = sym first ∙ second in cc
+
+  asks_none : (h : HeaderValue) → AsksFor text step h → HasVolume h k.raw → Asks text step (λ g. LacksVolume g k.raw) → k.asked_after ≡ k.asked_before
+  asks_none h asked size (g, (other, lacks)) =
+      absurd (fits_lacks h k.raw size (subst (λ x. LacksVolume x k.raw) (one_header g h other.reads asked.reads) lacks))
+
+  -- The step was written under this header.
+  pub written_ends : (h written : HeaderValue) → AsksFor text step h → Takes h step k.header k.files → HasVolume h k.raw →
+      IsRevisionOf h written → IsNext h step k.files written → SomeStepAdded written step k.raw k.files k.files_after →
+      HasPut text k → BeginsAt written step k → AskedFor k.asked_before k.asked_after (volume_bytes written) →
+      k.failed_after ≡ k.failed → k.raw_after ≡ k.raw_before → k.bay_after ≡ k.bay_before → Ends {T = Unit {0}} text step k (Ok tt)
+  written_ends h written asked taken size revised next added put begun read unfailed raw_same bay_same =
+      record {
+        converted = record {
+          header = h;
+          written = written;
+          asked = asked;
+          taken = taken;
+          size = size;
+          revised = revised;
+          next = next;
+          added = added;
+          put = put;
+          begun = begun;
+          read = subst (λ w. AskedFor k.asked_before k.asked_after (volume_bytes w)) revised.same read;
+        };
+        cause = tt;
+        header = tt;
+        files = tt;
+        early = tt;
+        asked = tt;
+        unasked = asks_none h asked size;
+        begun = inr (h, (asked, (written, (revised, next, begun))));
+        failed = unfailed;
         raw_answered = λ more. absurd (omega (arith, raw_same, more));
         store_answered = λ more. absurd (omega (arith, bay_same, more));
         count = omega (arith, bay_same);

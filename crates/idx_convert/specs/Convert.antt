@@ -1,8 +1,8 @@
 -- What converting a raw volume promises: by the header text that is asked for, the step, and what is known of the raw volume
 -- and of the bay before and after.
-use Rattle.std.specs.Prelude.{◌≡◌, ◌≢◌, ◌⊎◌, ℕ, ◌^◌, ◌<◌, ◌≤◌, List, [], ◌∷◌, length, Option, Some, None, IfSome, IsSome, IsSomeAnd, Result, Ok, Err, OnOk, IfErr}
+use Rattle.std.specs.Prelude.{◌≡◌, ◌≢◌, ◌⊎◌, ℕ, ◌<◌, List, [], ◌∷◌, length, Option, Some, None, IfSome, IsSome, IsSomeAnd, Result, Ok, Err, OnOk, IfErr}
 use Rattle.idx_outside.specs.Cause.{AskedFor, NeverFalls, Rose}
-use Rattle.idx_outside.specs.Files.{known_with, HasStep as HasCommitted}
+use Rattle.idx_outside.specs.Files.{known_with}
 use Rattle.idx_outside.specs.declared.bay_call.BayCall.{BayCall}
 use Rattle.idx_outside.specs.declared.bay_call.BayCall.TheVariants as calls
 use Rattle.idx_outside.specs.declared.mem_file.MemFile.{MemFile}
@@ -11,16 +11,17 @@ use Rattle.idx_header.specs.Header.{HeaderValue, Agree, volume_bytes}
 use Rattle.idx_header.specs.HeaderOf.{header_of}
 use Rattle.idx_header.specs.Names.{step_folder}
 use Rattle.idx_header.specs.OfBay.{IsFaultOf, IsFaultOfSome}
-use Rattle.idx_gather.specs.Gather.{HasFolder, HasVolume, LacksVolume, SomeStepAdded}
+use Rattle.idx_header.specs.Revisions.{IsRevisionOf, header_to_write}
+use Rattle.idx_gather.specs.Gather.{HasFolder, HasVolume, LacksVolume, SomeStepAdded, too_large}
 use Rattle.idx_convert.specs.declared.convert_fault.ConvertFault.{ConvertFault}
 use Rattle.idx_convert.specs.declared.convert_fault.ConvertFault.TheVariants as faults
 use Rattle.idx_convert.specs.Known.{KeepsBay, Known}
 
--- The text is that of this header, which has a time and this step, and whose samples take at most 2^30 bytes.
+-- The text is that of this header, which has a time and this step, and of which no step is too large to write.
 pub record AsksFor (text : List ℕ) (step : ℕ) (h : HeaderValue) : Type 0 where
   pub reads : header_of text ≡ Ok h
   pub folder : HasFolder h step
-  pub small : volume_bytes h ≤ 2 ^ 30
+  pub small : too_large h ≡ None
 
 -- No header stands, or its text is that of one that agrees with this one.
 abbrev pub Suits : HeaderValue → List ℕ → Type 0
@@ -30,18 +31,14 @@ Suits h standing = (standing ≡ []) ⊎ ((other : HeaderValue) × ((header_of s
 abbrev pub Differs : HeaderValue → List ℕ → Type 0
 Differs h standing = (standing ≢ []) × ((other : HeaderValue) × ((header_of standing ≡ Ok other) × (¬ Agree other h)))
 
--- no committed step has the folder of this step
-abbrev pub IsNew : HeaderValue → ℕ → List MemFile → Type 0
-IsNew h step files = IfSome (step_folder h step) (λ folder. ¬ HasCommitted folder files)
-
--- some committed step has it
-abbrev pub IsTaken : HeaderValue → ℕ → List MemFile → Type 0
-IsTaken h step files = IsSomeAnd (step_folder h step) (λ folder. HasCommitted folder files)
-
--- The dataset, as far as it is known, takes the step: what stands suits the header, and the step is new.
+-- The dataset, as far as it is known, takes the step: what stands suits the header, and a revision of the step is left to write.
 pub record Takes (h : HeaderValue) (step : ℕ) (standing : Option (List ℕ)) (files : Option (List MemFile)) : Type 0 where
   pub suits : IfSome standing (Suits h)
-  pub new : IfSome files (IsNew h step)
+  pub next : IfSome files (λ files. IsSome (header_to_write h step files))
+
+-- The step is written under this header, the one at the next revision, as far as the committed files are known.
+abbrev pub IsNext : HeaderValue → ℕ → Option (List MemFile) → HeaderValue → Type 0
+IsNext h step files written = IfSome files (λ files. header_to_write h step files ≡ Some written)
 
 -- the header text with this one put where none stood
 abbrev pub put_where_none : List ℕ → Option (List ℕ) → Option (List ℕ)
@@ -57,20 +54,28 @@ Asks text step P = (h : HeaderValue) × (AsksFor text step h × P h)
 abbrev pub Reads : List ℕ → (HeaderValue → Type 0) → Type 0
 Reads text P = (h : HeaderValue) × ((header_of text ≡ Ok h) × P h)
 
--- The folder that was last begun is that of the step, known where the committed files are.
-abbrev pub Begins : HeaderValue → ℕ → Known → Type 0
-Begins h step k = IsSomeAnd (step_folder h step) (λ folder. k.begun_after ≡ known_with k.files folder)
+-- The folder that was last begun is that of the step under this header, known where the committed files are.
+abbrev pub BeginsAt : HeaderValue → ℕ → Known → Type 0
+BeginsAt written step k = IsSomeAnd (step_folder written step) (λ folder. k.begun_after ≡ known_with k.files folder)
 
--- The step was written: all was as it has to be, exactly the files of the step were added, and the header text was put where
--- none stood. For that the step was begun, and exactly one volume's bytes were asked of the raw volume.
+-- The same under this header at some revision, where the committed files are known at the next one.
+abbrev pub Begins : HeaderValue → ℕ → Known → Type 0
+Begins h step k = (written : HeaderValue) × (IsRevisionOf h written × IsNext h step k.files written × BeginsAt written step k)
+
+-- The step was written: all was as it has to be, exactly the files of the step at the next revision were added, and the header
+-- text was put where none stood. For that the step was begun, and exactly one volume's bytes were asked of the raw volume.
 pub record Converted (text : List ℕ) (step : ℕ) (k : Known) : Type 0 where
+  -- the header of the text, and that header at the revision that was written
   pub header : HeaderValue
+  pub written : HeaderValue
   pub asked : AsksFor text step header
   pub taken : Takes header step k.header k.files
   pub size : HasVolume header k.raw
-  pub added : SomeStepAdded header step k.raw k.files k.files_after
+  pub revised : IsRevisionOf header written
+  pub next : IsNext header step k.files written
+  pub added : SomeStepAdded written step k.raw k.files k.files_after
   pub put : k.header_after ≡ put_where_none text k.header
-  pub begun : Begins header step k
+  pub begun : BeginsAt written step k
   pub read : AskedFor k.asked_before k.asked_after (volume_bytes header)
 
 -- What each fault says.
@@ -81,10 +86,10 @@ IsCause text step k (faults.Header line kind) =
     ⊎ Asks text step (λ h. IfSome k.header (λ known. IsFaultOfSome known line kind)))
 IsCause text step k faults.NoStep = Reads text (λ h. ¬ HasFolder h step)
 IsCause text step k (faults.TooLarge bytes) =
-    Reads text (λ h. HasFolder h step × (bytes ≡ volume_bytes h) × (2 ^ 30 < bytes))
+    Reads text (λ h. HasFolder h step × (too_large h ≡ Some bytes))
 IsCause text step k faults.OtherHeader = Asks text step (λ h. IfSome k.header (Differs h))
 IsCause text step k faults.AlreadyPublished =
-    Asks text step (λ h. IfSome k.header (Suits h) × IfSome k.files (IsTaken h step))
+    Asks text step (λ h. IfSome k.header (Suits h) × IfSome k.files (λ files. header_to_write h step files ≡ None))
 IsCause text step k (faults.RawWrongSize want found) =
     Asks text step (λ h. Takes h step k.header k.files
     × (want ≡ volume_bytes h) × (found ≢ want) × IfSome k.raw (λ bytes. found ≡ length bytes))
@@ -139,8 +144,8 @@ IsRight h step k = Takes h step k.header k.files × HasVolume h k.raw
 abbrev pub HasPut : List ℕ → Known → Type 0
 HasPut text k = k.header_after ≡ put_where_none text k.header
 
--- What the call of the bay that failed tells, in the order of the calls: the header that stands and the step are asked for
--- first, and only then the bay is changed, by putting the header text, beginning the step, making its files and giving up a
+-- What the call of the bay that failed tells, in the order of the calls: the header that stands and the revisions of the step are
+-- asked for first, and only then the bay is changed, by putting the header text, beginning the step, making its files and giving up a
 -- draft, and by the commit, which alone may have added the step. No leaf is asked for.
 abbrev pub IsFailedCall : List ℕ → ℕ → Known → Option BayCall → Type 0
 IsFailedCall text step k (Some calls.Header) = KeepsBay k
@@ -177,7 +182,7 @@ pub record Ends {T : Type 0} (text : List ℕ) (step : ℕ) (k : Known) (result 
   -- a refusal leaves at most one volume's bytes asked of the raw volume, and none where it is known to have another length
   pub asked : IfErr result (LeavesAsked text step k)
   pub unasked : Asks text step (λ h. LacksVolume h k.raw) → k.asked_after ≡ k.asked_before
-  -- no step is begun but the one that is asked for
+  -- no step is begun but the one that is asked for, at its next revision
   pub begun : (k.begun_after ≡ k.begun) ⊎ Asks text step (λ h. Begins h step k)
   -- the calls of the bay come in their order, as the one that failed tells
   pub failed : LeavesFailed text step k result

@@ -1,20 +1,23 @@
 -- What is said between the stages of a conversion.
-use Rattle.std.specs.Prelude.{◌≡◌, ◌≢◌, ℕ, ◌<◌, List, length, Option, Some, IfSome, Result, Err, OnOk}
+use Rattle.std.specs.Prelude.{◌≡◌, ◌≢◌, ℕ, ◌<◌, List, length, Option, Some, None, IfSome, Result, Err, OnOk}
 use Rattle.idx_outside.specs.Cause.{NeverFalls, Rose}
 use Rattle.idx_outside.specs.Files.{StillAdmits}
 use Rattle.idx_outside.specs.declared.bay_call.BayCall.{BayCall}
 use Rattle.idx_outside.specs.declared.bay_call.BayCall.TheVariants as calls
+use Rattle.idx_outside.specs.declared.bay_fault.BayFault.{BayFault}
+use Rattle.idx_outside.specs.declared.bay_fault.BayFault.TheVariants as bay_faults
 use Rattle.idx_outside.specs.declared.mem_file.MemFile.{MemFile}
 use Rattle.idx_header.specs.declared.header_kind.HeaderKind.TheVariants as kinds
 use Rattle.idx_header.specs.declared.header_refusal.HeaderRefusal.{HeaderRefusal}
 use Rattle.idx_header.specs.declared.header_refusal.HeaderRefusal.TheVariants as refusals
 use Rattle.idx_header.specs.Header.{HeaderValue, volume_bytes}
 use Rattle.idx_header.specs.OfBay.{IsFaultOfSome}
+use Rattle.idx_header.specs.Revisions.{header_to_write}
 use Rattle.idx_gather.specs.declared.gather_fault.GatherFault.{GatherFault}
 use Rattle.idx_gather.specs.declared.gather_fault.GatherFault.TheVariants as gather_faults
 use Rattle.idx_convert.specs.declared.convert_fault.ConvertFault.{ConvertFault}
 use Rattle.idx_convert.specs.declared.convert_fault.ConvertFault.TheVariants as faults
-use Rattle.idx_convert.specs.Convert.{Suits, Differs, IsTaken, Takes}
+use Rattle.idx_convert.specs.Convert.{Suits, Differs, Takes}
 use Rattle.idx_convert.specs.Known.{Known}
 
 -- the fault that is answered where a bay gives no header
@@ -23,6 +26,11 @@ cause_of_refusal (refusals.Fault line kind) = faults.Header line kind
 cause_of_refusal refusals.Outage = faults.StoreFault
 cause_of_refusal refusals.NoMemory = faults.NoMemory
 
+-- the fault that is answered where a bay does not say which revisions of a step stand
+abbrev pub cause_of_bay : BayFault → ConvertFault
+cause_of_bay bay_faults.Outage = faults.StoreFault
+cause_of_bay bay_faults.NoMemory = faults.NoMemory
+
 -- the fault that is answered where gathering is refused
 abbrev pub cause_of_gather : GatherFault → ConvertFault
 cause_of_gather (gather_faults.RawWrongSize want found) = faults.RawWrongSize want found
@@ -30,8 +38,8 @@ cause_of_gather (gather_faults.RawFault rank count) = faults.RawFault
 cause_of_gather (gather_faults.StoreFault count) = faults.StoreFault
 cause_of_gather gather_faults.NoMemory = faults.NoMemory
 
--- The call of the bay that failed before the first change: the header that stands is asked for first, and the step only where
--- that header suits.
+-- The call of the bay that failed before the first change: the header that stands is asked for first, and the revisions of the
+-- step only where that header suits.
 abbrev pub IsFirstCall : HeaderValue → Known → Option BayCall → Type 0
 IsFirstCall h k (Some calls.Header) = Unit {0}
 IsFirstCall h k (Some calls.HasStep) = IfSome k.header (Suits h)
@@ -44,7 +52,7 @@ IsStop h step k (faults.Header line kind) =
 IsStop h step k faults.NoStep = ⊥
 IsStop h step k (faults.TooLarge bytes) = ⊥
 IsStop h step k faults.OtherHeader = IfSome k.header (Differs h)
-IsStop h step k faults.AlreadyPublished = IfSome k.header (Suits h) × IfSome k.files (IsTaken h step)
+IsStop h step k faults.AlreadyPublished = IfSome k.header (Suits h) × IfSome k.files (λ files. header_to_write h step files ≡ None)
 IsStop h step k (faults.RawWrongSize want found) =
     Takes h step k.header k.files × (want ≡ volume_bytes h) × (found ≢ want) × IfSome k.raw (λ bytes. found ≡ length bytes)
 IsStop h step k faults.RawFault = Takes h step k.header k.files × Rose k.raw_before k.raw_after

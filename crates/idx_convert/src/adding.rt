@@ -5,8 +5,9 @@ ghost use Rattle.idx_outside.specs.Cause.{NeverFalls, Rose};
 ghost use Rattle.idx_outside.specs.Objects.{contents_at, UsesOnly};
 ghost use Rattle.idx_outside.specs.declared.bay_call.BayCall.{BayCall};
 ghost use Rattle.idx_header.specs.Names.{step_folder};
+ghost use Rattle.idx_header.specs.Revisions.{IsRevisionOf};
 ghost use Rattle.idx_gather.specs.Gather.{HasVolume};
-ghost use Rattle.idx_convert.specs.Convert.{AsksFor, Ends, IsEarly, Takes, put_where_none};
+ghost use Rattle.idx_convert.specs.Convert.{AsksFor, Ends, IsEarly, IsNext, Takes, put_where_none};
 ghost use Rattle.idx_convert.specs.Known.{known_of};
 
 use crate::ConvertFault;
@@ -16,7 +17,7 @@ use idx_header::Header;
 use idx_outside::{Bay, FreeGate, Outage, Source};
 use std::alloc::Global;
 
-/// Puts the header's text where none stands, and adds the step, all of which was checked.
+/// Puts the header's text where none stands, and adds the step at the revision of its place, all of which was checked.
 pub(crate) fn add_step<V: Source, B: Bay>(
     alloc: Global,
     text: &[u8],
@@ -30,7 +31,9 @@ pub(crate) fn add_step<V: Source, B: Bay>(
     requires asked { AsksFor text.now step header.now }
     requires taken { Takes header.now step (B.header bay.old) (B.files bay.old) }
     requires size { HasVolume header.now (contents_at V.contents raws.old.items 0) }
-    requires folder { step_folder header.now step ≡ Some place.now.folder }
+    requires revised { IsRevisionOf header.now place.now.header }
+    requires next { IsNext header.now step (B.files bay.old) place.now.header }
+    requires folder { step_folder place.now.header step ≡ Some place.now.folder }
     requires none { ForSome (B.header bay.old) (λ text. IsTrue place.now.no_header ↔ (text ≡ [])) }
     ensures ends { Ends text.now step (known_of V.contents V.asked V.faults raws.old.items raws.new.items
         B.header B.files B.begun B.changes B.failed B.faults bay.old bay.new) result }
@@ -43,7 +46,7 @@ pub(crate) fn add_step<V: Source, B: Bay>(
     let Ok(()) = bay.begin_step(place.folder.as_slice()) else {
         return Err(ConvertFault::StoreFault);
     };
-    gather(alloc, header, step, raws, bay, &FreeGate)?;
+    gather(alloc, &place.header, step, raws, bay, &FreeGate)?;
     Ok(())
 }
 

@@ -1,5 +1,5 @@
-ghost use Rattle.std.specs.Prelude.{◌≢◌, ◌↔◌, Err, IfErr, IfOk, IsTrue};
-ghost use Rattle.idx_gather.specs.Gather.{HasFolder};
+ghost use Rattle.std.specs.Prelude.{◌≡◌, ◌≢◌, ◌↔◌, Err, IfErr, IfOk, IsTrue};
+ghost use Rattle.idx_gather.specs.Gather.{HasFolder, too_large};
 ghost use Rattle.idx_convert.specs.Convert.{AsksFor, IsCause};
 ghost use Rattle.idx_convert.specs.Known.{Known};
 
@@ -21,11 +21,22 @@ pub(crate) fn asked_header(alloc: Global, text: &[u8], step: u64) -> Result<Head
     if !has_folder(&header, step) {
         return Err(ConvertFault::NoStep);
     }
+    match too_large(&header) {
+        Some(bytes) => Err(ConvertFault::TooLarge { bytes }),
+        None => Ok(header),
+    }
+}
+
+/// How many bytes the samples of a step take, where they are too many to write.
+fn too_large(header: &Header) -> Option<u64>
+    ensures { result ≡ too_large header.now }
+{
     let bytes = header.volume_bytes();
     if bytes > MAX_VOLUME {
-        return Err(ConvertFault::TooLarge { bytes });
+        Some(bytes)
+    } else {
+        None
     }
-    Ok(header)
 }
 
 /// Whether the header has a time, and the step.

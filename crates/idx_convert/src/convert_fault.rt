@@ -11,14 +11,14 @@ pub enum ConvertFault {
     /// The header that is asked for lacks the step.
     #[error("the header lacks the step")]
     NoStep,
-    /// The samples of the header that is asked for take so many bytes, which is more than 2^30.
+    /// The samples of the header that is asked for take so many bytes, which are too many to write.
     #[error("the volume is too large")]
     TooLarge { bytes: u64 },
     /// A header stands, and does not agree with the one that is asked for.
     #[error("another header stands")]
     OtherHeader,
-    /// The step stands already.
-    #[error("the step stands already")]
+    /// 256 revisions of the step stand already, and no step has more.
+    #[error("256 revisions of the step stand already")]
     AlreadyPublished,
     /// The raw volume has another length than the samples of the header take, in bytes.
     #[error("the raw volume has another length")]

@@ -11,12 +11,14 @@ use crate::place::find_place;
 use idx_outside::{Bay, Source};
 use std::alloc::Global;
 
-/// Writes a step of a raw volume under the header of this text: puts the text where no header stands, and adds exactly
-/// the files of the step, byte for byte as the format defines them. One raw volume is used, the first.
+/// Writes a step of a raw volume under the header of this text, at the least revision of the step that does not stand,
+/// counted from 0: puts the text where no header stands, and adds exactly the files of the step at that revision, byte for
+/// byte as the format defines them. The files of earlier revisions stay. One raw volume is used, the first.
 ///
 /// The first refusal ends it, in this order: the text, its step, its volume's bytes; the header that stands, whether it
-/// agrees; whether the step stands; the raw volume's length. Nothing is changed before all of these. After a refusal no
-/// file stands that did not before, unless a call on the bay failed: then the step stands whole or not at all.
+/// agrees; whether a revision is left, for a step has at most 256; the raw volume's length. Nothing is changed before all
+/// of these. After a refusal no file stands that did not before, unless a call on the bay failed: then the step stands at
+/// that revision whole or not at all.
 pub fn convert<V: Source, B: Bay>(
     alloc: Global,
     text: &[u8],

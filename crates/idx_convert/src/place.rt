@@ -1,21 +1,24 @@
-ghost use Rattle.std.specs.Prelude.{◌≡◌, ◌≢◌, ◌↔◌, ◌<◌, [], IfErr, IfOk, IfSome, IsTrue, OnOk, Some, Err, ℕ, vec_len};
+ghost use Rattle.std.specs.Prelude.{◌≡◌, ◌≢◌, ◌↔◌, ◌<◌, [], IfErr, IfOk, IfSome, IsSome, IsTrue, OnOk, Some, Err, ℕ, vec_len};
 ghost use Rattle.std.specs.Option.{ForSome};
 ghost use Rattle.idx_outside.specs.Objects.{contents_at, faults_at, UsesOnly};
 ghost use Rattle.idx_header.specs.Names.{step_folder};
+ghost use Rattle.idx_header.specs.Revisions.{IsRevisionOf};
 ghost use Rattle.idx_gather.specs.Gather.{HasFolder, HasVolume};
-ghost use Rattle.idx_convert.specs.Convert.{IsNew, Suits, Takes};
+ghost use Rattle.idx_convert.specs.Convert.{IsNext, Suits, Takes};
 ghost use Rattle.idx_convert.specs.Known.{Known, known_of};
 ghost use Rattle.idx_convert.specs.Stages.{IsStop, OnlyLooks, with_bay, with_raw};
 
 use crate::ConvertFault;
 use crate::standing::check_standing;
 use idx_header::Header;
-use idx_outside::{Bay, Bytes, Source};
+use idx_outside::{Bay, Bytes, NoMemory, Source};
 use std::alloc::Global;
 
-/// Where a step goes: its folder, and whether the header's text is to be put first.
+/// Where a step goes: the header at the revision that is written, the folder of the step under it, and whether the
+/// header's text is to be put first.
 #[derive(Drop)]
 pub(crate) struct Place {
+    pub(crate) header: Header,
     pub(crate) folder: Bytes,
     pub(crate) no_header: bool,
 }
@@ -32,7 +35,9 @@ pub(crate) fn find_place<V: Source, B: Bay>(
     requires folder { HasFolder header.now step }
     ensures taken { OnOk result (Takes header.now step (B.header bay.old) (B.files bay.old)) }
     ensures size { OnOk result (HasVolume header.now (contents_at V.contents raws.old.items 0)) }
-    ensures folder { IfOk result (λ place. step_folder header.now step ≡ Some place.folder) }
+    ensures revised { IfOk result (λ place. IsRevisionOf header.now place.header) }
+    ensures next { IfOk result (λ place. IsNext header.now step (B.files bay.old) place.header) }
+    ensures folder { IfOk result (λ place. step_folder place.header step ≡ Some place.folder) }
     ensures none { IfOk result (λ place. IfSome (B.header bay.old) (λ text. IsTrue place.no_header ↔ (text ≡ []))) }
     ensures cause { IfErr result (IsStop header.now step
         (known_of V.contents V.asked V.faults raws.old.items raws.new.items
@@ -45,35 +50,47 @@ pub(crate) fn find_place<V: Source, B: Bay>(
     ensures raws { UsesOnly V.contents V.faults 0 raws.old.items raws.new.items }
 {
     let no_header = check_standing(alloc, header, bay)?;
-    let folder = new_folder(alloc, header, step, bay)?;
+    let written = next_header(alloc, header, step, bay)?;
+    let folder = folder_of(alloc, &written, step)?;
     check_size(header, raws)?;
-    Ok(Place { folder, no_header })
+    Ok(Place {
+        header: written,
+        folder,
+        no_header,
+    })
 }
 
-/// The folder of a step that does not stand yet. Nothing else has a part in the cause of a refusal.
-fn new_folder<B: Bay>(
+/// The header at the revision of a step that is written next. Nothing else has a part in the cause of a refusal.
+fn next_header<B: Bay>(
     alloc: Global,
     header: &Header,
     step: u64,
     bay: &mut B,
-) -> Result<Bytes, ConvertFault>
-    requires folder { HasFolder header.now step }
+) -> Result<Header, ConvertFault>
+    requires timed { IsSome header.now.steps }
     requires suits { ForSome (B.header bay.old) (Suits header.now) }
-    ensures folder { IfOk result (λ folder. step_folder header.now step ≡ Some folder) }
-    ensures new { OnOk result (IfSome (B.files bay.old) (IsNew header.now step)) }
+    ensures revised { IfOk result (IsRevisionOf header.now) }
+    ensures next { IfOk result (IsNext header.now step (B.files bay.old)) }
     ensures cause { (k : Known) → IfErr result (IsStop header.now step
         (with_bay (B.header bay.old) (B.files bay.old) (B.failed bay.new) (B.faults bay.old) (B.faults bay.new) k)) }
     ensures looks { OnlyLooks B.header B.files B.begun B.changes B.failed B.admits B.faults bay.old bay.new result }
 {
-    let Ok(folder) = header.step_folder(alloc, step) else {
-        return Err(ConvertFault::NoMemory);
-    };
-    let Some(folder) = folder else { unreachable!() };
-    match bay.has_step(folder.as_slice()) {
-        Ok(false) => Ok(folder),
-        Ok(true) => Err(ConvertFault::AlreadyPublished),
-        Err(_) => Err(ConvertFault::StoreFault),
+    match header.to_write(alloc, step, bay) {
+        Ok(Some(written)) => Ok(written),
+        Ok(None) => Err(ConvertFault::AlreadyPublished),
+        Err(fault) => Err(ConvertFault::from(fault)),
     }
+}
+
+/// The folder of a step, under a header with a time.
+fn folder_of(alloc: Global, header: &Header, step: u64) -> Result<Bytes, NoMemory>
+    requires timed { IsSome header.now.steps }
+    ensures { IfOk result (λ folder. step_folder header.now step ≡ Some folder) }
+{
+    let Some(folder) = header.step_folder(alloc, step)? else {
+        unreachable!()
+    };
+    Ok(folder)
 }
 
 /// Accepts the first raw volume if it has the length of the header's samples. Whatever the dataset is that takes the

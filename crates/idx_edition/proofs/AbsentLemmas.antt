@@ -17,8 +17,8 @@ use Rattle.idx_fields.specs.declared.base.Base.{Base}
 use Rattle.idx_fields.specs.declared.base.Base.TheVariants as bases
 use Rattle.idx_fields.specs.Field.{Field, field_at, sample_bytes}
 use Rattle.idx_header.specs.Header.{HeaderValue, IsHeader}
-use Rattle.idx_layout.specs.Layout.{Layout, block_bytes, block_count, block_of_samples, file_numbers, file_of, is_present, stored_sample}
-use Rattle.idx_layout.specs.OfHeader.{layout_of}
+use Rattle.idx_layout.specs.Placing.{Placing, block_bytes, block_count, block_of_samples, file_numbers, file_of, is_present, stored_sample}
+use Rattle.idx_layout.specs.OfHeader.{placing_of}
 use Rattle.idx_layout.proofs.ListLemmas.{list_any-slice_get}
 
 -- ---- absent blocks
@@ -33,7 +33,7 @@ find_nothing {X = X} p q (x ∷ xs) weaker none = by_tests (p x) (q x) refl refl
     by_tests false false e f all more = more all
 
 -- each sample of an absent block is zeros
-no_sample : (l : Layout) (size : ℕ) (samples : List (List ℕ)) (block address : ℕ) → is_present l block ≡ false → block * 2 ^ l.bits ≤ address → address < (block + 1) * 2 ^ l.bits →
+no_sample : (l : Placing) (size : ℕ) (samples : List (List ℕ)) (block address : ℕ) → is_present l block ≡ false → block * 2 ^ l.bits ≤ address → address < (block + 1) * 2 ^ l.bits →
     stored_sample l size samples address ≡ replicate size 0
 no_sample l size samples block address absent from to =
     ap (λ (o : Option (List ℕ)). option_map_or (sample_at l.region samples) o (replicate size 0))
@@ -50,7 +50,7 @@ all_zeros f size a (suc n) none =
     ∙ replicate-append-replicate size (size * n) 0
     ∙ ap (λ n. replicate n 0) more
 
-pub absent_zeros : (l : Layout) (size : ℕ) (samples : List (List ℕ)) (block : ℕ) → is_present l block ≡ false → block_of_samples l size samples block ≡ replicate (size * 2 ^ l.bits) 0
+pub absent_zeros : (l : Placing) (size : ℕ) (samples : List (List ℕ)) (block : ℕ) → is_present l block ≡ false → block_of_samples l size samples block ≡ replicate (size * 2 ^ l.bits) 0
 absent_zeros l size samples block absent =
     all_zeros (stored_sample l size samples) size (block * 2 ^ l.bits) (2 ^ l.bits) (λ k from to.
     no_sample l size samples block k absent from (omega (arith, to, one_more block (2 ^ l.bits))))
@@ -81,7 +81,7 @@ range_at n k within =
     ∙ ap (λ x. Some x) (get_or-range_with_len 0 n k 0 within ∙ zero-add k)
 
 -- the file of a present block is among the files
-pub file_listed : (l : Layout) (block : ℕ) → block < block_count l → file_of l block ≤ block → is_present l block ≡ true →
+pub file_listed : (l : Placing) (block : ℕ) → block < block_count l → file_of l block ≤ block → is_present l block ≡ true →
     list_any (λ file. file == file_of l block) (file_numbers l) ≡ true
 file_listed l block exists from present =
     let file : ℕ = file_of l block in
@@ -104,7 +104,7 @@ some_bytes bases.Int64 = lit≤ tt
 some_bytes bases.Uint64 = lit≤ tt
 some_bytes bases.Float64 = lit≤ tt
 
-pub some_block : (h : HeaderValue) (field : ℕ) → IsHeader h → field < length h.fields → 0 < block_bytes (layout_of h) field
+pub some_block : (h : HeaderValue) (field : ℕ) → IsHeader h → field < length h.fields → 0 < block_bytes (placing_of h) field
 some_block h field is within =
     let f : Field = field_at h.fields field in
     let count : 1 ≤ f.count = (is.fields.each field (field_at [] 0) within).count in

@@ -25,9 +25,10 @@ use Rattle.idx_table.specs.Table.{first_fault, rows_of}
 use Rattle.idx_header.specs.Header.{HeaderValue, IsHeader}
 use Rattle.idx_header.specs.Names.{file_name}
 use Rattle.idx_layout.specs.Content.{field_in, sample_in, volume_in}
-use Rattle.idx_layout.specs.Layout.{Layout, block_bytes, block_count, block_of_samples, file_numbers, file_of, stored_sample}
+use Rattle.idx_layout.specs.declared.layout.Layout.{Layout}
+use Rattle.idx_layout.specs.Placing.{Placing, block_bytes, block_count, block_of_samples, file_numbers, file_of, stored_sample}
 use Rattle.idx_layout.specs.Files.{file_bytes, row_count, rows_of_file}
-use Rattle.idx_layout.specs.OfHeader.{layout_of}
+use Rattle.idx_layout.specs.OfHeader.{placing_of}
 use Rattle.idx_layout.proofs.FileLemmas.{length-file_bytes, rows_of-file_bytes}
 use Rattle.idx_layout.proofs.HeaderLemmas.{fits_rows}
 use Rattle.idx_layout.proofs.ListLemmas.{passing}
@@ -47,74 +48,74 @@ nothing_of f [] none = refl
 nothing_of f (x ∷ xs) none =
     ap (λ o. cons_option o (filter_map f xs)) (none 0 x refl) ∙ nothing_of f xs (λ i y at. none (suc i) y at)
 
-pub no_bad : (h : HeaderValue) (step : ℕ) (volume : List (List (List ℕ))) (files : List MemFile) → IsHeader h → IsVolume (layout_of h).sizes (length (points h.box)) volume →
-    HasFiles h step volume files → first_bad h step files ≡ None
-no_bad h step volume files is fills has =
+pub no_bad : (layout : Layout) (h : HeaderValue) (step : ℕ) (volume : List (List (List ℕ))) (files : List MemFile) → IsHeader h → IsVolume (placing_of h).sizes (length (points h.box)) volume →
+    HasFiles layout h step volume files → first_bad h step files ≡ None
+no_bad layout h step volume files is fills has =
     ap (λ (faults : List LoadFault). slice_get faults 0) (nothing_of (fault_of_file h step files) (file_numbers l) (λ i file at.
     ap (fault_of_bytes l file) (has i file at)
-    ∙ ap (λ n. option_map (bad_table file) (first_fault (file_bytes l volume file) (row_count l) (block_lengths l) n)) (length-file_bytes l volume file fills)
-    ∙ ap (option_map (bad_table file)) (no_fault l volume file (fits_rows h file is))))
+    ∙ ap (λ n. option_map (bad_table file) (first_fault (file_bytes layout l volume file) (row_count l) (block_lengths l) n)) (length-file_bytes layout l volume file fills)
+    ∙ ap (option_map (bad_table file)) (no_fault layout l volume file (fits_rows h file is))))
   where
-    l : Layout
-    l = layout_of h
+    l : Placing
+    l = placing_of h
 
 -- ---- each block is that of the volume
 -- the file of a block, if it is one of the step's, is there
-pub file_found : (h : HeaderValue) (step : ℕ) (volume : List (List (List ℕ))) (files : List MemFile) (block : ℕ) → HasFiles h step volume files →
+pub file_found : (layout : Layout) (h : HeaderValue) (step : ℕ) (volume : List (List (List ℕ))) (files : List MemFile) (block : ℕ) → HasFiles layout h step volume files →
     file_of_block h step files block
-    ≡ cond (list_any (λ k. k == file_of (layout_of h) block) (file_numbers (layout_of h))) (Some (file_bytes (layout_of h) volume (file_of (layout_of h) block))) None
-file_found h step volume files block has = by_listed (list_any (λ k. k == file) (file_numbers l)) refl
+    ≡ cond (list_any (λ k. k == file_of (placing_of h) block) (file_numbers (placing_of h))) (Some (file_bytes layout (placing_of h) volume (file_of (placing_of h) block))) None
+file_found layout h step volume files block has = by_listed (list_any (λ k. k == file) (file_numbers l)) refl
   where
-    l : Layout
-    l = layout_of h
+    l : Placing
+    l = placing_of h
 
     file : ℕ
-    file = file_of (layout_of h) block
+    file = file_of (placing_of h) block
 
     by_listed : (b : Bool) → list_any (λ k. k == file) (file_numbers l) ≡ b →
-        cond b (file_at (file_name h step file) files) None ≡ cond b (Some (file_bytes l volume file)) None
+        cond b (file_at (file_name h step file) files) None ≡ cond b (Some (file_bytes layout l volume file)) None
     by_listed true listed =
         let some = passing (λ k. k == file) (file_numbers l) listed in
         let same : some.1 ≡ file = eqb-true some.1 file some.3 in
-        ap (λ k. file_at (file_name h step k) files) (sym same) ∙ has some.0 some.1 some.2 ∙ ap (λ k. Some (file_bytes l volume k)) same
+        ap (λ k. file_at (file_name h step k) files) (sym same) ∙ has some.0 some.1 some.2 ∙ ap (λ k. Some (file_bytes layout l volume k)) same
     by_listed false listed = refl
 
-pub block_stored : (h : HeaderValue) (step : ℕ) (volume : List (List (List ℕ))) (files : List MemFile) (field block : ℕ) (samples : List (List ℕ)) → IsHeader h →
-    IsVolume (layout_of h).sizes (length (points h.box)) volume → HasFiles h step volume files → field < length h.fields → slice_get volume field ≡ Some samples → block < block_count (layout_of h) →
-    stored_block h step files field block ≡ block_of_samples (layout_of h) (slice_index (layout_of h).sizes field) samples block
-block_stored h step volume files field block samples is fills has within at exists =
+pub block_stored : (layout : Layout) (h : HeaderValue) (step : ℕ) (volume : List (List (List ℕ))) (files : List MemFile) (field block : ℕ) (samples : List (List ℕ)) → IsHeader h →
+    IsVolume (placing_of h).sizes (length (points h.box)) volume → HasFiles layout h step volume files → field < length h.fields → slice_get volume field ≡ Some samples → block < block_count (placing_of h) →
+    stored_block h step files field block ≡ block_of_samples (placing_of h) (slice_index (placing_of h).sizes field) samples block
+block_stored layout h step volume files field block samples is fills has within at exists =
     sym (bytes_same l field block (file_of_block h step files block) len
     (get_or-lengths) (place_within field (length l.sizes) (block - file) h.blocks_per_file in_fields (place_in_file h.blocks_per_file block is.blocks_some)))
-    ∙ ap (λ o. bytes_by len (row_among h.blocks_per_file field block (option_map (λ bytes. rows_of bytes (row_count l)) o)) (option_map (λ bytes. bytes) o)) (file_found h step volume files block has)
+    ∙ ap (λ o. bytes_by len (row_among h.blocks_per_file field block (option_map (λ bytes. rows_of bytes (row_count l)) o)) (option_map (λ bytes. bytes) o)) (file_found layout h step volume files block has)
     ∙ by_test (list_any (λ k. k == file) (file_numbers l))
-    ∙ ap (λ o. bytes_by len (row_among h.blocks_per_file field block o) (cond (list_any (λ k. k == file) (file_numbers l)) (Some whole) None)) (sym (mapped_at (rows_of_file l) file (file_numbers l)))
-    ∙ ap (bytes_by len (row_among h.blocks_per_file field block (value_at file (file_numbers l) (map (rows_of_file l) (file_numbers l))))) (sym (mapped_at (file_bytes l volume) file (file_numbers l)))
-    ∙ block_written h field block is within volume samples fills at exists
+    ∙ ap (λ o. bytes_by len (row_among h.blocks_per_file field block o) (cond (list_any (λ k. k == file) (file_numbers l)) (Some whole) None)) (sym (mapped_at (rows_of_file layout l) file (file_numbers l)))
+    ∙ ap (bytes_by len (row_among h.blocks_per_file field block (value_at file (file_numbers l) (map (rows_of_file layout l) (file_numbers l))))) (sym (mapped_at (file_bytes layout l volume) file (file_numbers l)))
+    ∙ block_written layout h field block is within volume samples fills at exists
   where
-    l : Layout
-    l = layout_of h
+    l : Placing
+    l = placing_of h
 
     file : ℕ
-    file = file_of (layout_of h) block
+    file = file_of (placing_of h) block
 
     len : ℕ
-    len = slice_index (block_lengths (layout_of h)) field
+    len = slice_index (block_lengths (placing_of h)) field
 
     whole : List ℕ
-    whole = file_bytes (layout_of h) volume (file_of (layout_of h) block)
+    whole = file_bytes layout (placing_of h) volume (file_of (placing_of h) block)
 
-    in_fields : field < length (layout_of h).sizes
+    in_fields : field < length (placing_of h).sizes
     in_fields = subst (λ n. field < n) (sym (length-map h.fields sample_bytes)) within
 
     get_or-lengths : len ≡ block_bytes l field
     get_or-lengths = get_or-map-range_with_len (block_bytes l) 0 (length l.sizes) field field 0 in_fields (zero-add field)
 
-    rows_whole : rows_of whole (row_count l) ≡ rows_of_file l file
-    rows_whole = rows_of-file_bytes l volume file (rows_fit l file (fits_rows h file is))
+    rows_whole : rows_of whole (row_count l) ≡ rows_of_file layout l file
+    rows_whole = rows_of-file_bytes layout l volume file (rows_fit layout l file (fits_rows h file is))
 
     by_test : (b : Bool) →
         bytes_by len (row_among h.blocks_per_file field block (option_map (λ bytes. rows_of bytes (row_count l)) (cond b (Some whole) None))) (option_map (λ bytes. bytes) (cond b (Some whole) None))
-        ≡ bytes_by len (row_among h.blocks_per_file field block (cond b (Some (rows_of_file l file)) None)) (cond b (Some whole) None)
+        ≡ bytes_by len (row_among h.blocks_per_file field block (cond b (Some (rows_of_file layout l file)) None)) (cond b (Some whole) None)
     by_test true = ap (λ rows. bytes_by len (row_among h.blocks_per_file field block (Some rows)) (Some whole)) rows_whole
     by_test false = refl
 
@@ -128,7 +129,7 @@ found {X = X} test (y ∷ ys) x e = by_test (λ rest. found test ys x rest) (tes
     by_test more false is =
         let next = more (sym (ap (λ b. cond b (Some y) (find test ys)) is) ∙ e) in (suc next.0, next.1)
 
-length-stored : (l : Layout) (size : ℕ) (samples : List (List ℕ)) (address : ℕ) → length samples ≡ length (points l.region) → All (λ sample. length sample ≡ size) samples → length (stored_sample l size samples address) ≡ size
+length-stored : (l : Placing) (size : ℕ) (samples : List (List ℕ)) (address : ℕ) → length samples ≡ length (points l.region) → All (λ sample. length sample ≡ size) samples → length (stored_sample l size samples address) ≡ size
 length-stored l size samples address count sizes = by_point _ refl
   where
     by_point : (o : Option (List ℕ)) → find (λ p. hz_address l.mask p == address) (points l.region) ≡ o → length (option_map_or (sample_at l.region samples) o (replicate size 0)) ≡ size
@@ -178,7 +179,7 @@ find_only {X = X} test (y ∷ ys) k x at passes only = by_test (λ i here. find_
 
 -- the sample with a point's address is the point's
 sample_found : (h : HeaderValue) (size : ℕ) (samples : List (List ℕ)) (k : ℕ) (p : List ℕ) → IsHeader h → slice_get (points h.box) k ≡ Some p →
-    stored_sample (layout_of h) size samples (hz_address h.mask p) ≡ sample_at h.box samples p
+    stored_sample (placing_of h) size samples (hz_address h.mask p) ≡ sample_at h.box samples p
 sample_found h size samples k p is at =
     ap (λ (o : Option (List ℕ)). option_map_or (sample_at h.box samples) o (replicate size 0))
     (find_only (λ q. hz_address h.mask q == hz_address h.mask p) (points h.box) k p at (eq-eqb (hz_address h.mask p) (hz_address h.mask p) refl) (λ i q there same.
@@ -189,14 +190,14 @@ sample_found h size samples k p is at =
 
 -- a content that has the blocks of a volume
 pub record HasBlocks (h : HeaderValue) (content : ℕ → ℕ → List ℕ) (volume : List (List (List ℕ))) : Type 0 where
-  pub blocks : (field block : ℕ) (samples : List (List ℕ)) → field < length h.fields → block < block_count (layout_of h) → slice_get volume field ≡ Some samples →
-      content field block ≡ block_of_samples (layout_of h) (slice_index (layout_of h).sizes field) samples block
+  pub blocks : (field block : ℕ) (samples : List (List ℕ)) → field < length h.fields → block < block_count (placing_of h) → slice_get volume field ≡ Some samples →
+      content field block ≡ block_of_samples (placing_of h) (slice_index (placing_of h).sizes field) samples block
 
 sample_back : (h : HeaderValue) (content : ℕ → ℕ → List ℕ) (volume : List (List (List ℕ))) (field k : ℕ) (samples : List (List ℕ)) (p : List ℕ) → IsHeader h → HasBlocks h content volume →
-    field < length h.fields → slice_get volume field ≡ Some samples → length samples ≡ length (points h.box) → All (λ sample. length sample ≡ slice_index (layout_of h).sizes field) samples →
-    slice_get (points h.box) k ≡ Some p → sample_in (layout_of h) content field p ≡ sample_at h.box samples p
+    field < length h.fields → slice_get volume field ≡ Some samples → length samples ≡ length (points h.box) → All (λ sample. length sample ≡ slice_index (placing_of h).sizes field) samples →
+    slice_get (points h.box) k ≡ Some p → sample_in (placing_of h) content field p ≡ sample_at h.box samples p
 sample_back h content volume field k samples p is has within at count sizes here =
-    let l : Layout = layout_of h in
+    let l : Placing = placing_of h in
     let size : ℕ = slice_index l.sizes field in
     let n : ℕ = 2 ^ l.bits in
     let address : ℕ = hz_address l.mask p in
@@ -238,33 +239,33 @@ nothing_at (x ∷ xs) zero none = let wrong : Some x ≡ None = none in absurd (
 nothing_at (x ∷ xs) (suc i) none = let more : length xs ≤ i = nothing_at xs i none in omega (arith, more)
 
 field_back : (h : HeaderValue) (content : ℕ → ℕ → List ℕ) (volume : List (List (List ℕ))) (field : ℕ) (samples : List (List ℕ)) → IsHeader h → HasBlocks h content volume →
-    IsVolume (layout_of h).sizes (length (points h.box)) volume → field < length h.fields → slice_get volume field ≡ Some samples → field_in (layout_of h) content field ≡ samples
+    IsVolume (placing_of h).sizes (length (points h.box)) volume → field < length h.fields → slice_get volume field ≡ Some samples → field_in (placing_of h) content field ≡ samples
 field_back h content volume field samples is has fills within at =
-    same_lists (field_in (layout_of h) content field) samples (λ i. at_place i (slice_get (points h.box) i) refl)
+    same_lists (field_in (placing_of h) content field) samples (λ i. at_place i (slice_get (points h.box) i) refl)
   where
-    each : (length samples ≡ length (points h.box)) × All (λ sample. length sample ≡ slice_index (layout_of h).sizes field) samples
-    each = volume_each (layout_of h).sizes (length (points h.box)) volume field samples fills at
+    each : (length samples ≡ length (points h.box)) × All (λ sample. length sample ≡ slice_index (placing_of h).sizes field) samples
+    each = volume_each (placing_of h).sizes (length (points h.box)) volume field samples fills at
 
-    at_place : (i : ℕ) (o : Option (List ℕ)) → slice_get (points h.box) i ≡ o → slice_get (field_in (layout_of h) content field) i ≡ slice_get samples i
+    at_place : (i : ℕ) (o : Option (List ℕ)) → slice_get (points h.box) i ≡ o → slice_get (field_in (placing_of h) content field) i ≡ slice_get samples i
     at_place i None none =
-        slice_get-map (sample_in (layout_of h) content field) (points h.box) i ∙ ap (option_map (sample_in (layout_of h) content field)) none
+        slice_get-map (sample_in (placing_of h) content field) (points h.box) i ∙ ap (option_map (sample_in (placing_of h) content field)) none
         ∙ sym (slice_get_past samples i (omega (arith, each.0, nothing_at (points h.box) i none)))
     at_place i (Some p) here =
         let place = (LiesIn-slice_get h.box i p here).1 in
-        slice_get-map (sample_in (layout_of h) content field) (points h.box) i ∙ ap (option_map (sample_in (layout_of h) content field)) here
+        slice_get-map (sample_in (placing_of h) content field) (points h.box) i ∙ ap (option_map (sample_in (placing_of h) content field)) here
         ∙ ap (λ s. Some s) (sample_back h content volume field i samples p is has within at each.0 each.1 here)
         ∙ ap (λ k. Some (get_or samples k [])) place
         ∙ sym (slice_get-get_or samples i [] (omega (arith, each.0, slice_get_within (points h.box) i p here)))
 
 pub volume_back : (h : HeaderValue) (content : ℕ → ℕ → List ℕ) (volume : List (List (List ℕ))) → IsHeader h → HasBlocks h content volume →
-    IsVolume (layout_of h).sizes (length (points h.box)) volume → volume_in (layout_of h) content ≡ volume
+    IsVolume (placing_of h).sizes (length (points h.box)) volume → volume_in (placing_of h) content ≡ volume
 volume_back h content volume is has fills = same_lists (volume_in l content) volume (λ i. at_place i (slice_get volume i) refl)
   where
-    l : Layout
-    l = layout_of h
+    l : Placing
+    l = placing_of h
 
-    count : length volume ≡ length (layout_of h).sizes
-    count = volume_count (layout_of h).sizes (length (points h.box)) volume fills
+    count : length volume ≡ length (placing_of h).sizes
+    count = volume_count (placing_of h).sizes (length (points h.box)) volume fills
 
     at_place : (i : ℕ) (o : Option (List (List ℕ))) → slice_get volume i ≡ o → slice_get (volume_in l content) i ≡ o
     at_place i None none =
@@ -275,8 +276,8 @@ volume_back h content volume is has fills = same_lists (volume_in l content) vol
         ∙ ap (λ s. Some s) (get_or-map-range_with_len (field_in l content) 0 (length l.sizes) i i [] within (zero-add i))
         ∙ ap (λ s. Some s) (field_back h content volume i samples is has fills (omega (arith, within, length-map h.fields sample_bytes)) here)
 
-pub stored_back : (h : HeaderValue) (step : ℕ) (volume : List (List (List ℕ))) (files : List MemFile) → IsHeader h → IsVolume (layout_of h).sizes (length (points h.box)) volume →
-    HasFiles h step volume files → volume_in (layout_of h) (stored_block h step files) ≡ volume
-stored_back h step volume files is fills has = volume_back h (stored_block h step files) volume is (record {
-  blocks = λ field block samples within exists at. block_stored h step volume files field block samples is fills has within at exists;
+pub stored_back : (layout : Layout) (h : HeaderValue) (step : ℕ) (volume : List (List (List ℕ))) (files : List MemFile) → IsHeader h → IsVolume (placing_of h).sizes (length (points h.box)) volume →
+    HasFiles layout h step volume files → volume_in (placing_of h) (stored_block h step files) ≡ volume
+stored_back layout h step volume files is fills has = volume_back h (stored_block h step files) volume is (record {
+  blocks = λ field block samples within exists at. block_stored layout h step volume files field block samples is fills has within at exists;
 }) fills

@@ -12,9 +12,9 @@ use Rattle.idx_table.specs.Table.{row_at, rows_of}
 use Rattle.idx_table.specs.declared.row.Row.{Row}
 use Rattle.idx_header.specs.Header.{HeaderValue, IsHeader}
 use Rattle.idx_header.specs.Names.{file_name}
-use Rattle.idx_layout.specs.Layout.{Layout, block_bytes, file_numbers, file_of}
+use Rattle.idx_layout.specs.Placing.{Placing, block_bytes, file_numbers, file_of}
 use Rattle.idx_layout.specs.Files.{row_count}
-use Rattle.idx_layout.specs.OfHeader.{layout_of}
+use Rattle.idx_layout.specs.OfHeader.{placing_of}
 use Rattle.idx_layout.specs.Shape.{block_lengths}
 use Rattle.idx_edition.specs.Stored.{block_in, fault_of_file, file_of_block, first_bad, found_file, has_block, has_in, row_in, stored_block}
 use Rattle.idx_edition.specs.Tables.{TablesValue, all_known, bytes_by, bytes_in, has_in_tables, is_there, row_among, row_for, shape_in, stored_in, tables_of, value_at, with_known}
@@ -67,7 +67,7 @@ looked_up {X = X} {Y = Y} g p n (k ∷ numbers) = by_answer (looked_up g p n num
         ∙ ap (λ (b : Bool). option_map p (cond (b || among numbers n) (g n) None)) (sym e)
 
 -- ---- a block in its file
-module _ (l : Layout) (field block : ℕ) where
+module _ (l : Placing) (field block : ℕ) where
   abbrev pub place : ℕ
   place = field * l.per_file + (block - file_of l block)
 
@@ -125,44 +125,44 @@ same_files h step files (k ∷ numbers) = by_answer (same_files h step files num
 module _ (h : HeaderValue) (step : ℕ) (files : List MemFile) where
   -- what the writer would write of the files
   numbers_there : List ℕ
-  numbers_there = filter_map (number_at h step files) (file_numbers (layout_of h))
+  numbers_there = filter_map (number_at h step files) (file_numbers (placing_of h))
 
   tables_there : List (List Row)
-  tables_there = filter_map (rows_at h step files) (file_numbers (layout_of h))
+  tables_there = filter_map (rows_at h step files) (file_numbers (placing_of h))
 
   leaves_there : List (List ℕ × Option (List ℕ))
-  leaves_there = filter_map (leaf_at h step files) (file_numbers (layout_of h))
+  leaves_there = filter_map (leaf_at h step files) (file_numbers (placing_of h))
 
   bytes_there : List (List ℕ)
-  bytes_there = filter_map (λ file. option_map (λ bytes. bytes) (file_at (file_name h step file) files)) (file_numbers (layout_of h))
+  bytes_there = filter_map (λ file. option_map (λ bytes. bytes) (file_at (file_name h step file) files)) (file_numbers (placing_of h))
 
   -- the row of a block in its file
   row_of_file : (field block : ℕ) →
       row_for (tables_of h numbers_there tables_there) field block
-      ≡ row_among h.blocks_per_file field block (option_map (λ bytes. rows_of bytes (row_count (layout_of h))) (file_of_block h step files block))
+      ≡ row_among h.blocks_per_file field block (option_map (λ bytes. rows_of bytes (row_count (placing_of h))) (file_of_block h step files block))
   unfolding numbers_there tables_there
   row_of_file field block =
       ap (row_among h.blocks_per_file field block)
-      (looked_up (λ file. file_at (file_name h step file) files) (λ bytes. rows_of bytes (row_count (layout_of h))) (file_of (layout_of h) block) (file_numbers (layout_of h)))
+      (looked_up (λ file. file_at (file_name h step file) files) (λ bytes. rows_of bytes (row_count (placing_of h))) (file_of (placing_of h) block) (file_numbers (placing_of h)))
 
-  row_within : (field block : ℕ) → field < length (block_lengths (layout_of h)) → 1 ≤ h.blocks_per_file →
-      field * h.blocks_per_file + (block - file_of (layout_of h) block) < row_count (layout_of h)
+  row_within : (field block : ℕ) → field < length (block_lengths (placing_of h)) → 1 ≤ h.blocks_per_file →
+      field * h.blocks_per_file + (block - file_of (placing_of h) block) < row_count (placing_of h)
   row_within field block within some =
-      let l : Layout = layout_of h in
+      let l : Placing = placing_of h in
       place_within field (length l.sizes) (block - file_of l block) h.blocks_per_file
       (omega (arith, within, length-map-range_with_len (block_bytes l) 0 (length l.sizes))) (place_in_file h.blocks_per_file block some)
 
-  has_all : (field block : ℕ) → field < length (block_lengths (layout_of h)) → 1 ≤ h.blocks_per_file →
+  has_all : (field block : ℕ) → field < length (block_lengths (placing_of h)) → 1 ≤ h.blocks_per_file →
       has_in_tables (tables_of h numbers_there tables_there) field block ≡ has_block h step files field block
   has_all field block within some =
       ap is_there (row_of_file field block)
-      ∙ has_same (layout_of h) field block (file_of_block h step files block) (row_within field block within some)
+      ∙ has_same (placing_of h) field block (file_of_block h step files block) (row_within field block within some)
 
-  bytes_all : (field block : ℕ) → field < length (block_lengths (layout_of h)) → 1 ≤ h.blocks_per_file →
+  bytes_all : (field block : ℕ) → field < length (block_lengths (placing_of h)) → 1 ≤ h.blocks_per_file →
       bytes_in (tables_of h numbers_there tables_there) bytes_there field block ≡ stored_block h step files field block
   unfolding numbers_there bytes_there
   bytes_all field block within some =
-      let l : Layout = layout_of h in
+      let l : Placing = placing_of h in
       let len : ℕ = slice_index (block_lengths l) field in
       let count : field < length l.sizes = omega (arith, within, length-map-range_with_len (block_bytes l) 0 (length l.sizes)) in
       ap (λ r. bytes_by len r (value_at (file_of l block) numbers_there bytes_there)) (row_of_file field block)
@@ -173,7 +173,7 @@ module _ (h : HeaderValue) (step : ℕ) (files : List MemFile) where
 
   known_all : all_known leaves_there ≡ Some bytes_there
   unfolding leaves_there bytes_there
-  known_all = all_found (file_name h step) (λ file. file_at (file_name h step file) files) (file_numbers (layout_of h))
+  known_all = all_found (file_name h step) (λ file. file_at (file_name h step file) files) (file_numbers (placing_of h))
 
   held : 1 ≤ h.blocks_per_file → first_bad h step files ≡ None →
       HoldsStored h step files (shape_in (tables_of h numbers_there tables_there)) (has_in_tables (tables_of h numbers_there tables_there))
@@ -189,7 +189,7 @@ module _ (h : HeaderValue) (step : ℕ) (files : List MemFile) where
             let same : bytes_in t bytes_there ≡ content = some_same (bytes_in t bytes_there) content (sym stored ∙ is) in
             ap (λ (f : ℕ → ℕ → List ℕ). f field block) (sym same) ∙ bytes_all field block within some;
         known = λ none. let wrong : ◌≡◌ {A = Option (ℕ → ℕ → List ℕ)} None (Some (bytes_in t bytes_there)) = sym none ∙ stored in cc;
-        same_files = same_files h step files (file_numbers (layout_of h));
+        same_files = same_files h step files (file_numbers (placing_of h));
       }
     where
       some_same : (f g : ℕ → ℕ → List ℕ) → ◌≡◌ {A = Option (ℕ → ℕ → List ℕ)} (Some f) (Some g) → f ≡ g
@@ -201,7 +201,7 @@ pub holds_stored : (h : HeaderValue) (step : ℕ) → IsHeader h → (known : Op
 unfolding numbers_there tables_there leaves_there
 holds_stored h step is None left numbers tables leaves none so_far = tt
 holds_stored h step is (Some files) left numbers tables leaves none so_far =
-    let all : List ℕ = file_numbers (layout_of h) in
+    let all : List ℕ = file_numbers (placing_of h) in
     let sound : first_bad h step files ≡ None = sym so_far.sound ∙ ap (λ xs. slice_get (filter_map (fault_of_file h step files) xs) 0) none in
     subst (λ ns. HoldsStored h step files (shape_in (tables_of h ns tables)) (has_in_tables (tables_of h ns tables)) (stored_in (tables_of h ns tables) leaves) leaves)
     (sym (completed (number_at h step files) all left numbers none so_far.number))

@@ -12,3 +12,4 @@ pub mod OwnLemmas
 pub mod StoredLemmas
 pub mod AskedLemmas
 pub mod ReadsLemmas
+pub mod NewestLemmas

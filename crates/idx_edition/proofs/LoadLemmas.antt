@@ -4,7 +4,7 @@ use Rattle.std.specs.Prelude.{Option, IfSome, ◌≢◌}
 use Rattle.std.proofs.lemmas.List.{length-map}
 use Rattle.idx_fields.specs.Field.{sample_bytes}
 use Rattle.idx_header.specs.Header.{HeaderValue}
-use Rattle.idx_layout.specs.OfHeader.{layout_of}
+use Rattle.idx_layout.specs.OfHeader.{placing_of}
 use Rattle.std.specs.Option.{ForSome, option_map}
 use Rattle.std.proofs.Math.Nat.{mul-le-mul}
 use Rattle.std.proofs.lemmas.List.FromFn.{length-map-range_with_len}
@@ -12,7 +12,7 @@ use Rattle.idx_table.specs.Table.{table_bytes, rows_of, first_fault}
 use Rattle.idx_table.specs.declared.table_fault.TableFault.{TableFault}
 use Rattle.idx_table.specs.declared.table_fault.TableKind.{TableKind}
 use Rattle.idx_table.specs.declared.table_fault.TableKind.TheVariants as kinds
-use Rattle.idx_layout.specs.Layout.{Layout, block_bytes}
+use Rattle.idx_layout.specs.Placing.{Placing, block_bytes}
 use Rattle.idx_layout.specs.Files.{row_count}
 use Rattle.idx_layout.specs.Shape.{block_lengths}
 use Rattle.idx_edition.specs.Stored.{bad_table, fault_of_bytes}
@@ -23,7 +23,7 @@ use Rattle.idx_edition.specs.declared.load_fault.LoadFault.TheVariants.{BadTable
 use Rattle.idx_edition.proofs.FrontLemmas.{first_fault-front, rows_of-front, rows-right}
 
 -- the first bytes of a file, as far as its table goes, of which this is known
-pub record IsFront (known : Option (List ℕ)) (front : List ℕ) (l : Layout) (rows len m : ℕ) (lengths : List ℕ) : Type 0 where
+pub record IsFront (known : Option (List ℕ)) (front : List ℕ) (l : Placing) (rows len m : ℕ) (lengths : List ℕ) : Type 0 where
   pub all_rows : rows ≡ row_count l
   pub fields : 1 ≤ length l.sizes
   pub places : 1 ≤ l.per_file
@@ -33,9 +33,9 @@ pub record IsFront (known : Option (List ℕ)) (front : List ℕ) (l : Layout) (
   pub bytes : IfSome known (λ bytes. front ≡ take m bytes)
 
 pub front_of : (h : HeaderValue) (known : Option (List ℕ)) (front read : List ℕ) (rows len m table : ℕ) (lengths : List ℕ) →
-    rows ≡ length h.fields * h.blocks_per_file → 1 ≤ length h.fields → 1 ≤ h.blocks_per_file → lengths ≡ block_lengths (layout_of h) →
-    table ≡ table_bytes (row_count (layout_of h)) → m ≡ min table len → IfSome known (λ bytes. len ≡ length bytes) →
-    IfSome known (λ bytes. read ≡ take m bytes) → front ≡ read → IsFront known front (layout_of h) rows len m lengths
+    rows ≡ length h.fields * h.blocks_per_file → 1 ≤ length h.fields → 1 ≤ h.blocks_per_file → lengths ≡ block_lengths (placing_of h) →
+    table ≡ table_bytes (row_count (placing_of h)) → m ≡ min table len → IfSome known (λ bytes. len ≡ length bytes) →
+    IfSome known (λ bytes. read ≡ take m bytes) → front ≡ read → IsFront known front (placing_of h) rows len m lengths
 front_of h known front read rows len m table lengths product fields places blocks head count whole bytes is = record {
   all_rows = product ∙ ap (λ n. n * h.blocks_per_file) (sym (length-map h.fields sample_bytes));
   fields = subst (λ n. 1 ≤ n) (sym (length-map h.fields sample_bytes)) fields;
@@ -51,7 +51,7 @@ some_rows a b x y =
     let product : 1 * 1 ≤ a * b = mul-le-mul x y in
     omega (arith, product)
 
-module _ (front : List ℕ) (l : Layout) (rows len m : ℕ) (lengths : List ℕ) where
+module _ (front : List ℕ) (l : Placing) (rows len m : ℕ) (lengths : List ℕ) where
   same_count : rows ≡ row_count l → m ≡ min (table_bytes (row_count l)) len → m ≡ min (table_bytes rows) len
   same_count is at = at ∙ ap (λ n. min (table_bytes n) len) (sym is)
 

@@ -13,6 +13,8 @@ use Rattle.std.proofs.lemmas.List.{length-map}
 use Rattle.std.proofs.lemmas.Option.{slice_get-map, slice_get_read, slice_get_within, get_or_from_slice_get, slice_get-get_or}
 use Rattle.idx_outside.specs.Files.{entry_shown, shown}
 use Rattle.idx_table.specs.declared.row.Row.{Row}
+use Rattle.idx_layout.specs.OfHeader.{placing_of}
+use Rattle.idx_layout.specs.Shape.{block_lengths}
 use Rattle.idx_edition.specs.Tables.{TablesValue, AreTables, AreTablesOf, RiseFrom, StandsAt, all_known, bytes_by, bytes_in, file_in, has_in_tables, is_there, row_among, row_for, stored_in, value_at, with_known}
 
 -- numbers that rise from one on are no lower
@@ -55,21 +57,21 @@ value_at-none key (k ∷ keys) (x ∷ values) none =
     ∙ value_at-none key keys values (λ i h e. none (suc i) (omega arith) e)
 
 -- a block whose file is not among them is not there
-pub no_file : (t : TablesValue) (field block number i : ℕ) → number ≡ file_in t.per_file block →
+pub no_file : (t : TablesValue) (field block number i : ℕ) → number ≡ file_in t.header.blocks_per_file block →
     ((k : ℕ) → k < i → get_or t.numbers k 0 < number) → ((k : ℕ) → i ≤ k → k < length t.numbers → number < get_or t.numbers k 0) →
     has_in_tables t field block ≡ false
 no_file t field block number i is below behind =
-    ap (λ o. is_there (row_among t.per_file field block o))
-    (value_at-none (file_in t.per_file block) t.numbers t.tables (λ k h e. omega (arith, cases k h e)))
+    ap (λ o. is_there (row_among t.header.blocks_per_file field block o))
+    (value_at-none (file_in t.header.blocks_per_file block) t.numbers t.tables (λ k h e. omega (arith, cases k h e)))
   where
-    differ : (k : ℕ) → k < length t.numbers → get_or t.numbers k 0 ≡ file_in t.per_file block → (i ≤ k → ⊥) × (k < i → ⊥)
+    differ : (k : ℕ) → k < length t.numbers → get_or t.numbers k 0 ≡ file_in t.header.blocks_per_file block → (i ≤ k → ⊥) × (k < i → ⊥)
     differ k h e = (λ past. omega (arith, behind k past h, e, is), λ less. omega (arith, below k less, e, is))
 
-    cases : (k : ℕ) → k < length t.numbers → get_or t.numbers k 0 ≡ file_in t.per_file block → 1 ≤ 0
+    cases : (k : ℕ) → k < length t.numbers → get_or t.numbers k 0 ≡ file_in t.header.blocks_per_file block → 1 ≤ 0
     cases k h e = let d = differ k h e in let over : k < i = omega (arith, d.0) in absurd (d.1 over)
 
 -- what a search among them says
-pub not_found : (t : TablesValue) (field block number i : ℕ) → AreTables t → number ≡ file_in t.per_file block →
+pub not_found : (t : TablesValue) (field block number i : ℕ) → AreTables t → number ≡ file_in t.header.blocks_per_file block →
     IsBinarySearchResult (λ y. nat_cmp y number) t.numbers (Err i) → has_in_tables t field block ≡ false
 not_found t field block number i are is search =
     let at = searched t.numbers number (Err i) search (λ j k h within. rises 0 t.numbers j k are.rising h within) in
@@ -97,22 +99,22 @@ field_of_place field place places within = div-mul-add field places place within
 
 -- the table of a file that is there has a row for the block
 pub row_exists : (t : TablesValue) (field block file : ℕ) (rows : List Row) → AreTables t → file < length t.numbers → rows ≡ get_or t.tables file rows →
-    field < length t.lengths → block - file_in t.per_file block < t.per_file →
-    (slice_get t.tables file ≡ Some rows) × (field * t.per_file + (block - file_in t.per_file block) < length rows)
+    field < length (block_lengths (placing_of t.header)) → block - file_in t.header.blocks_per_file block < t.header.blocks_per_file →
+    (slice_get t.tables file ≡ Some rows) × (field * t.header.blocks_per_file + (block - file_in t.header.blocks_per_file block) < length rows)
 row_exists t field block file rows are within at exists place =
     let table : slice_get t.tables file ≡ Some rows = slice_get_read t.tables (length t.numbers) file rows (sym are.same) within at in
-    (table, omega (arith, (are.each file rows table).count, place_within field (length t.lengths) (block - file_in t.per_file block) t.per_file exists place))
+    (table, omega (arith, (are.each file rows table).count, place_within field (length (block_lengths (placing_of t.header))) (block - file_in t.header.blocks_per_file block) t.header.blocks_per_file exists place))
 
 -- the row of a block of a file that is there
 pub row_for-place : (t : TablesValue) (field block file : ℕ) (rows : List Row) → AreTables t → file < length t.numbers →
-    get_or t.numbers file 0 ≡ file_in t.per_file block → slice_get t.tables file ≡ Some rows →
-    row_for t field block ≡ slice_get rows (field * t.per_file + (block - file_in t.per_file block))
+    get_or t.numbers file 0 ≡ file_in t.header.blocks_per_file block → slice_get t.tables file ≡ Some rows →
+    row_for t field block ≡ slice_get rows (field * t.header.blocks_per_file + (block - file_in t.header.blocks_per_file block))
 row_for-place t field block file rows are within at table =
-    ap (row_among t.per_file field block) (value_at-place 0 (file_in t.per_file block) t.numbers t.tables file are.rising are.same within at ∙ table)
+    ap (row_among t.header.blocks_per_file field block) (value_at-place 0 (file_in t.header.blocks_per_file block) t.numbers t.tables file are.rising are.same within at ∙ table)
 
 pub row_for-stands : (t : TablesValue) (field block file offset : ℕ) → AreTables t → (s : StandsAt t field block file offset) → row_for t field block ≡ Some s.row
 row_for-stands t field block file offset are s =
-    row_for-place t field block file s.rows are (slice_get_within t.numbers file (file_in t.per_file block) s.number) (get_or_from_slice_get t.numbers file (file_in t.per_file block) 0 s.number) s.table
+    row_for-place t field block file s.rows are (slice_get_within t.numbers file (file_in t.header.blocks_per_file block) s.number) (get_or_from_slice_get t.numbers file (file_in t.header.blocks_per_file block) 0 s.number) s.table
     ∙ s.at
 
 pub stands-has : (t : TablesValue) (field block file offset : ℕ) → AreTables t → StandsAt t field block file offset → has_in_tables t field block ≡ true
@@ -121,8 +123,8 @@ stands-has t field block file offset are s =
 
 -- where the row of a block says that it is there, the block stands
 pub row-stands : (t : TablesValue) (field block file number offset : ℕ) (rows : List Row) (row : Row) → AreTables t → (file < length t.numbers) × (get_or t.numbers file 0 ≡ number) →
-    number ≡ file_in t.per_file block → slice_get t.tables file ≡ Some rows →
-    slice_get rows (field * t.per_file + (block - file_in t.per_file block)) ≡ Some row → (row.size ≡ 0 → ⊥) → offset ≡ row.offset → StandsAt t field block file offset
+    number ≡ file_in t.header.blocks_per_file block → slice_get t.tables file ≡ Some rows →
+    slice_get rows (field * t.header.blocks_per_file + (block - file_in t.header.blocks_per_file block)) ≡ Some row → (row.size ≡ 0 → ⊥) → offset ≡ row.offset → StandsAt t field block file offset
 row-stands t field block file number offset rows row are found is table at some begins = record {
   number = slice_get-get_or t.numbers file 0 found.0 ∙ ap (λ n. Some n) (found.1 ∙ is);
   rows = rows;
@@ -135,8 +137,8 @@ row-stands t field block file number offset rows row are found is table at some 
 
 -- where its row says that it is not there, it is not
 pub row-absent : (t : TablesValue) (field block file number : ℕ) (rows : List Row) (row : Row) → AreTables t → (file < length t.numbers) × (get_or t.numbers file 0 ≡ number) →
-    number ≡ file_in t.per_file block → slice_get t.tables file ≡ Some rows →
-    slice_get rows (field * t.per_file + (block - file_in t.per_file block)) ≡ Some row → row.size ≡ 0 → has_in_tables t field block ≡ false
+    number ≡ file_in t.header.blocks_per_file block → slice_get t.tables file ≡ Some rows →
+    slice_get rows (field * t.header.blocks_per_file + (block - file_in t.header.blocks_per_file block)) ≡ Some row → row.size ≡ 0 → has_in_tables t field block ≡ false
 row-absent t field block file number rows row are found is table at none =
     ap is_there (row_for-place t field block file rows are found.0 (found.1 ∙ is) table ∙ at) ∙ ap (nat_lt 0) none
 
@@ -154,18 +156,18 @@ leaf_exists contents leaves t field block file offset fit s =
     omega (arith, slice_get_within t.tables file s.rows s.table, fit.same, length-map leaves (entry_shown contents))
 
 -- the block of a row has the length of its field's blocks
-stands-size : (t : TablesValue) (field block file offset : ℕ) → AreTables t → (s : StandsAt t field block file offset) → block - file_in t.per_file block < t.per_file → s.row.size ≡ slice_index t.lengths field
+stands-size : (t : TablesValue) (field block file offset : ℕ) → AreTables t → (s : StandsAt t field block file offset) → block - file_in t.header.blocks_per_file block < t.header.blocks_per_file → s.row.size ≡ slice_index (block_lengths (placing_of t.header)) field
 stands-size t field block file offset are s place =
-    (are.each file s.rows s.table).sizes (field * t.per_file + (block - file_in t.per_file block)) s.row s.at s.some
-    ∙ ap (slice_index t.lengths) (field_of_place field (block - file_in t.per_file block) t.per_file place)
+    (are.each file s.rows s.table).sizes (field * t.header.blocks_per_file + (block - file_in t.header.blocks_per_file block)) s.row s.at s.some
+    ∙ ap (slice_index (block_lengths (placing_of t.header))) (field_of_place field (block - file_in t.header.blocks_per_file block) t.header.blocks_per_file place)
 
 -- where its file's bytes are known the block ends inside them
 pub block_within : (t : TablesValue) (leaves : List (List ℕ × Option (List ℕ))) (field block file offset len : ℕ) (leaf : List ℕ × Option (List ℕ)) →
     AreTables t → AreTablesOf t.tables leaves → StandsAt t field block file offset → slice_get leaves file ≡ Some leaf →
-    len ≡ slice_index t.lengths field → ForSome leaf.1 (λ bytes. offset + len ≤ length bytes)
+    len ≡ slice_index (block_lengths (placing_of t.header)) field → ForSome leaf.1 (λ bytes. offset + len ≤ length bytes)
 block_within t leaves field block file offset len leaf are fit s at room = λ bytes known.
-    let ends = (fit.within file s.rows leaf s.table at bytes known).ends (field * t.per_file + (block - file_in t.per_file block)) s.row s.at s.some in
-    omega (arith, ends, stands-size t field block file offset are s (place_in_file t.per_file block are.places), s.begins, room)
+    let ends = (fit.within file s.rows leaf s.table at bytes known).ends (field * t.header.blocks_per_file + (block - file_in t.header.blocks_per_file block)) s.row s.at s.some in
+    omega (arith, ends, stands-size t field block file offset are s (place_in_file t.header.blocks_per_file block are.places), s.begins, room)
 
 with_known-some : (o : Option (List ℕ)) (rest : Option (List (List ℕ))) (all : List (List ℕ)) → with_known o rest ≡ Some all →
     (bytes : List ℕ) × (more : List (List ℕ)) × (o ≡ Some bytes) × (rest ≡ Some more) × (all ≡ bytes ∷ more)
@@ -196,12 +198,12 @@ known_each (leaf ∷ leaves) all e =
 
 -- what was read is what the edition stores
 pub read_stored : (t : TablesValue) (leaves : List (List ℕ × Option (List ℕ))) (field block file offset len : ℕ) (leaf : List ℕ × Option (List ℕ)) (into : List ℕ) →
-    AreTables t → AreTablesOf t.tables leaves → StandsAt t field block file offset → slice_get leaves file ≡ Some leaf → len ≡ slice_index t.lengths field →
+    AreTables t → AreTablesOf t.tables leaves → StandsAt t field block file offset → slice_get leaves file ≡ Some leaf → len ≡ slice_index (block_lengths (placing_of t.header)) field →
     IfSome leaf.1 (λ bytes. into ≡ take len (drop offset bytes)) → IfSome (stored_in t leaves) (λ stored. into ≡ stored field block)
 read_stored t leaves field block file offset len leaf into are fit s at room read = by_known (all_known leaves) refl
   where
     number : ℕ
-    number = file_in t.per_file block
+    number = file_in t.header.blocks_per_file block
 
     of_bytes : (files : List (List ℕ)) (o : Option (List ℕ)) → value_at number t.numbers files ≡ o → IfSome o (λ bytes. into ≡ take len (drop offset bytes)) →
         (o ≡ None → ⊥) → into ≡ bytes_in t files field block
@@ -209,10 +211,10 @@ read_stored t leaves field block file offset len leaf into are fit s at room rea
     of_bytes files (Some bytes) is read some =
         read
         ∙ ap (λ n. take n (drop offset bytes)) room
-        ∙ ap (λ n. take (slice_index t.lengths field) (drop n bytes)) s.begins
-        ∙ ap (λ (b : Bool). cond b (take (slice_index t.lengths field) (drop s.row.offset bytes)) (replicate (slice_index t.lengths field) 0)) (sym (lt-ltb 0 s.row.size s.some))
-        ∙ ap (λ o. bytes_by (slice_index t.lengths field) o (Some bytes)) (sym (row_for-stands t field block file offset are s))
-        ∙ ap (bytes_by (slice_index t.lengths field) (row_for t field block)) (sym is)
+        ∙ ap (λ n. take (slice_index (block_lengths (placing_of t.header)) field) (drop n bytes)) s.begins
+        ∙ ap (λ (b : Bool). cond b (take (slice_index (block_lengths (placing_of t.header)) field) (drop s.row.offset bytes)) (replicate (slice_index (block_lengths (placing_of t.header)) field) 0)) (sym (lt-ltb 0 s.row.size s.some))
+        ∙ ap (λ o. bytes_by (slice_index (block_lengths (placing_of t.header)) field) o (Some bytes)) (sym (row_for-stands t field block file offset are s))
+        ∙ ap (bytes_by (slice_index (block_lengths (placing_of t.header)) field) (row_for t field block)) (sym is)
 
     by_known : (o : Option (List (List ℕ))) → all_known leaves ≡ o → IfSome (option_map (bytes_in t) o) (λ stored. into ≡ stored field block)
     by_known None is = tt

@@ -10,9 +10,10 @@ use Rattle.std.specs.Prelude.{IfSome}
 use Rattle.idx_header.specs.declared.steps.Steps.{Steps}
 use Rattle.idx_header.specs.Header.{AreSteps, HasTime, HasTimeAmong, HeaderValue, IsHeader}
 use Rattle.idx_header.specs.Names.{file_name, name_with}
-use Rattle.idx_layout.specs.Layout.{file_numbers}
+use Rattle.idx_layout.specs.declared.layout.Layout.{Layout}
+use Rattle.idx_layout.specs.Placing.{file_numbers}
 use Rattle.idx_layout.specs.Files.{file_bytes}
-use Rattle.idx_layout.specs.OfHeader.{layout_of}
+use Rattle.idx_layout.specs.OfHeader.{placing_of}
 use Rattle.idx_layout.specs.Step.{step_files}
 use Rattle.idx_edition.specs.Stored.{HasFiles}
 
@@ -38,12 +39,12 @@ own_file path bytes folder (n ∷ numbers) differ i k at = by_test (own_file pat
 -- different files of a step have different paths
 apart : (h : HeaderValue) (o : Option Steps) (s f g : ℕ) → IsTemplate h.template → IfSome o AreSteps → HasTimeAmong o s → name_with h o s f ≡ name_with h o s g → f ≡ g
 apart h None s f g t is here e = files_differ h.template f g t e
-apart h (Some steps) s f g t is here e = (steps_differ h.template steps.template s s f g t is.template e).1
+apart h (Some steps) s f g t is here e = (steps_differ h.template steps.template s s h.revision h.revision f g t is.template e).2
 
 paths_differ : (h : HeaderValue) (s f g : ℕ) → IsHeader h → HasTime h s → file_name h s f ≡ file_name h s g → f ≡ g
 unfolding file_name
 paths_differ h s f g is here e = apart h h.steps s f g is.template is.steps here e
 
-pub own_files : (h : HeaderValue) (step : ℕ) (volume : List (List (List ℕ))) (folder : List ℕ) → IsHeader h → HasTime h step → HasFiles h step volume (files_of folder (step_files h volume step))
-own_files h step volume folder is here = λ i file at.
-    own_file (file_name h step) (file_bytes (layout_of h) volume) folder (file_numbers (layout_of h)) (λ a b e. paths_differ h step a b is here e) i file at
+pub own_files : (layout : Layout) (h : HeaderValue) (step : ℕ) (volume : List (List (List ℕ))) (folder : List ℕ) → IsHeader h → HasTime h step → HasFiles layout h step volume (files_of folder (step_files layout h volume step))
+own_files layout h step volume folder is here = λ i file at.
+    own_file (file_name h step) (file_bytes layout (placing_of h) volume) folder (file_numbers (placing_of h)) (λ a b e. paths_differ h step a b is here e) i file at

@@ -9,8 +9,8 @@ use Rattle.idx_outside.specs.declared.mem_file.MemFile.{MemFile}
 use Rattle.idx_table.specs.declared.row.Row.{Row}
 use Rattle.idx_header.specs.Header.{HeaderValue}
 use Rattle.idx_header.specs.Names.{file_name}
-use Rattle.idx_layout.specs.Layout.{file_numbers}
-use Rattle.idx_layout.specs.OfHeader.{layout_of}
+use Rattle.idx_layout.specs.Placing.{file_numbers}
+use Rattle.idx_layout.specs.OfHeader.{placing_of}
 use Rattle.idx_edition.specs.Stored.{found_file}
 use Rattle.idx_edition.specs.Loaded.{found_table, table_at}
 use Rattle.idx_edition.specs.Reads.{ReadsFiles, ReadsOne, count_there, most_reads}
@@ -48,7 +48,7 @@ module _ (h : HeaderValue) (step : ℕ) where
 
   module _ (known : Option (List MemFile)) where
     -- nothing was read yet
-    pub few_none : (left : List ℕ) (n : ℕ) → left ≡ file_numbers (layout_of h) → n ≡ 0 → n + count_there h step known left ≤ most_reads h step known
+    pub few_none : (left : List ℕ) (n : ℕ) → left ≡ file_numbers (placing_of h) → n ≡ 0 → n + count_there h step known left ≤ most_reads h step known
     few_none left n all none =
         let same : count_there h step known left ≡ most_reads h step known = ap (count_there h step known) all in
         omega (arith, same, none)

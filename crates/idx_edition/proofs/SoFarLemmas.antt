@@ -11,9 +11,9 @@ use Rattle.idx_table.specs.Table.{rows_of}
 use Rattle.idx_table.specs.declared.row.Row.{Row}
 use Rattle.idx_header.specs.Header.{HeaderValue}
 use Rattle.idx_header.specs.Names.{file_name}
-use Rattle.idx_layout.specs.Layout.{Layout, block_count, file_numbers}
+use Rattle.idx_layout.specs.Placing.{Placing, block_count, file_numbers}
 use Rattle.idx_layout.specs.Files.{row_count}
-use Rattle.idx_layout.specs.OfHeader.{layout_of}
+use Rattle.idx_layout.specs.OfHeader.{placing_of}
 use Rattle.idx_edition.specs.Stored.{fault_of_file, first_bad}
 use Rattle.idx_edition.specs.Tables.{AreTablesOf, EndWithin, IsTable, RiseFrom}
 use Rattle.idx_edition.specs.Loaded.{Counts, IsCause, found_table, leaf_at, number_at, rows_at, table_at}
@@ -28,9 +28,9 @@ Completes f all left done = done ++ filter_map f left ≡ filter_map f all
 -- had a faulty row.
 pub record HoldSoFar (h : HeaderValue) (step : ℕ) (files : List MemFile) (left : List ℕ) (numbers : List ℕ)
     (tables : List (List Row)) (leaves : List (List ℕ × Option (List ℕ))) : Type 0 where
-  pub number : Completes (number_at h step files) (file_numbers (layout_of h)) left numbers
-  pub table : Completes (rows_at h step files) (file_numbers (layout_of h)) left tables
-  pub leaf : Completes (leaf_at h step files) (file_numbers (layout_of h)) left leaves
+  pub number : Completes (number_at h step files) (file_numbers (placing_of h)) left numbers
+  pub table : Completes (rows_at h step files) (file_numbers (placing_of h)) left tables
+  pub leaf : Completes (leaf_at h step files) (file_numbers (placing_of h)) left leaves
   pub sound : slice_get (filter_map (fault_of_file h step files) left) 0 ≡ first_bad h step files
 
 -- ---- numbers that rise
@@ -54,7 +54,7 @@ rise_filter test a (suc n) = by_test (test a) (rise_filter test (a + 1) n)
     by_test false rise = rise_lower (a + 1) a rest (omega arith) rise
 
 -- the numbers of a step's files rise
-pub files_rise : (l : Layout) → RiseFrom 0 (file_numbers l)
+pub files_rise : (l : Placing) → RiseFrom 0 (file_numbers l)
 files_rise l = rise_filter _ 0 (block_count l)
 
 -- a file that is there comes to the numbers, or one that is not does not
@@ -154,7 +154,7 @@ is_found h step files file rows leaf found = by_file (file_at (file_name h step 
         let same : ◌≡◌ {A = List Row × (List ℕ × Option (List ℕ))} (rows, leaf) (found_table h step file bytes) = cc in
         record {
           number = ap (option_map (λ b. file)) is;
-          table = ap (option_map (λ b. rows_of b (row_count (layout_of h)))) is ∙ ap (λ (f : List Row × (List ℕ × Option (List ℕ))). Some f.0) (sym same);
+          table = ap (option_map (λ b. rows_of b (row_count (placing_of h)))) is ∙ ap (λ (f : List Row × (List ℕ × Option (List ℕ))). Some f.0) (sym same);
           path = ap (option_map (λ b. (file_name h step file, Some b))) is ∙ ap (λ (f : List Row × (List ℕ × Option (List ℕ))). Some f.1) (sym same);
         }
 
@@ -175,7 +175,7 @@ sound_more h step files left rest file first none before =
 module _ (h : HeaderValue) (step : ℕ) where
   -- nothing yet
   pub hold_none : (known : Option (List MemFile)) (left numbers : List ℕ) (tables : List (List Row)) (leaves : List (List ℕ × Option (List ℕ))) →
-      left ≡ file_numbers (layout_of h) → numbers ≡ [] → tables ≡ [] → leaves ≡ [] → IfSome known (λ files. HoldSoFar h step files left numbers tables leaves)
+      left ≡ file_numbers (placing_of h) → numbers ≡ [] → tables ≡ [] → leaves ≡ [] → IfSome known (λ files. HoldSoFar h step files left numbers tables leaves)
   hold_none None left numbers tables leaves all n t l = tt
   hold_none (Some files) left numbers tables leaves all n t l = record {
     number = ap (λ xs. xs ++ filter_map (number_at h step files) left) n ∙ ap (filter_map (number_at h step files)) all;
@@ -193,7 +193,7 @@ module _ (h : HeaderValue) (step : ℕ) where
   hold_more None left rest numbers file tables rows leaves leaf first found sound before = tt
   hold_more (Some files) left rest numbers file tables rows leaves leaf first found sound before =
       let is = is_found h step files file rows leaf found in
-      let all : List ℕ = file_numbers (layout_of h) in
+      let all : List ℕ = file_numbers (placing_of h) in
       record {
         number = completes_more (number_at h step files) all left rest file numbers file first is.number before.number;
         table = completes_more (rows_at h step files) all left rest file tables rows first is.table before.table;
@@ -208,10 +208,10 @@ module _ (h : HeaderValue) (step : ℕ) where
   hold_skip None left rest numbers file tables leaves first found sound before = tt
   hold_skip (Some files) left rest numbers file tables leaves first found sound before =
       let is = no_file h step files file found in
-      let all : List ℕ = file_numbers (layout_of h) in
+      let all : List ℕ = file_numbers (placing_of h) in
       record {
         number = completes_skip (number_at h step files) all left rest file numbers first (ap (option_map (λ b. file)) is) before.number;
-        table = completes_skip (rows_at h step files) all left rest file tables first (ap (option_map (λ b. rows_of b (row_count (layout_of h)))) is) before.table;
+        table = completes_skip (rows_at h step files) all left rest file tables first (ap (option_map (λ b. rows_of b (row_count (placing_of h)))) is) before.table;
         leaf = completes_skip (leaf_at h step files) all left rest file leaves first (ap (option_map (λ b. (file_name h step file, Some b))) is) before.leaf;
         sound = sound_more h step files left rest file first sound before.sound;
       }

@@ -12,9 +12,12 @@ use Rattle.idx_geom.specs.Volume.{IsVolume}
 use Rattle.idx_fields.specs.Field.{sample_bytes}
 use Rattle.idx_table.specs.declared.row.Row.{Row}
 use Rattle.idx_header.specs.Header.{HeaderValue, IsHeader, block_count}
-use Rattle.idx_layout.specs.Layout.{Layout, block_bytes, block_of_samples, file_numbers, file_of, is_present}
+use Rattle.idx_layout.specs.declared.layout.Layout.{Layout}
+use Rattle.idx_layout.specs.Placing.{Placing, block_bytes, block_of_samples, file_numbers, file_of, is_present}
+use Rattle.idx_layout.specs.declared.layout.Layout.TheVariants.{Hz}
+use Rattle.idx_layout.specs.Layout.{arranged, flags_of}
 use Rattle.idx_layout.specs.Files.{FitsRows, file_bytes, length_of_file, offset_of, row_count, row_of_block, rows_of_file}
-use Rattle.idx_layout.specs.OfHeader.{layout_of}
+use Rattle.idx_layout.specs.OfHeader.{placing_of}
 use Rattle.idx_layout.proofs.FileLemmas.{block_at_offset, length-rows_of_file, rows_of-file_bytes}
 use Rattle.idx_layout.proofs.HeaderLemmas.{fits_rows}
 use Rattle.idx_layout.proofs.RightLemmas.{no_fault, row_at_place, rows_fit}
@@ -25,14 +28,14 @@ use Rattle.idx_edition.proofs.FrontLemmas.{rows-right}
 use Rattle.idx_edition.proofs.LookupLemmas.{field_of_place, place_in_file, place_within}
 
 -- the table of a file is right
-pub written_right : (h : HeaderValue) (file : ℕ) → IsHeader h →
-    IsTable (block_lengths (layout_of h)) h.blocks_per_file (rows_of_file (layout_of h) file) × EndWithin (rows_of_file (layout_of h) file) (length_of_file (layout_of h) file)
-written_right h file is =
-    let l : Layout = layout_of h in
+pub written_right : (layout : Layout) (h : HeaderValue) (file : ℕ) → IsHeader h →
+    IsTable (block_lengths (placing_of h)) h.blocks_per_file (rows_of_file layout (placing_of h) file) × EndWithin (rows_of_file layout (placing_of h) file) (length_of_file (placing_of h) file)
+written_right layout h file is =
+    let l : Placing = placing_of h in
     let fits : FitsRows l file = fits_rows h file is in
-    let bytes : List ℕ = file_bytes l [] file in
-    subst (λ (rows : List Row). IsTable (block_lengths l) h.blocks_per_file rows × EndWithin rows (length_of_file l file)) (rows_of-file_bytes l [] file (rows_fit l file fits))
-    (rows-right bytes (length l.sizes) l.per_file (block_lengths l) (length_of_file l file) fits.fields (length-map-range_with_len (block_bytes l) 0 (length l.sizes)) (no_fault l [] file fits))
+    let bytes : List ℕ = file_bytes layout l [] file in
+    subst (λ (rows : List Row). IsTable (block_lengths l) h.blocks_per_file rows × EndWithin rows (length_of_file l file)) (rows_of-file_bytes layout l [] file (rows_fit layout l file fits))
+    (rows-right bytes (length l.sizes) l.per_file (block_lengths l) (length_of_file l file) fits.fields (length-map-range_with_len (block_bytes l) 0 (length l.sizes)) (no_fault layout l [] file fits))
 
 -- numbers of a range lie below its end
 below_end : (test : ℕ → Bool) (a n end : ℕ) → a + n ≡ end → AllByRecursion (λ k. k < end) (filter test (range_with_len a n))
@@ -47,7 +50,7 @@ below_end test a (suc n) end at = by_test (test a) (below_end test (a + 1) n end
     by_test false more = more
 
 -- the number of each file is that of a block
-pub files_exist : (h : HeaderValue) → AllByRecursion (λ file. file < block_count h) (file_numbers (layout_of h))
+pub files_exist : (h : HeaderValue) → AllByRecursion (λ file. file < block_count h) (file_numbers (placing_of h))
 files_exist h = below_end _ 0 (block_count h) (block_count h) (omega arith)
 
 -- ---- what stands at a number
@@ -61,94 +64,98 @@ mapped_at {X = X} f n (k ∷ numbers) = by_test (mapped_at f n numbers) (k == n)
     by_test rest false e = rest
 
 -- ---- a block and its row
--- the row of a block, by whether it is present
-abbrev row_by : ℕ → ℕ → Bool → Row
-row_by offset size present = cond present (record { offset = offset; size = size; flags = 0 }) (record { offset = 0; size = 0; flags = 0 })
+-- what stands in a file is read as the block in hierarchical order
+arranged_back : (layout : Layout) (l : Placing) (size block : ℕ) (bytes : List ℕ) → arranged layout l size block bytes ≡ bytes
+arranged_back Hz l size block bytes = refl
 
-module _ (h : HeaderValue) (field block : ℕ) (is : IsHeader h) (within : field < length h.fields) where
+-- the row of a block, by whether it is present
+abbrev row_by : ℕ → ℕ → ℕ → Bool → Row
+row_by flags offset size present = cond present (record { offset = offset; size = size; flags = flags }) (record { offset = 0; size = 0; flags = 0 })
+
+module _ (layout : Layout) (h : HeaderValue) (field block : ℕ) (is : IsHeader h) (within : field < length h.fields) where
   fields_of : ℕ
   fields_of = length (map sample_bytes h.fields)
 
-  in_fields : field < length (layout_of h).sizes
+  in_fields : field < length (placing_of h).sizes
   in_fields = subst (λ n. field < n) (sym (length-map h.fields sample_bytes)) within
 
-  place_of_block : block - file_of (layout_of h) block < h.blocks_per_file
+  place_of_block : block - file_of (placing_of h) block < h.blocks_per_file
   place_of_block = place_in_file h.blocks_per_file block is.blocks_some
 
-  from_file : file_of (layout_of h) block ≤ block
+  from_file : file_of (placing_of h) block ≤ block
   from_file =
       let rest = mod-lt block is.blocks_some in
       let whole : h.blocks_per_file * (block / h.blocks_per_file) + block % h.blocks_per_file ≡ block = ap (λ n. n + block % h.blocks_per_file) (mul_comm h.blocks_per_file (block / h.blocks_per_file)) ∙ div-add-mod' block h.blocks_per_file in
       omega (arith, whole)
 
-  row_at_block : slice_get (rows_of_file (layout_of h) (file_of (layout_of h) block)) (field * h.blocks_per_file + (block - file_of (layout_of h) block)) ≡ Some (row_of_block (layout_of h) (file_of (layout_of h) block) field block)
+  row_at_block : slice_get (rows_of_file layout (placing_of h) (file_of (placing_of h) block)) (field * h.blocks_per_file + (block - file_of (placing_of h) block)) ≡ Some (row_of_block layout (placing_of h) (file_of (placing_of h) block) field block)
   row_at_block =
-      let l : Layout = layout_of h in
+      let l : Placing = placing_of h in
       let p : ℕ = h.blocks_per_file in
       let file : ℕ = file_of l block in
       let i : ℕ = field * p + (block - file) in
-      let d : Row = row_of_block l file field block in
+      let d : Row = row_of_block layout l file field block in
       let inside : i < row_count l = place_within field (length l.sizes) (block - file) p in_fields place_of_block in
       let quotient : i / p ≡ field = field_of_place field (block - file) p place_of_block in
       let remainder : i % p ≡ block - file = mul-add-mod_self_right field p (block - file) ∙ mod-eq_of_lt place_of_block in
       let back : file + i % p ≡ block = omega (arith, remainder, from_file) in
-      slice_get-get_or (rows_of_file l file) i d (subst (λ n. i < n) (sym (length-rows_of_file l file)) inside)
-      ∙ ap (λ r. Some r) (row_at_place l file i d is.blocks_some inside ∙ ap (λ f. row_of_block l file f (file + i % p)) quotient ∙ ap (row_of_block l file field) back)
+      slice_get-get_or (rows_of_file layout l file) i d (subst (λ n. i < n) (sym (length-rows_of_file layout l file)) inside)
+      ∙ ap (λ r. Some r) (row_at_place layout l file i d is.blocks_some inside ∙ ap (λ f. row_of_block layout l file f (file + i % p)) quotient ∙ ap (row_of_block layout l file field) back)
 
   -- the step has exactly the present blocks
-  pub has_present : block < block_count h → has_in_tables (written_tables h) field block ≡ is_present (layout_of h) block
+  pub has_present : block < block_count h → has_in_tables (written_tables layout h) field block ≡ is_present (placing_of h) block
   has_present exists =
-      ap (λ o. is_there (row_among h.blocks_per_file field block o)) (mapped_at (rows_of_file l) file (file_numbers l))
+      ap (λ o. is_there (row_among h.blocks_per_file field block o)) (mapped_at (rows_of_file layout l) file (file_numbers l))
       ∙ by_tests (list_any (λ k. k == file) (file_numbers l)) (is_present l block) refl refl
     where
-      l : Layout
-      l = layout_of h
+      l : Placing
+      l = placing_of h
 
       file : ℕ
-      file = file_of (layout_of h) block
+      file = file_of (placing_of h) block
 
-      of_row : (b : Bool) → is_present l block ≡ b → nat_lt 0 (row_of_block l file field block).size ≡ is_present l block
+      of_row : (b : Bool) → is_present l block ≡ b → nat_lt 0 (row_of_block layout l file field block).size ≡ is_present l block
       of_row true e =
-          ap (λ (b : Bool). nat_lt 0 (row_by (offset_of l file field block) (block_bytes l field) b).size) e
+          ap (λ (b : Bool). nat_lt 0 (row_by (flags_of layout) (offset_of l file field block) (block_bytes l field) b).size) e
           ∙ lt-ltb 0 (block_bytes l field) (some_block h field is within) ∙ sym e
       of_row false e =
-          ap (λ (b : Bool). nat_lt 0 (row_by (offset_of l file field block) (block_bytes l field) b).size) e
+          ap (λ (b : Bool). nat_lt 0 (row_by (flags_of layout) (offset_of l file field block) (block_bytes l field) b).size) e
           ∙ sym e
 
       by_tests : (a b : Bool) → list_any (λ k. k == file) (file_numbers l) ≡ a → is_present l block ≡ b →
-          is_there (row_among h.blocks_per_file field block (cond a (Some (rows_of_file l file)) None)) ≡ is_present l block
+          is_there (row_among h.blocks_per_file field block (cond a (Some (rows_of_file layout l file)) None)) ≡ is_present l block
       by_tests true b listed e = ap is_there row_at_block ∙ of_row b e
       by_tests false true listed e =
           let wrong : false ≡ true = sym listed ∙ file_listed l block exists from_file e in absurd (cc)
       by_tests false false listed e = sym e
 
   -- and stores each block's bytes
-  pub block_written : (volume : List (List (List ℕ))) (samples : List (List ℕ)) → IsVolume (layout_of h).sizes (length (points h.box)) volume → slice_get volume field ≡ Some samples →
+  pub block_written : (volume : List (List (List ℕ))) (samples : List (List ℕ)) → IsVolume (placing_of h).sizes (length (points h.box)) volume → slice_get volume field ≡ Some samples →
       block < block_count h →
-      bytes_in (written_tables h) (map (file_bytes (layout_of h) volume) (file_numbers (layout_of h))) field block
-      ≡ block_of_samples (layout_of h) (slice_index (layout_of h).sizes field) samples block
+      bytes_in (written_tables layout h) (map (file_bytes layout (placing_of h) volume) (file_numbers (placing_of h))) field block
+      ≡ block_of_samples (placing_of h) (slice_index (placing_of h).sizes field) samples block
   block_written volume samples fills at exists =
-      ap (λ o. bytes_by len (row_among h.blocks_per_file field block o) (value_at file (file_numbers l) (map (file_bytes l volume) (file_numbers l)))) (mapped_at (rows_of_file l) file (file_numbers l))
-      ∙ ap (bytes_by len (row_among h.blocks_per_file field block (cond (list_any (λ k. k == file) (file_numbers l)) (Some (rows_of_file l file)) None))) (mapped_at (file_bytes l volume) file (file_numbers l))
+      ap (λ o. bytes_by len (row_among h.blocks_per_file field block o) (value_at file (file_numbers l) (map (file_bytes layout l volume) (file_numbers l)))) (mapped_at (rows_of_file layout l) file (file_numbers l))
+      ∙ ap (bytes_by len (row_among h.blocks_per_file field block (cond (list_any (λ k. k == file) (file_numbers l)) (Some (rows_of_file layout l file)) None))) (mapped_at (file_bytes layout l volume) file (file_numbers l))
       ∙ by_tests (list_any (λ k. k == file) (file_numbers l)) (is_present l block) refl refl
     where
-      l : Layout
-      l = layout_of h
+      l : Placing
+      l = placing_of h
 
       file : ℕ
-      file = file_of (layout_of h) block
+      file = file_of (placing_of h) block
 
       len : ℕ
-      len = slice_index (block_lengths (layout_of h)) field
+      len = slice_index (block_lengths (placing_of h)) field
 
       whole : List ℕ
-      whole = file_bytes (layout_of h) volume (file_of (layout_of h) block)
+      whole = file_bytes layout (placing_of h) volume (file_of (placing_of h) block)
 
       len_is : len ≡ block_bytes l field
       len_is = get_or-map-range_with_len (block_bytes l) 0 (length l.sizes) field field 0 in_fields (zero-add field)
 
       result : List ℕ
-      result = block_of_samples (layout_of h) (slice_index (layout_of h).sizes field) samples block
+      result = block_of_samples (placing_of h) (slice_index (placing_of h).sizes field) samples block
 
       zeros : is_present l block ≡ false → replicate len 0 ≡ result
       zeros absent = ap (λ n. replicate n 0) len_is ∙ sym (absent_zeros l (slice_index l.sizes field) samples block absent)
@@ -156,18 +163,19 @@ module _ (h : HeaderValue) (field block : ℕ) (is : IsHeader h) (within : field
       taken : Row → List ℕ
       taken row = cond (nat_lt 0 row.size) (take len (drop row.offset whole)) (replicate len 0)
 
-      of_row : (b : Bool) → is_present l block ≡ b → taken (row_of_block l file field block) ≡ result
+      of_row : (b : Bool) → is_present l block ≡ b → taken (row_of_block layout l file field block) ≡ result
       of_row true e =
-          ap (λ (b : Bool). taken (row_by (offset_of l file field block) (block_bytes l field) b)) e
+          ap (λ (b : Bool). taken (row_by (flags_of layout) (offset_of l file field block) (block_bytes l field) b)) e
           ∙ ap (λ (b : Bool). cond b (take len (drop (offset_of l file field block) whole)) (replicate len 0)) (lt-ltb 0 (block_bytes l field) (some_block h field is within))
           ∙ ap (λ n. take n (drop (offset_of l file field block) whole)) len_is
-          ∙ block_at_offset l volume file field block samples fills at from_file (omega (arith, place_of_block, from_file)) e
+          ∙ block_at_offset layout l volume file field block samples fills at from_file (omega (arith, place_of_block, from_file)) e
+          ∙ arranged_back layout l (slice_index l.sizes field) block (block_of_samples l (slice_index l.sizes field) samples block)
       of_row false e =
-          ap (λ (b : Bool). taken (row_by (offset_of l file field block) (block_bytes l field) b)) e
+          ap (λ (b : Bool). taken (row_by (flags_of layout) (offset_of l file field block) (block_bytes l field) b)) e
           ∙ zeros e
 
       by_tests : (a b : Bool) → list_any (λ k. k == file) (file_numbers l) ≡ a → is_present l block ≡ b →
-          bytes_by len (row_among h.blocks_per_file field block (cond a (Some (rows_of_file l file)) None)) (cond a (Some whole) None) ≡ result
+          bytes_by len (row_among h.blocks_per_file field block (cond a (Some (rows_of_file layout l file)) None)) (cond a (Some whole) None) ≡ result
       by_tests true b listed e = ap (λ r. bytes_by len r (Some whole)) row_at_block ∙ of_row b e
       by_tests false true listed e =
           let wrong : false ≡ true = sym listed ∙ file_listed l block exists from_file e in absurd (cc)

@@ -4,3 +4,4 @@ pub mod Loaded
 pub mod Worked
 pub mod Asked
 pub mod Reads
+pub mod Newest

@@ -13,9 +13,10 @@ use Rattle.idx_table.specs.Table.{rows_of}
 use Rattle.idx_table.specs.declared.row.Row.{Row}
 use Rattle.idx_header.specs.Header.{HeaderValue}
 use Rattle.idx_header.specs.Names.{file_name}
-use Rattle.idx_layout.specs.Layout.{block_of_samples, file_numbers}
+use Rattle.idx_layout.specs.declared.layout.Layout.{Layout}
+use Rattle.idx_layout.specs.Placing.{block_of_samples, file_numbers}
 use Rattle.idx_layout.specs.Files.{file_bytes, row_count}
-use Rattle.idx_layout.specs.OfHeader.{layout_of}
+use Rattle.idx_layout.specs.OfHeader.{placing_of}
 use Rattle.idx_edition.specs.Stored.{Stands, first_bad, found_files, has_block, stored_block}
 use Rattle.idx_edition.specs.declared.load_fault.LoadFault.{LoadFault}
 use Rattle.idx_edition.specs.declared.load_fault.LoadFault.TheVariants.{BadTable, StoreFault, NoMemory}
@@ -35,18 +36,18 @@ pub record HoldsStored (h : HeaderValue) (step : ℕ) (files : List MemFile) (sh
   pub same_files : leaves ≡ known_files (Some files) (found_files h step files)
 
 -- Leaves are the files of a step as the writer lays them out: they have the paths of its files, and the bytes of the files of
--- one volume, as far as these are known.
-pub record AreWritten (h : HeaderValue) (step : ℕ) (volume : List (List (List ℕ))) (leaves : List (List ℕ × Option (List ℕ))) : Type 0 where
-  pub whole : IsVolume (layout_of h).sizes (length (points h.box)) volume
-  pub paths : map (λ leaf. leaf.0) leaves ≡ map (file_name h step) (file_numbers (layout_of h))
-  pub bytes : (i file : ℕ) (path : List ℕ) (bytes : List ℕ) → slice_get (file_numbers (layout_of h)) i ≡ Some file →
-      slice_get leaves i ≡ Some (path, Some bytes) → bytes ≡ file_bytes (layout_of h) volume file
+-- one volume in a layout, as far as these are known.
+pub record AreWritten (layout : Layout) (h : HeaderValue) (step : ℕ) (volume : List (List (List ℕ))) (leaves : List (List ℕ × Option (List ℕ))) : Type 0 where
+  pub whole : IsVolume (placing_of h).sizes (length (points h.box)) volume
+  pub paths : map (λ leaf. leaf.0) leaves ≡ map (file_name h step) (file_numbers (placing_of h))
+  pub bytes : (i file : ℕ) (path : List ℕ) (bytes : List ℕ) → slice_get (file_numbers (placing_of h)) i ≡ Some file →
+      slice_get leaves i ≡ Some (path, Some bytes) → bytes ≡ file_bytes layout (placing_of h) volume file
 
 -- These are the bytes of the block of a field of a volume; an absent block is zeros.
 abbrev pub IsWrittenBlock : HeaderValue → List (List (List ℕ)) → ℕ → ℕ → List ℕ → Type 0
 IsWrittenBlock h volume field block bytes =
     (samples : List (List ℕ)) → slice_get volume field ≡ Some samples →
-    bytes ≡ block_of_samples (layout_of h) (slice_index (layout_of h).sizes field) samples block
+    bytes ≡ block_of_samples (placing_of h) (slice_index (placing_of h).sizes field) samples block
 
 -- What a bay and a reader counted, before and after: their faults, and which call of the bay counted the last one.
 pub record Counts : Type 0 where
@@ -114,7 +115,7 @@ IsLoadCause h step known c fault =
 
 -- the rows, the path and the bytes of a file of the step
 abbrev pub found_table : HeaderValue → ℕ → ℕ → List ℕ → List Row × (List ℕ × Option (List ℕ))
-found_table h step file bytes = (rows_of bytes (row_count (layout_of h)), (file_name h step file, Some bytes))
+found_table h step file bytes = (rows_of bytes (row_count (placing_of h)), (file_name h step file, Some bytes))
 
 abbrev pub table_at : HeaderValue → ℕ → List MemFile → ℕ → Option (List Row × (List ℕ × Option (List ℕ)))
 table_at h step files file = option_map (found_table h step file) (file_at (file_name h step file) files)
@@ -124,7 +125,7 @@ abbrev pub number_at : HeaderValue → ℕ → List MemFile → ℕ → Option �
 number_at h step files file = option_map (λ bytes. file) (file_at (file_name h step file) files)
 
 abbrev pub rows_at : HeaderValue → ℕ → List MemFile → ℕ → Option (List Row)
-rows_at h step files file = option_map (λ bytes. rows_of bytes (row_count (layout_of h))) (file_at (file_name h step file) files)
+rows_at h step files file = option_map (λ bytes. rows_of bytes (row_count (placing_of h))) (file_at (file_name h step file) files)
 
 abbrev pub leaf_at : HeaderValue → ℕ → List MemFile → ℕ → Option (List ℕ × Option (List ℕ))
 leaf_at h step files file = option_map (λ bytes. (file_name h step file, Some bytes)) (file_at (file_name h step file) files)

@@ -6,8 +6,8 @@ use Rattle.idx_outside.specs.Files.{file_at}
 use Rattle.idx_outside.specs.declared.mem_file.MemFile.{MemFile}
 use Rattle.idx_header.specs.Header.{HeaderValue}
 use Rattle.idx_header.specs.Names.{file_name}
-use Rattle.idx_layout.specs.Layout.{file_numbers}
-use Rattle.idx_layout.specs.OfHeader.{layout_of}
+use Rattle.idx_layout.specs.Placing.{file_numbers}
+use Rattle.idx_layout.specs.OfHeader.{placing_of}
 use Rattle.idx_edition.specs.Stored.{found_file}
 
 -- how many files of these numbers are there; where the committed files are not known, any may be
@@ -17,7 +17,7 @@ count_there h step (Some files) numbers = length (filter_map (found_file h step 
 
 -- the most reads that opening a step takes: one for each file of it that is there
 abbrev pub most_reads : HeaderValue → ℕ → Option (List MemFile) → ℕ
-most_reads h step known = count_there h step known (file_numbers (layout_of h))
+most_reads h step known = count_there h step known (file_numbers (placing_of h))
 
 -- no more reads were made
 pub record ReadsFiles (h : HeaderValue) (step : ℕ) (known : Option (List MemFile)) (before after : ℕ) : Type 0 where

@@ -3,38 +3,31 @@ use Rattle.std.specs.Prelude.{◌≡◌, ℕ, ◌+◌, ◌-◌, ◌*◌, ◌/◌
 use Rattle.std.specs.Option.{option_map, ForSome}
 use Rattle.idx_outside.specs.Shape.{Shape}
 use Rattle.idx_header.specs.Header.{HeaderValue}
-use Rattle.idx_layout.specs.Layout.{block_count, file_numbers}
+use Rattle.idx_layout.specs.declared.layout.Layout.{Layout}
+use Rattle.idx_layout.specs.Placing.{file_numbers}
 use Rattle.idx_layout.specs.Files.{rows_of_file}
-use Rattle.idx_layout.specs.OfHeader.{layout_of}
-use Rattle.idx_layout.specs.Shape.{block_lengths}
+use Rattle.idx_layout.specs.OfHeader.{placing_of}
+use Rattle.idx_layout.specs.Shape.{block_lengths, shape_of}
 use Rattle.idx_table.specs.declared.row.Row.{Row}
 
--- how many blocks there are, and how many places for blocks in a file; the bytes of a block of each field; and the numbers of
--- the files, each with the rows of its table
+-- the header of the dataset; and the numbers of the files, each with the rows of its table
 pub record TablesValue : Type 0 where
-  pub blocks : ℕ
-  pub per_file : ℕ
-  pub lengths : List ℕ
+  pub header : HeaderValue
   pub numbers : List ℕ
   pub tables : List (List Row)
 
 -- the tables of files of a dataset
 abbrev pub tables_of : HeaderValue → List ℕ → List (List Row) → TablesValue
-tables_of h numbers tables = record {
-  blocks = block_count (layout_of h);
-  per_file = h.blocks_per_file;
-  lengths = block_lengths (layout_of h);
-  numbers = numbers;
-  tables = tables;
-}
+tables_of h numbers tables = record { header = h; numbers = numbers; tables = tables }
 
 -- those of the files of a step as the writer lays them out
-abbrev pub written_tables : HeaderValue → TablesValue
-written_tables h = tables_of h (file_numbers (layout_of h)) (map (rows_of_file (layout_of h)) (file_numbers (layout_of h)))
+abbrev pub written_tables : Layout → HeaderValue → TablesValue
+written_tables layout h =
+    tables_of h (file_numbers (placing_of h)) (map (rows_of_file layout (placing_of h)) (file_numbers (placing_of h)))
 
 -- how many blocks there are, and how many bytes a block of each field has
 abbrev pub shape_in : TablesValue → Shape
-shape_in t = record { blocks = t.blocks; lengths = t.lengths }
+shape_in t = shape_of t.header
 
 -- the number of the file of a block, where files have so many places
 abbrev pub file_in : ℕ → ℕ → ℕ
@@ -52,7 +45,8 @@ row_among per_file field block None = None
 row_among per_file field block (Some rows) = slice_get rows (field * per_file + (block - file_in per_file block))
 
 abbrev pub row_for : TablesValue → ℕ → ℕ → Option Row
-row_for t field block = row_among t.per_file field block (value_at (file_in t.per_file block) t.numbers t.tables)
+row_for t field block =
+    row_among t.header.blocks_per_file field block (value_at (file_in t.header.blocks_per_file block) t.numbers t.tables)
 
 -- the block of a row is there: the row has a size other than 0
 abbrev pub is_there : Option Row → Bool
@@ -71,7 +65,8 @@ bytes_by len (Some row) (Some bytes) =
 
 abbrev pub bytes_in : TablesValue → List (List ℕ) → ℕ → ℕ → List ℕ
 bytes_in t files field block =
-    bytes_by (slice_index t.lengths field) (row_for t field block) (value_at (file_in t.per_file block) t.numbers files)
+    bytes_by (slice_index (block_lengths (placing_of t.header)) field) (row_for t field block)
+    (value_at (file_in t.header.blocks_per_file block) t.numbers files)
 
 -- the bytes of a leaf before those of others, if all are known
 abbrev pub with_known : Option (List ℕ) → Option (List (List ℕ)) → Option (List (List ℕ))
@@ -106,10 +101,11 @@ pub record EndWithin (rows : List Row) (len : ℕ) : Type 0 where
 pub record AreTables (t : TablesValue) : Type 0 where
   pub rising : RiseFrom 0 t.numbers
   pub same : length t.tables ≡ length t.numbers
-  pub places : 1 ≤ t.per_file
-  pub few_places : t.per_file ≤ 65536
-  pub few_fields : length t.lengths ≤ 64
-  pub each : (i : ℕ) (rows : List Row) → slice_get t.tables i ≡ Some rows → IsTable t.lengths t.per_file rows
+  pub places : 1 ≤ t.header.blocks_per_file
+  pub few_places : t.header.blocks_per_file ≤ 65536
+  pub few_fields : length (block_lengths (placing_of t.header)) ≤ 64
+  pub each : (i : ℕ) (rows : List Row) → slice_get t.tables i ≡ Some rows →
+      IsTable (block_lengths (placing_of t.header)) t.header.blocks_per_file rows
 
 -- the tables are those of these files, each with what is known of its bytes
 pub record AreTablesOf (tables : List (List Row)) (leaves : List (List ℕ × Option (List ℕ))) : Type 0 where
@@ -119,10 +115,10 @@ pub record AreTablesOf (tables : List (List Row)) (leaves : List (List ℕ × Op
 
 -- where the block of a field stands: in the file with this place among those that are there, from this offset on
 pub record StandsAt (t : TablesValue) (field block file offset : ℕ) : Type 0 where
-  pub number : slice_get t.numbers file ≡ Some (file_in t.per_file block)
+  pub number : slice_get t.numbers file ≡ Some (file_in t.header.blocks_per_file block)
   pub rows : List Row
   pub table : slice_get t.tables file ≡ Some rows
   pub row : Row
-  pub at : slice_get rows (field * t.per_file + (block - file_in t.per_file block)) ≡ Some row
+  pub at : slice_get rows (field * t.header.blocks_per_file + (block - file_in t.header.blocks_per_file block)) ≡ Some row
   pub some : 0 < row.size
   pub begins : offset ≡ row.offset

@@ -8,9 +8,10 @@ ghost use Rattle.idx_outside.specs.declared.mem_file.MemFile.{MemFile};
 ghost use Rattle.idx_header.specs.Header.{HasTime, IsHeader};
 ghost use Rattle.idx_header.specs.Names.{step_folder};
 ghost use Rattle.idx_table.specs.Table.{table_bytes};
-ghost use Rattle.idx_layout.specs.Layout.{is_present};
+ghost use Rattle.idx_layout.specs.declared.layout.Layout.{Layout};
+ghost use Rattle.idx_layout.specs.Placing.{is_present};
 ghost use Rattle.idx_layout.specs.Files.{row_count};
-ghost use Rattle.idx_layout.specs.OfHeader.{layout_of};
+ghost use Rattle.idx_layout.specs.OfHeader.{placing_of};
 ghost use Rattle.idx_layout.specs.Shape.{shape_of};
 ghost use Rattle.idx_layout.specs.Step.{step_files};
 ghost use Rattle.idx_edition.specs.Asked.{AskedAtMost};
@@ -25,11 +26,11 @@ use crate::load::{folder_stands, open_file};
 use crate::rows::Rows;
 use crate::tables::Tables;
 use idx_header::Header;
-use idx_layout::files;
+use idx_layout::{Layout, files};
 use idx_outside::{Bay, Blocks, Bytes, Fetched, Leaf, NoMemory, Outage, Reader};
 use std::alloc::Global;
 
-/// The files of one step with their tables: the step as blocks.
+/// The files of one step with their tables, and a copy of the dataset's header: the step as blocks.
 #[derive(Drop)]
 pub struct Edition<L: Leaf> {
     pub(crate) time: u64,
@@ -39,35 +40,36 @@ pub struct Edition<L: Leaf> {
 }
 
 impl<L: Leaf> Edition<L> {
-    /// The edition of the files of a step as the writer lays them out, with their paths, in the order of their numbers.
-    /// Makes no read.
+    /// The edition of the files of a step as the writer lays them out in hierarchical order, with their paths, in the
+    /// order of their numbers. Makes no read.
     pub fn of_leaves(
         alloc: Global,
         header: &Header,
         time: u64,
         leaves: Vec<(Bytes, L)>,
     ) -> Result<Edition<L>, NoMemory>
-        requires written { (volume : _) × AreWritten header.now time volume (shown L.contents leaves.items) }
+        requires written { (volume : _) × AreWritten Layout.Hz header.now time volume (shown L.contents leaves.items) }
         ensures time { IfOk result (λ edition. edition.time ≡ time) }
+        ensures own_header { IfOk result (λ edition. edition.tables.header ≡ header.now) }
         ensures shape { IfOk result (λ edition. shape_in edition.tables ≡ shape_of header.now) }
         ensures has { IfOk result (λ edition. OfBlocks (shape_of header.now)
-            (λ field block. has_in_tables edition.tables field block ≡ is_present (layout_of header.now) block)) }
+            (λ field block. has_in_tables edition.tables field block ≡ is_present (placing_of header.now) block)) }
         ensures stored { IfOk result (λ edition. (volume : _) →
-            AreWritten header.now time volume (shown L.contents leaves.items) →
+            AreWritten Layout.Hz header.now time volume (shown L.contents leaves.items) →
             ForSome (stored_in edition.tables (shown L.contents edition.leaves.items)) (λ stored.
             OfBlocks (shape_of header.now) (λ field block.
             IsWrittenBlock header.now volume field block (stored field block)))) }
         ensures holds { IfOk result (λ edition. (volume : _) (files : List MemFile) →
-            IsVolume (layout_of header.now).sizes (length (points header.now.box)) volume →
-            HasFiles header.now time volume files →
-            shown L.contents leaves.items ≡ known_files (Some files) (step_files header.now volume time) →
+            IsVolume (placing_of header.now).sizes (length (points header.now.box)) volume →
+            HasFiles Layout.Hz header.now time volume files →
+            shown L.contents leaves.items ≡ known_files (Some files) (step_files Layout.Hz header.now volume time) →
             HoldsStored header.now time files (shape_in edition.tables) (has_in_tables edition.tables)
             (stored_in edition.tables (shown L.contents edition.leaves.items))
             (shown L.contents edition.leaves.items)) }
         ensures leaves { IfOk result (λ edition. edition.leaves.items ≡ leaves.items) }
         ensures valid { IfOk result (λ _. IsHeader header.now) }
     {
-        let tables = Tables::of_header(alloc, header)?;
+        let tables = Tables::of_header(alloc, header, Layout::Hz)?;
         Ok(Edition {
             time,
             tables,
@@ -86,6 +88,8 @@ impl<L: Leaf> Edition<L> {
         reader: &mut R,
     ) -> Result<Option<Edition<L>>, LoadFault>
         ensures time { IfOk result (λ loaded. IfSome loaded (λ edition. edition.time ≡ time)) }
+        ensures own_header { IfOk result (λ loaded. IfSome loaded (λ edition.
+            edition.tables.header ≡ header.now)) }
         ensures shape { IfOk result (λ loaded. IfSome loaded (λ edition.
             shape_in edition.tables ≡ shape_of header.now)) }
         ensures holds { IfOk result (λ loaded. IfSome loaded (λ edition. IfSome (B.files bay.old) (λ files.
@@ -110,7 +114,7 @@ impl<L: Leaf> Edition<L> {
             length edition.leaves.items ≤ most_reads header.now time (B.files bay.old))) }
         ensures asked { IfOk result (λ loaded. IfSome loaded (λ edition.
             AskedAtMost (R.asked reader.old) (R.asked reader.new)
-            (length edition.leaves.items * table_bytes (row_count (layout_of header.now))))) }
+            (length edition.leaves.items * table_bytes (row_count (placing_of header.now))))) }
         ensures no_read { result ≡ Ok None → reader.new ≡ reader.old }
         ensures quiet { OnOk result (B.faults bay.new ≡ B.faults bay.old) }
         ensures reader_quiet { OnOk result (R.faults reader.new ≡ R.faults reader.old) }
@@ -141,6 +145,7 @@ impl<L: Leaf> Edition<L> {
         reader: &mut R,
     ) -> Result<Edition<L>, LoadFault>
         ensures time { IfOk result (λ edition. edition.time ≡ time) }
+        ensures own_header { IfOk result (λ edition. edition.tables.header ≡ header.now) }
         ensures shape { IfOk result (λ edition. shape_in edition.tables ≡ shape_of header.now) }
         ensures holds { IfOk result (λ edition. IfSome (B.files bay.old) (λ files.
             HoldsStored header.now time files (shape_in edition.tables) (has_in_tables edition.tables)
@@ -155,7 +160,7 @@ impl<L: Leaf> Edition<L> {
         ensures few { IfOk result (λ edition.
             length edition.leaves.items ≤ most_reads header.now time (B.files bay.old)) }
         ensures asked { IfOk result (λ edition. AskedAtMost (R.asked reader.old) (R.asked reader.new)
-            (length edition.leaves.items * table_bytes (row_count (layout_of header.now)))) }
+            (length edition.leaves.items * table_bytes (row_count (placing_of header.now)))) }
         ensures quiet { OnOk result (B.faults bay.new ≡ B.faults bay.old) }
         ensures reader_quiet { OnOk result (R.faults reader.new ≡ R.faults reader.old) }
         ensures count { NeverFalls (B.faults bay.old) (B.faults bay.new) }
@@ -180,9 +185,10 @@ impl<L: Leaf> Edition<L> {
             tables.push(rows)?;
             leaves.push(leaf)?;
         }
+        let copy = header.copy(alloc)?;
         Ok(Edition {
             time,
-            tables: Tables::of_files(header, lengths, numbers, tables),
+            tables: Tables::of_files(copy, numbers, tables),
             leaves,
         })
     }

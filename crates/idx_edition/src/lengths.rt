@@ -1,5 +1,5 @@
 ghost use Rattle.std.specs.Prelude.{◌≡◌, ◌*◌, ◌≤◌, ◌^◌, IfOk, length};
-ghost use Rattle.idx_layout.specs.OfHeader.{layout_of};
+ghost use Rattle.idx_layout.specs.OfHeader.{placing_of};
 ghost use Rattle.idx_layout.specs.Shape.{block_lengths};
 
 use idx_header::Header;
@@ -8,7 +8,7 @@ use std::alloc::Global;
 
 /// How many bytes a block of each field has, by the number of the field.
 pub fn block_lengths(alloc: Global, header: &Header) -> Result<Vec<u64>, NoMemory>
-    ensures { IfOk result (λ lengths. lengths.items ≡ block_lengths (layout_of header.now)) }
+    ensures { IfOk result (λ lengths. lengths.items ≡ block_lengths (placing_of header.now)) }
 {
     let mut lengths = Vec::new(alloc);
     for field in 0..header.field_count() {

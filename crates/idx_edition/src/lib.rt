@@ -7,6 +7,7 @@ mod laws;
 mod lengths;
 mod load;
 mod load_fault;
+mod newest;
 mod rows;
 mod tables;
 

@@ -7,7 +7,7 @@ ghost use Rattle.idx_table.specs.Table.{first_fault, rows_of, table_bytes};
 ghost use Rattle.idx_header.specs.Header.{IsHeader};
 ghost use Rattle.idx_header.specs.Names.{file_name, step_folder};
 ghost use Rattle.idx_layout.specs.Files.{row_count};
-ghost use Rattle.idx_layout.specs.OfHeader.{layout_of};
+ghost use Rattle.idx_layout.specs.OfHeader.{placing_of};
 ghost use Rattle.idx_layout.specs.Shape.{block_lengths};
 ghost use Rattle.idx_edition.specs.Asked.{AskedAtMost};
 ghost use Rattle.idx_edition.specs.Stored.{fault_of_bytes, fault_of_file};
@@ -70,7 +70,7 @@ pub(crate) fn open_file<B: Bay, R: Reader<B::Leaf>>(
     bay: &mut B,
     reader: &mut R,
 ) -> Result<Option<(Rows, (Bytes, B::Leaf))>, LoadFault>
-    requires { lengths.now.items ≡ block_lengths (layout_of header.now) }
+    requires { lengths.now.items ≡ block_lengths (placing_of header.now) }
     ensures found { IfOk result (λ found. IfSome (B.files bay.old) (λ files.
         option_map (λ found. (found.0, entry_shown B.Leaf.contents found.1)) found
         ≡ table_at header.now time files file)) }
@@ -90,7 +90,7 @@ pub(crate) fn open_file<B: Bay, R: Reader<B::Leaf>>(
     ensures one_read { IfOk result (λ found. IfSome found (λ _.
         R.reads reader.new ≡ (R.reads reader.old + 1) % 2 ^ 64)) }
     ensures asked { IfOk result (λ found. IfSome found (λ _.
-        AskedAtMost (R.asked reader.old) (R.asked reader.new) (table_bytes (row_count (layout_of header.now))))) }
+        AskedAtMost (R.asked reader.old) (R.asked reader.new) (table_bytes (row_count (placing_of header.now))))) }
     ensures quiet { OnOk result (B.faults bay.new ≡ B.faults bay.old) }
     ensures reader_quiet { OnOk result (R.faults reader.new ≡ R.faults reader.old) }
     ensures count { NeverFalls (B.faults bay.old) (B.faults bay.new) }
@@ -148,21 +148,21 @@ fn read_rows<L: Leaf, R: Reader<L>>(
     front: &mut Vec<u8>,
     reader: &mut R,
 ) -> Result<Rows, LoadFault>
-    requires { lengths.now.items ≡ block_lengths (layout_of header.now) }
+    requires { lengths.now.items ≡ block_lengths (placing_of header.now) }
     ensures rows { IfOk result (λ rows. IfSome (L.contents leaf.now) (λ bytes.
-        rows ≡ rows_of bytes (row_count (layout_of header.now)))) }
+        rows ≡ rows_of bytes (row_count (placing_of header.now)))) }
     ensures sound { IfOk result (λ rows. IfSome (L.contents leaf.now) (λ bytes.
-        fault_of_bytes (layout_of header.now) file (Some bytes) ≡ None)) }
+        fault_of_bytes (placing_of header.now) file (Some bytes) ≡ None)) }
     ensures table { IfOk result (IsTable lengths.now.items header.now.blocks_per_file) }
     ensures ends { IfOk result (λ rows. ForSome (L.contents leaf.now) (λ bytes. EndWithin rows (length bytes))) }
     ensures cause { IfErr result (IsReadCause (λ bad. IfSome (L.contents leaf.now) (λ bytes.
-        fault_of_bytes (layout_of header.now) file (Some bytes) ≡ Some bad))
+        fault_of_bytes (placing_of header.now) file (Some bytes) ≡ Some bad))
         (R.faults reader.old) (R.faults reader.new)) }
     ensures few_reads { OnErr result ((R.reads reader.new ≡ R.reads reader.old)
         ⊎ (R.reads reader.new ≡ (R.reads reader.old + 1) % 2 ^ 64)) }
     ensures one_read { OnOk result (R.reads reader.new ≡ (R.reads reader.old + 1) % 2 ^ 64) }
     ensures asked { OnOk result (AskedAtMost (R.asked reader.old) (R.asked reader.new)
-        (table_bytes (row_count (layout_of header.now)))) }
+        (table_bytes (row_count (placing_of header.now)))) }
     ensures quiet { OnOk result (R.faults reader.new ≡ R.faults reader.old) }
     ensures count { NeverFalls (R.faults reader.old) (R.faults reader.new) }
 {

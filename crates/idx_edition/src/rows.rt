@@ -1,10 +1,10 @@
 ghost use Rattle.std.specs.Prelude.{◌≡◌, ◌<◌, IfOk, Some, length, slice_get};
 ghost use Rattle.idx_header.specs.Header.{IsHeader, block_count};
 ghost use Rattle.idx_layout.specs.Files.{rows_of_file};
-ghost use Rattle.idx_layout.specs.OfHeader.{layout_of};
+ghost use Rattle.idx_layout.specs.OfHeader.{placing_of};
 
 use idx_header::Header;
-use idx_layout::file_rows;
+use idx_layout::{Layout, file_rows};
 use idx_outside::NoMemory;
 use idx_table::{Row, Table};
 use std::alloc::Global;
@@ -38,13 +38,18 @@ impl Rows {
     }
 
     /// The rows of a file as the writer lays it out.
-    pub(crate) fn of_file(alloc: Global, header: &Header, file: u64) -> Result<Rows, NoMemory>
+    pub(crate) fn of_file(
+        alloc: Global,
+        header: &Header,
+        layout: Layout,
+        file: u64,
+    ) -> Result<Rows, NoMemory>
         requires exists { file < block_count header.now }
-        ensures rows { IfOk result (λ rows. rows ≡ rows_of_file (layout_of header.now) file) }
+        ensures rows { IfOk result (λ rows. rows ≡ rows_of_file layout (placing_of header.now) file) }
         ensures valid { IsHeader header.now }
     {
         let mut rows = Vec::new(alloc);
-        for row in file_rows(header, file) {
+        for row in file_rows(header, layout, file) {
             rows.push(row)?;
         }
         Ok(Rows { rows })

@@ -7,28 +7,24 @@ use Rattle.idx_header.specs.Header.{HeaderValue, block_count}
 use Rattle.idx_layout.specs.Shape.{shape_of}
 use Rattle.idx_hall.specs.declared.key.Key.{Key}
 use Rattle.idx_hall.specs.Posts.{Lacks, Post, bytes_at, has_at, post_of, table_of}
-use Rattle.idx_hall.specs.Hall.{HallValue, hall, noted}
+use Rattle.idx_hall.specs.Hall.{HallValue, hall}
 use Rattle.idx_cache.specs.Cached.{cached}
+use Rattle.idx_turn.proofs.BeginsLemmas.{begins_at}
 use Rattle.idx_plan.specs.Answer.{answer_of}
-use Rattle.idx_plan.specs.Needed.{needed, needed_keys, plan_fault}
+use Rattle.idx_plan.specs.Needed.{needed, plan_fault}
 use Rattle.idx_plan.specs.declared.ask.Ask.{Ask}
 use Rattle.idx_query.specs.Answered.{IsAnswered, IsDone}
 use Rattle.idx_query.specs.Blocks.{blocks_of, lacking}
 use Rattle.idx_query.specs.Fault.{IsCaused}
-use Rattle.idx_query.specs.Rounds.{missed, missed_in}
 use Rattle.idx_query.specs.Steps.{IsStoreFault}
 use Rattle.idx_query.specs.declared.query_fault.QueryFault.{QueryFault}
 use Rattle.idx_query.specs.declared.query_fault.QueryFault.TheVariants as faults
 use Rattle.idx_query.specs.declared.report.Report.{Report}
 use Rattle.idx_query.proofs.AnswerLemmas.{blocks-key_of, has_field}
 use Rattle.idx_query.proofs.FillLemmas.{lacking-agree}
+use Rattle.idx_query.proofs.FreshLemmas.{fresh-missing}
 use Rattle.idx_query.proofs.PostLemmas.{entry-table, same_answer}
 use Rattle.idx_extract.proofs.StoredLemmas.{needed-exist}
-
--- nothing is cached of any key
-missed-fresh : (keys : List Key) → missed keys (noted keys []) ≡ keys
-missed-fresh [] = refl
-missed-fresh (key ∷ keys) = ap (λ (ks : List Key). key ∷ ks) (missed-fresh keys)
 
 -- the one post of a board
 only_post : (p q : Post) (board : List Post) (n : ℕ) → board ≡ p ∷ [] → slice_get board n ≡ Some q → q ≡ p
@@ -44,9 +40,10 @@ module _ (h : HeaderValue) (ask : Ask) (s : Shape) (time : ℕ) (has : ℕ → �
   there = has_field h s ask.field shaped field
 
   -- the answer is out of the step's blocks
-  pub alone-answer : (before after : List ℕ) (report : Report) → h.block_bits ≤ length h.mask → IsAnswered h ask seen before after report → IfSome stored (λ f. after ≡ before ++ answer_of h ask f)
-  alone-answer before after report within answered =
-      by_stored stored (subst (λ (p : Post). IfSome p.stored (λ t. after ≡ before ++ answer_of h ask (bytes_at t))) (only_post (post_of s time has stored) answered.post seen report.post one answered.is.at) answered.answer)
+  pub alone-answer : (seen_before : List Post) (before after : List ℕ) (report : Report) → h.block_bits ≤ length h.mask → IsAnswered h ask seen_before seen before after report → IfSome stored (λ f. after ≡ before ++ answer_of h ask f)
+  alone-answer seen_before before after report within answered =
+      by_stored stored (subst (λ (p : Post). IfSome p.stored (λ t. after ≡ before ++ answer_of h ask (bytes_at t)))
+      (only_post (post_of s time has stored) answered.post seen report.post one (begins_at report.post answered.post answered.is.at answered.until)) answered.answer)
     where
       by_stored : (o : Option (ℕ → ℕ → List ℕ)) → IfSome (option_map (table_of s) o) (λ t. after ≡ before ++ answer_of h ask (bytes_at t)) → IfSome o (λ f. after ≡ before ++ answer_of h ask f)
       by_stored None known = tt
@@ -55,14 +52,15 @@ module _ (h : HeaderValue) (ask : Ask) (s : Shape) (time : ℕ) (has : ℕ → �
           (λ block exists. entry-table [] s f ask.field block there (subst (λ (x : Shape). block < x.blocks) (sym shaped) exists)))
 
   -- no block was cached
-  pub alone-once : (before after : List ℕ) (mid : Option HallValue) (report : Report) (shape : Shape) (board : List Post) (room : ℕ) → IsAnswered h ask seen before after report → IsDone h ask (hall shape board (cached [] room)) mid report → report.reads + report.absent ≡ length (needed h ask)
-  alone-once before after mid report shape board room answered done =
-      let none : length (missed_in (needed_keys h ask) (hall shape board (cached [] room))) ≡ length (needed_keys h ask) = ap (λ (ks : List Key). length ks) (missed-fresh (needed_keys h ask)) in
-      omega (arith, done.hits, none, answered.all)
+  pub alone-once : (seen_before : List Post) (before after : List ℕ) (mid : Option HallValue) (held_before held_after : ℕ) (report : Report) (shape : Shape) (board : List Post) (room : ℕ)
+      → IsAnswered h ask seen_before seen before after report → IsDone h ask (hall shape board (cached [] room)) mid held_before held_after report → report.reads + report.absent ≡ length (needed h ask)
+  alone-once seen_before before after mid held_before held_after report shape board room answered done =
+      omega (arith, done.hits, ap (λ (ks : List Key). length ks) (fresh-missing h ask shape board room mid held_before held_after report done), answered.all)
 
-  pub alone-absent : (mid : Option HallValue) (report : Report) (board : List Post) (room : ℕ) → board ≡ seen → IsDone h ask (hall s board (cached [] room)) mid report → report.absent ≡ lacking (has ask.field) (needed h ask)
-  alone-absent mid report board room is_board done =
-      done.absent ∙ ap (λ ks. lacking (has_at done.post ask.field) (blocks_of ks)) (missed-fresh (needed_keys h ask))
+  pub alone-absent : (mid : Option HallValue) (held_before held_after : ℕ) (report : Report) (board : List Post) (room : ℕ) → board ≡ seen
+      → IsDone h ask (hall s board (cached [] room)) mid held_before held_after report → report.absent ≡ lacking (has ask.field) (needed h ask)
+  alone-absent mid held_before held_after report board room is_board done =
+      done.absent ∙ ap (λ ks. lacking (has_at done.post ask.field) (blocks_of ks)) (fresh-missing h ask s board room mid held_before held_after report done)
       ∙ ap (lacking (has_at done.post ask.field)) (blocks-key_of ask (needed h ask))
       ∙ lacking-agree (has_at done.post ask.field) (has ask.field) (λ b. b < block_count h)
       (λ b exists. ap (λ (p : Post). has_at p ask.field b) (only_post (post_of s time has stored) done.post board report.post (is_board ∙ one) done.is.at)

@@ -13,7 +13,8 @@ use Rattle.idx_plan.specs.Needed.{needed, plan_fault}
 use Rattle.idx_plan.specs.QuestionValue.{QuestionValue}
 use Rattle.idx_plan.specs.declared.ask.Ask.{Ask}
 use Rattle.idx_edition.specs.Loaded.{IsBayQuiet}
-use Rattle.idx_edition.specs.Reads.{ReadsFiles, most_reads}
+use Rattle.idx_edition.specs.Newest.{IsNewest, ReadsNewest}
+use Rattle.idx_edition.specs.Reads.{most_reads}
 use Rattle.idx_query.specs.Reads.{ReadsAtMost}
 use Rattle.idx_query.specs.Steps.{IsStoreFault}
 use Rattle.idx_query.specs.declared.query_fault.QueryFault.{QueryFault}
@@ -43,38 +44,51 @@ module _ (h : HeaderValue) (q : QuestionValue) (k : Known) where
 
 module _ (h : HeaderValue) (q : QuestionValue) (k : Known) (ask : Ask) (asked : IsAsk h q ask) (sound : plan_fault h ask ≡ None) where
   -- those of the files alone
-  pub few_of_files : (time : ℕ) → time ≡ q.time → ReadsFiles h time k.files k.reads_before k.reads_after → ReadsFewUnder h q k
-  few_of_files time is files =
+  pub few_of_files : (time : ℕ) → time ≡ q.time → ReadsNewest h time k.files k.reads_before k.reads_after → ReadsFewUnder h q k
+  few_of_files time is (inl same) = inl same
+  few_of_files time is (inr (revised, (newest, files))) =
       inr (
         ask,
         (
           asked,
           (
             sound,
-            record {
-              reads = files.reads;
-              few = (let same = ap (λ t. most_reads h t k.files) is in omega (arith, files.few, same));
-              made = files.made;
-            },
+            (
+              revised,
+              (
+                subst (λ t. IsNewest h t k.files revised) is newest,
+                record {
+                  reads = files.reads;
+                  few = (let same = ap (λ t. most_reads revised t k.files) is in omega (arith, files.few, same));
+                  made = files.made;
+                },
+              ),
+            ),
           ),
         ),
       )
 
   -- those of all files, and some of the blocks
-  pub few_of_blocks : (time mid count : ℕ) → time ≡ q.time → count ≤ most_reads h time k.files → MadeReads k.reads_before mid count → ReadsAtMost mid k.reads_after (length (needed h ask)) →
-      ReadsFewUnder h q k
-  few_of_blocks time mid count is few first blocks =
+  pub few_of_blocks : (revised : HeaderValue) (time mid count : ℕ) → time ≡ q.time → IsNewest h time k.files revised → count ≤ most_reads revised time k.files → MadeReads k.reads_before mid count →
+      ReadsAtMost mid k.reads_after (length (needed h ask)) → ReadsFewUnder h q k
+  few_of_blocks revised time mid count is newest few first blocks =
       inr (
         ask,
         (
           asked,
           (
             sound,
-            record {
-              reads = count + blocks.reads;
-              few = (let same = ap (λ t. most_reads h t k.files) is in omega (arith, few, blocks.few, same));
-              made = both_made k.reads_before mid k.reads_after count blocks.reads first blocks.made;
-            },
+            (
+              revised,
+              (
+                subst (λ t. IsNewest h t k.files revised) is newest,
+                record {
+                  reads = count + blocks.reads;
+                  few = (let same = ap (λ t. most_reads revised t k.files) is in omega (arith, few, blocks.few, same));
+                  made = both_made k.reads_before mid k.reads_after count blocks.reads first blocks.made;
+                },
+              ),
+            ),
           ),
         ),
       )

@@ -14,7 +14,8 @@ use Rattle.idx_plan.specs.Needed.{answer_bytes, needed, plan_fault}
 use Rattle.idx_plan.specs.declared.ask.Ask.{Ask}
 use Rattle.idx_edition.specs.Loaded.{Counts, IsBayFault, IsReaderFault, counts}
 use Rattle.idx_edition.specs.Reads.{most_reads}
-use Rattle.idx_edition.specs.Stored.{Stands, first_bad, found_files, has_block, stored_block}
+use Rattle.idx_edition.specs.Newest.{HasBadTable, IsNewest}
+use Rattle.idx_edition.specs.Stored.{IsAbsent, StandsAs, first_bad, found_files, has_block, stored_block}
 use Rattle.idx_edition.specs.declared.load_fault.LoadFault.TheVariants as load_faults
 use Rattle.idx_plan.specs.QuestionValue.{QuestionValue}
 use Rattle.idx_query.specs.Reads.{ReadsAtMost}
@@ -41,19 +42,20 @@ LacksField h q = (i : ℕ) → i < length h.fields → (field_at h.fields i).nam
 abbrev pub Under : Option (List ℕ) → (HeaderValue → Type 0) → Type 0
 Under known P = (h : HeaderValue) × (IfSome known (λ text. header_of text ≡ Ok h) × P h)
 
--- how many reads an answer takes: one of the table of each file of the step that is there, and one of each needed block that the
--- step has
+-- how many reads an answer takes out of the header's own revision of a step: one of the table of each file of it that is there, and
+-- one of each needed block that it has
 abbrev pub reads_for : HeaderValue → ℕ → List MemFile → Ask → ℕ
 reads_for h step files ask =
     length (found_files h step files) + length (filter (has_block h step files ask.field) (needed h ask))
 
--- The step stands, no row of its files is faulty, the bytes are the answer out of the blocks that it stores, and so many reads
--- were made.
+-- The step stands, no row of the files of its newest revision is faulty, the bytes are the answer out of the blocks that it stores,
+-- and so many reads were made.
 pub record IsAnswer (h : HeaderValue) (ask : Ask) (files : List MemFile) (before after : ℕ) (bytes : List ℕ) : Type 0 where
-  pub stands : Stands h ask.time files
-  pub tables : first_bad h ask.time files ≡ None
-  pub answer : bytes ≡ answer_of h ask (stored_block h ask.time files)
-  pub reads : MadeReads before after (reads_for h ask.time files ask)
+  pub revised : HeaderValue
+  pub stands : StandsAs h ask.time files revised
+  pub tables : first_bad revised ask.time files ≡ None
+  pub answer : bytes ≡ answer_of h ask (stored_block revised ask.time files)
+  pub reads : MadeReads before after (reads_for revised ask.time files ask)
 
 -- The question has a plan, the bytes are as many as it says, and where the committed files are known they are the answer.
 pub record IsExtracted (h : HeaderValue) (q : QuestionValue) (files : Option (List MemFile)) (before after : ℕ) (bytes : List ℕ) : Type 0 where
@@ -75,10 +77,9 @@ abbrev pub IsStop : HeaderValue → QuestionValue → Option (List MemFile) → 
 IsStop h q files faults.OtherAxes = length q.region ≢ length h.box
 IsStop h q files faults.UnknownField = (length q.region ≡ length h.box) × LacksField h q
 IsStop h q files (faults.Plan fault) = Asks q h (λ ask. plan_fault h ask ≡ Some fault)
-IsStop h q files faults.NotPublished = HasPlan q h × IfSome files (λ files. ¬ Stands h q.time files)
+IsStop h q files faults.NotPublished = HasPlan q h × IfSome files (IsAbsent h q.time)
 IsStop h q files (faults.BadTable file row kind) =
-    HasPlan q h
-    × IfSome files (λ files. Stands h q.time files × (first_bad h q.time files ≡ Some (load_faults.BadTable file row kind)))
+    HasPlan q h × IfSome files (λ files. HasBadTable h q.time files (load_faults.BadTable file row kind))
 IsStop h q files fault = ⊥
 
 -- What is known of a dataset, its header text and its committed files, and what its bay and the reader counted, before and after.
@@ -122,12 +123,13 @@ IsCause q k faults.NoMemory = Unit {0}
 IsCause q k fault = Under k.header (λ h. IsStop h q k.files fault)
 
 -- No read was made, or the question has a plan under a header that was read, and at most so many reads were made: one of the table
--- of each file of the step that is there, and one of each needed block.
+-- of each file of the step's newest revision that is there, and one of each needed block.
 abbrev pub ReadsFewUnder : HeaderValue → QuestionValue → Known → Type 0
 ReadsFewUnder h q k =
     (k.reads_after ≡ k.reads_before)
     ⊎ Asks q h (λ ask. (plan_fault h ask ≡ None)
-    × ReadsAtMost k.reads_before k.reads_after (most_reads h q.time k.files + length (needed h ask)))
+    × ((revised : HeaderValue) × (IsNewest h q.time k.files revised
+    × ReadsAtMost k.reads_before k.reads_after (most_reads revised q.time k.files + length (needed h ask)))))
 
 -- The same, under a header that is one of the text where that is known.
 abbrev pub ReadsFew : QuestionValue → Known → Type 0

@@ -59,7 +59,7 @@ pub(crate) fn answer_alone<E: Blocks + Drop, R: Reader<E::Leaf>>(
     let Ok(edition) = Arc::new(alloc, edition) else {
         return Err(QueryFault::NoMemory);
     };
-    match hall.publish(edition) {
+    match hall.publish(edition, None) {
         Ok(_) => {}
         Err((_, PublishRefusal::NoMemory)) => return Err(QueryFault::NoMemory),
         Err((_, PublishRefusal::AlreadyPublished { .. })) => unreachable!(),

@@ -26,7 +26,7 @@ pub enum ExtractFault {
     /// The question has no plan. It is not for want of memory.
     #[error("the question has no plan")]
     Plan(PlanFault),
-    /// The header lacks the step, or the step does not stand.
+    /// The header lacks the step, or no revision of it stands.
     #[error("the step does not stand")]
     NotPublished,
     /// A row of the table of a file is faulty: the first one, in the order of files and then of rows.

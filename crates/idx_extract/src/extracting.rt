@@ -11,10 +11,10 @@ use idx_plan::Question;
 use std::alloc::Global;
 
 /// The samples that a question asks of a dataset, in row-major order, axis 0 fastest: those of a field of a step at the
-/// region's points whose level is one of those that are asked for. It reads the table of each file of the step that is
-/// there, and then exactly the blocks that hold a sample of the answer, each once, by one read each. Its cache keeps as
-/// many blocks as are wished for (1 to 65,536), but no more than have 2^31 bytes. It changes nothing. A refusal comes after
-/// no more reads than the answer would take at most.
+/// region's points whose level is one of those that are asked for, out of the newest revision of the step. It reads the
+/// table of each file of that revision that is there, and then exactly the blocks that hold a sample of the answer, each
+/// once, by one read each. Its cache keeps as many blocks as are wished for (1 to 65,536), but no more than have 2^31
+/// bytes. It changes nothing. A refusal comes after no more reads than the answer would take at most.
 ///
 /// The first refusal ends it, in this order: the header; the number of axes, the name of the field, the region, the levels,
 /// the bytes of the answer; whether the step stands; the tables of its files. Nothing is read before the step is known to

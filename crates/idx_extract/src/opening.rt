@@ -3,8 +3,8 @@ ghost use Rattle.idx_outside.specs.Cause.{MadeReads, NeverFalls};
 ghost use Rattle.idx_outside.specs.Files.{StillAdmits, shown};
 ghost use Rattle.idx_layout.specs.Shape.{shape_of};
 ghost use Rattle.idx_edition.specs.Loaded.{HoldsStored};
-ghost use Rattle.idx_edition.specs.Reads.{ReadsFiles, most_reads};
-ghost use Rattle.idx_edition.specs.Stored.{Stands};
+ghost use Rattle.idx_edition.specs.Newest.{IsNewest, ReadsNewest};
+ghost use Rattle.idx_edition.specs.Reads.{most_reads};
 ghost use Rattle.idx_edition.specs.Tables.{has_in_tables, shape_in, stored_in};
 ghost use Rattle.idx_plan.specs.QuestionValue.{QuestionValue};
 ghost use Rattle.idx_extract.specs.Extract.{HasPlan, IsCauseUnder, IsUnread, known};
@@ -15,7 +15,7 @@ use idx_header::Header;
 use idx_outside::{Bay, Reader};
 use std::alloc::Global;
 
-/// Opens a step: reads the tables of its files.
+/// Opens the newest revision of a step: reads the tables of its files.
 pub(crate) fn open_step<B: Bay, R: Reader<B::Leaf>>(
     alloc: Global,
     header: &Header,
@@ -26,18 +26,19 @@ pub(crate) fn open_step<B: Bay, R: Reader<B::Leaf>>(
     ensures time { IfOk result (λ edition. edition.time ≡ time) }
     ensures shape { IfOk result (λ edition. shape_in edition.tables ≡ shape_of header.now) }
     ensures holds { IfOk result (λ edition. IfSome (B.files bay.old) (λ files.
-        HoldsStored header.now time files (shape_in edition.tables) (has_in_tables edition.tables)
+        HoldsStored edition.tables.header time files (shape_in edition.tables) (has_in_tables edition.tables)
         (stored_in edition.tables (shown B.Leaf.contents edition.leaves.items))
         (shown B.Leaf.contents edition.leaves.items))) }
-    ensures stands { OnOk result (IfSome (B.files bay.old) (Stands header.now time)) }
+    ensures newest { IfOk result (λ edition.
+        IsNewest header.now time (B.files bay.old) edition.tables.header) }
     ensures reads { IfOk result (λ edition.
         MadeReads (R.reads reader.old) (R.reads reader.new) (length edition.leaves.items)) }
     ensures few { IfOk result (λ edition.
-        length edition.leaves.items ≤ most_reads header.now time (B.files bay.old)) }
+        length edition.leaves.items ≤ most_reads edition.tables.header time (B.files bay.old)) }
     ensures cause { (q : QuestionValue) → q.time ≡ time → HasPlan q header.now → IfErr result (IsCauseUnder header.now q
         (known B.header B.files B.faults B.failed R.faults R.reads bay.old bay.new reader.old reader.new)) }
     ensures few_reads { OnErr result
-        (ReadsFiles header.now time (B.files bay.old) (R.reads reader.old) (R.reads reader.new)) }
+        (ReadsNewest header.now time (B.files bay.old) (R.reads reader.old) (R.reads reader.new)) }
     ensures failed { result ≢ Err ExtractFault.StoreFault → B.failed bay.new ≡ B.failed bay.old }
     ensures unread { IfErr result (λ fault. IsUnread fault → reader.new ≡ reader.old) }
     ensures bay_answered { B.faults bay.old < B.faults bay.new → result ≡ Err ExtractFault.StoreFault }
@@ -53,7 +54,7 @@ pub(crate) fn open_step<B: Bay, R: Reader<B::Leaf>>(
     ensures begun { B.begun bay.new ≡ B.begun bay.old }
     ensures changes { B.changes bay.new ≡ B.changes bay.old }
 {
-    match Edition::load(alloc, header, time, bay, reader)? {
+    match Edition::load_newest(alloc, header, time, bay, reader)? {
         Some(edition) => Ok(edition),
         None => Err(ExtractFault::NotPublished),
     }

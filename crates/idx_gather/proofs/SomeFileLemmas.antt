@@ -13,8 +13,9 @@ use Rattle.idx_geom.specs.Region.{upper_ends}
 use Rattle.idx_geom.proofs.LiesInLemmas.{LiesIn-upper_ends}
 use Rattle.idx_hz.specs.Address.{hz_address}
 use Rattle.idx_header.specs.Header.{HeaderValue, IsHeader}
-use Rattle.idx_layout.specs.Layout.{Layout, block_count, file_numbers, file_of, is_present}
-use Rattle.idx_layout.specs.OfHeader.{layout_of}
+use Rattle.idx_layout.specs.declared.layout.Layout.{Layout}
+use Rattle.idx_layout.specs.Placing.{Placing, block_count, file_numbers, file_of, is_present}
+use Rattle.idx_layout.specs.OfHeader.{placing_of}
 use Rattle.idx_layout.specs.Step.{step_file, step_files}
 use Rattle.idx_layout.proofs.ListLemmas.{counted, list_any-slice_get}
 use Rattle.idx_layout.proofs.PresentLemmas.{absent-past, any_point}
@@ -28,21 +29,21 @@ any_in_range test n k below passes =
     passes
 
 -- a block that is present exists
-present_exists : (h : HeaderValue) (block : ℕ) → IsHeader h → is_present (layout_of h) block ≡ true → block < block_count (layout_of h)
+present_exists : (h : HeaderValue) (block : ℕ) → IsHeader h → is_present (placing_of h) block ≡ true → block < block_count (placing_of h)
 present_exists h block valid here =
     lt_of_not-le (λ past. let wrong : false ≡ true = sym (absent-past h.mask h.box h.block_bits block valid.bits_within past) ∙ here in absurd (cc))
 
 -- the block of the address of the box's last point is present
-last_present : (h : HeaderValue) → IsHeader h → is_present (layout_of h) (hz_address h.mask (upper_ends h.box) / 2 ^ h.block_bits) ≡ true
+last_present : (h : HeaderValue) → IsHeader h → is_present (placing_of h) (hz_address h.mask (upper_ends h.box) / 2 ^ h.block_bits) ≡ true
 last_present h valid =
     let block : ℕ = hz_address h.mask (upper_ends h.box) / 2 ^ h.block_bits in
     any_point h.box (λ p. hz_address h.mask p / 2 ^ h.block_bits == block) (upper_ends h.box)
     (LiesIn-upper_ends h.box valid.region.ordered) (eq-eqb block block refl)
 
 -- some file has a present block
-pub some_file : (h : HeaderValue) → IsHeader h → 0 < length (file_numbers (layout_of h))
+pub some_file : (h : HeaderValue) → IsHeader h → 0 < length (file_numbers (placing_of h))
 some_file h valid =
-    let l : Layout = layout_of h in
+    let l : Placing = placing_of h in
     let block : ℕ = hz_address h.mask (upper_ends h.box) / 2 ^ h.block_bits in
     let here = last_present h valid in
     let exists = present_exists h block valid here in
@@ -58,9 +59,9 @@ some_file h valid =
     ltb-true 0 (length (file_numbers l)) many
 
 -- so a step has a file, whatever its volume
-pub some_step_file : (h : HeaderValue) (volume : List (List (List ℕ))) (step : ℕ) → IsHeader h → 0 < length (step_files h volume step)
-some_step_file h volume step valid =
-    subst (λ (n : ℕ). 0 < n) (sym (length-map (file_numbers (layout_of h)) (step_file h volume step))) (some_file h valid)
+pub some_step_file : (layout : Layout) (h : HeaderValue) (volume : List (List (List ℕ))) (step : ℕ) → IsHeader h → 0 < length (step_files layout h volume step)
+some_step_file layout h volume step valid =
+    subst (λ (n : ℕ). 0 < n) (sym (length-map (file_numbers (placing_of h)) (step_file layout h volume step))) (some_file h valid)
 
 -- and so are the leaves that hold its files
 pub some_leaf : {L : Type 0} (contents : L → Option (List ℕ)) (known : Option (List MemFile)) (leaves : List (List ℕ × L)) (files : List (List ℕ × List ℕ)) →

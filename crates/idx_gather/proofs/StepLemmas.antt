@@ -12,8 +12,9 @@ use Rattle.idx_names.specs.Path as paths
 use Rattle.idx_header.specs.Header.{HeaderValue, block_count}
 use Rattle.idx_header.specs.Names.{file_name, step_folder, name_with}
 use Rattle.idx_header.specs.declared.steps.Steps.{Steps}
-use Rattle.idx_layout.specs.Layout.{file_numbers}
-use Rattle.idx_layout.specs.OfHeader.{layout_of}
+use Rattle.idx_layout.specs.declared.layout.Layout.{Layout}
+use Rattle.idx_layout.specs.Placing.{file_numbers}
+use Rattle.idx_layout.specs.OfHeader.{placing_of}
 use Rattle.idx_layout.specs.Step.{step_file, step_files}
 
 -- numbers of a range lie below its end
@@ -29,7 +30,7 @@ below_end test a (suc n) end at = by_test (test a) (below_end test (a + 1) n end
     by_test false more = more
 
 -- the number of each file is that of a block
-pub files_exist : (h : HeaderValue) → AllByRecursion (λ file. file < block_count h) (file_numbers (layout_of h))
+pub files_exist : (h : HeaderValue) → AllByRecursion (λ file. file < block_count h) (file_numbers (placing_of h))
 files_exist h = below_end _ 0 (block_count h) (block_count h) (omega arith)
 
 module _ {L : Type 0} (contents : L → Option (List ℕ)) (known : Option (List MemFile)) where
@@ -57,18 +58,18 @@ pub name_lies : (h : HeaderValue) (step file : ℕ) (folder : List ℕ) → step
 unfolding file_name step_folder paths.file_path
 name_lies h step file folder stands = by_steps h.steps stands
   where
-    by_steps : (steps : Option Steps) → option_map (λ (s : Steps). paths.step_folder h.template s.template step) steps ≡ Some folder → LiesIn folder (name_with h steps step file)
+    by_steps : (steps : Option Steps) → option_map (λ (s : Steps). paths.step_folder h.template s.template step h.revision) steps ≡ Some folder → LiesIn folder (name_with h steps step file)
     by_steps None e = let wrong : ◌≡◌ {A = Option (List ℕ)} None (Some folder) = e in absurd (cc)
     by_steps (Some steps) e =
-        let same : paths.step_folder h.template steps.template step ≡ folder = cc in
+        let same : paths.step_folder h.template steps.template step h.revision ≡ folder = cc in
         subst (λ f. LiesIn f (name_with h (Some steps) step file)) same
-        (take-append-add (paths.step_folder h.template steps.template step) _ 1)
+        (take-append-add (paths.step_folder h.template steps.template step h.revision) _ 1)
 
 -- all files of a step lie in its folder
-pub files_lie : (h : HeaderValue) (volume : List (List (List ℕ))) (step : ℕ) (folder : List ℕ) → step_folder h step ≡ Some folder → AllLieIn folder (step_files h volume step)
-files_lie h volume step folder stands = All-from_recursion (λ (entry : List ℕ × List ℕ). LiesIn folder entry.0) (step_files h volume step) (over (file_numbers (layout_of h)))
+pub files_lie : (layout : Layout) (h : HeaderValue) (volume : List (List (List ℕ))) (step : ℕ) (folder : List ℕ) → step_folder h step ≡ Some folder → AllLieIn folder (step_files layout h volume step)
+files_lie layout h volume step folder stands = All-from_recursion (λ (entry : List ℕ × List ℕ). LiesIn folder entry.0) (step_files layout h volume step) (over (file_numbers (placing_of h)))
   where
-    over : (numbers : List ℕ) → AllByRecursion (λ (entry : List ℕ × List ℕ). LiesIn folder entry.0) (map (step_file h volume step) numbers)
+    over : (numbers : List ℕ) → AllByRecursion (λ (entry : List ℕ × List ℕ). LiesIn folder entry.0) (map (step_file layout h volume step) numbers)
     over [] = tt
     over (file ∷ numbers) = (name_lies h step file folder stands, over numbers)
 
@@ -77,6 +78,6 @@ pub folder_exists : (h : HeaderValue) (step : ℕ) → IsSome h.steps → step_f
 unfolding step_folder
 folder_exists h step timed none = by_steps h.steps timed none
   where
-    by_steps : (steps : Option Steps) → IsSome steps → option_map (λ (s : Steps). paths.step_folder h.template s.template step) steps ≡ None → ⊥
+    by_steps : (steps : Option Steps) → IsSome steps → option_map (λ (s : Steps). paths.step_folder h.template s.template step h.revision) steps ≡ None → ⊥
     by_steps None some e = let wrong : false ≡ true = some in cc
-    by_steps (Some steps) some e = let wrong : ◌≡◌ {A = Option (List ℕ)} (Some (paths.step_folder h.template steps.template step)) None = e in cc
+    by_steps (Some steps) some e = let wrong : ◌≡◌ {A = Option (List ℕ)} (Some (paths.step_folder h.template steps.template step h.revision)) None = e in cc

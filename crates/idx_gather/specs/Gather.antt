@@ -1,6 +1,6 @@
 -- What gathering a step promises, by its header, what is known of the raw volume and of the committed files, and the counts
 -- of faults.
-use Rattle.std.specs.Prelude.{◌≡◌, ◌≢◌, ◌⊎◌, ℕ, Bool, List, drop, length, Option, Some, None, IfSome, IsSome, IsSomeAnd, Result, Ok, Err}
+use Rattle.std.specs.Prelude.{◌≡◌, ◌≢◌, ◌⊎◌, ℕ, ◌^◌, nat_lt, if◌then◌else◌, Bool, List, drop, length, Option, Some, None, IfSome, IsSome, IsSomeAnd, Result, Ok, Err}
 use Rattle.std.specs.Option.{ForSome}
 use Rattle.idx_outside.specs.Cause.{AskedFor, Rose}
 use Rattle.idx_outside.specs.Files.{added, file_at, files_of}
@@ -10,8 +10,10 @@ use Rattle.idx_outside.specs.declared.bay_call.BayCall.TheVariants as calls
 use Rattle.idx_outside.specs.declared.mem_file.MemFile.{MemFile}
 use Rattle.idx_header.specs.Header.{HeaderValue, HasTime, volume_bytes}
 use Rattle.idx_header.specs.Names.{file_name, step_folder}
-use Rattle.idx_layout.specs.Layout.{is_present}
-use Rattle.idx_layout.specs.OfHeader.{layout_of}
+use Rattle.idx_layout.specs.declared.layout.Layout.{Layout}
+use Rattle.idx_layout.specs.declared.layout.Layout.TheVariants.{Hz}
+use Rattle.idx_layout.specs.Placing.{is_present}
+use Rattle.idx_layout.specs.OfHeader.{placing_of}
 use Rattle.idx_layout.specs.Shape.{shape_of}
 use Rattle.idx_layout.specs.Step.{step_files, volume_of_raw}
 use Rattle.idx_edition.specs.Loaded.{HoldsStored, IsWrittenBlock, OfBlocks}
@@ -23,14 +25,23 @@ pub record HasFolder (h : HeaderValue) (step : ℕ) : Type 0 where
   pub timed : IsSome h.steps
   pub has : HasTime h step
 
+-- a step that is too large to write: how many bytes its samples take, where they are more than 2^30
+abbrev pub too_large : HeaderValue → Option ℕ
+too_large h = if nat_lt (2 ^ 30) (volume_bytes h) then Some (volume_bytes h) else None
+
 -- a raw volume whose bytes are known has as many as the samples of the box take
 abbrev pub HasVolume : HeaderValue → Option (List ℕ) → Type 0
 HasVolume h raw = IfSome raw (λ bytes. length bytes ≡ volume_bytes h)
 
--- The committed files are those from before with the files of the step of this raw volume behind them, under their names.
+-- The committed files are those from before with the files of the step of this raw volume, in a layout, behind them, under their
+-- names.
+abbrev pub StepAddedAs : Layout → HeaderValue → ℕ → Option (List MemFile) → Option (List MemFile) → List ℕ → Type 0
+StepAddedAs layout h step old new raw =
+    IfSome (step_folder h step) (λ folder. new ≡ added old (files_of folder (step_files layout h (volume_of_raw h raw) step)))
+
+-- The same in hierarchical order.
 abbrev pub StepAdded : HeaderValue → ℕ → Option (List MemFile) → Option (List MemFile) → List ℕ → Type 0
-StepAdded h step old new raw =
-    IfSome (step_folder h step) (λ folder. new ≡ added old (files_of folder (step_files h (volume_of_raw h raw) step)))
+StepAdded = StepAddedAs Hz
 
 -- The same of some bytes, as many as a volume has; they are those of the raw volume where these are known.
 abbrev pub SomeStepAdded : HeaderValue → ℕ → Option (List ℕ) → Option (List MemFile) → Option (List MemFile) → Type 0
@@ -94,7 +105,7 @@ LeavesFailed old new before after result = after ≡ before
 
 -- an edition has exactly the present blocks
 abbrev pub HasPresent : HeaderValue → (ℕ → ℕ → Bool) → Type 0
-HasPresent h has = OfBlocks (shape_of h) (λ field block. has field block ≡ is_present (layout_of h) block)
+HasPresent h has = OfBlocks (shape_of h) (λ field block. has field block ≡ is_present (placing_of h) block)
 
 -- where the bytes of its blocks are known, they are those of the volume with this raw input
 abbrev pub HasBlocksOf : HeaderValue → List ℕ → Option (ℕ → ℕ → List ℕ) → Type 0

@@ -5,23 +5,24 @@ ghost use Rattle.idx_outside.specs.Contents.{appended};
 ghost use Rattle.idx_geom.specs.Region.{points};
 ghost use Rattle.idx_geom.specs.Volume.{samples_of};
 ghost use Rattle.idx_header.specs.Header.{IsHeader, block_count, sample_bytes_of, volume_bytes};
-ghost use Rattle.idx_layout.specs.Layout.{block_of_samples, present_blocks};
-ghost use Rattle.idx_layout.specs.Files.{file_bytes};
-ghost use Rattle.idx_layout.specs.OfHeader.{layout_of};
+ghost use Rattle.idx_layout.specs.Placing.{present_blocks};
+ghost use Rattle.idx_layout.specs.Files.{block_in_file, file_bytes};
+ghost use Rattle.idx_layout.specs.OfHeader.{placing_of};
 ghost use Rattle.idx_layout.specs.Step.{volume_of_raw};
 
 use crate::table::push_table;
 use idx_block::fill_block;
 use idx_header::Header;
-use idx_layout::file_blocks;
+use idx_layout::{Layout, file_blocks};
 use idx_outside::{BayFault, Draft, NoMemory};
 
 /// A piece is written once it has so many bytes. They fit a processor's cache.
 const PIECE: usize = 1 << 18;
 
-/// Writes what a file holds behind what a draft has so far, by way of a buffer.
+/// Writes what a file in a layout holds behind what a draft has so far, by way of a buffer.
 pub(crate) fn write_content<D: Draft>(
     header: &Header,
+    layout: Layout,
     raw: &[u8],
     file: u64,
     buffer: &mut Vec<u8>,
@@ -30,19 +31,19 @@ pub(crate) fn write_content<D: Draft>(
     requires exists { file < block_count header.now }
     requires raw { length raw.now ≡ volume_bytes header.now }
     ensures written { OnOk result (D.contents draft.new ≡ appended (D.contents draft.old)
-        (file_bytes (layout_of header.now) (volume_of_raw header.now raw.now) file)) }
+        (file_bytes layout (placing_of header.now) (volume_of_raw header.now raw.now) file)) }
     ensures count { NeverFalls (D.faults draft.old) (D.faults draft.new) }
     ensures quiet { OnOk result (D.faults draft.new ≡ D.faults draft.old) }
     ensures no_memory { result ≡ Err BayFault.NoMemory → D.faults draft.new ≡ D.faults draft.old }
     ensures outage { result ≡ Err BayFault.Outage → Rose (D.faults draft.old) (D.faults draft.new) }
 {
     buffer.clear();
-    push_table(header, file, buffer)?;
+    push_table(header, layout, file, buffer)?;
     let points = header.region().count();
     let mut rest = raw;
     for field in 0..header.field_count() {
         let (samples, behind) = rest.split_at((points * header.sample_bytes(field)) as usize);
-        write_field(header, field, samples, file, buffer, draft)?;
+        write_field(header, layout, field, samples, file, buffer, draft)?;
         rest = behind;
     }
     draft.append(buffer)?;
@@ -52,6 +53,7 @@ pub(crate) fn write_content<D: Draft>(
 /// Writes the blocks of a field of a file, whose samples these are, behind what a draft and the buffer have so far.
 fn write_field<D: Draft>(
     header: &Header,
+    layout: Layout,
     field: u32,
     samples: &[u8],
     file: u64,
@@ -63,24 +65,25 @@ fn write_field<D: Draft>(
     requires samples { length samples.now ≡ sample_bytes_of header.now field * length (points header.now.box) }
     ensures written { OnOk result (appended (D.contents draft.new) buffer.new.items ≡
         appended (appended (D.contents draft.old) buffer.old.items)
-        (flat_map (block_of_samples (layout_of header.now) (sample_bytes_of header.now field)
+        (flat_map (block_in_file layout (placing_of header.now) (sample_bytes_of header.now field)
         (samples_of (sample_bytes_of header.now field) (length (points header.now.box)) samples.now))
-        (present_blocks (layout_of header.now) file))) }
+        (present_blocks (placing_of header.now) file))) }
     ensures count { NeverFalls (D.faults draft.old) (D.faults draft.new) }
     ensures quiet { OnOk result (D.faults draft.new ≡ D.faults draft.old) }
     ensures no_memory { result ≡ Err BayFault.NoMemory → D.faults draft.new ≡ D.faults draft.old }
     ensures outage { result ≡ Err BayFault.Outage → Rose (D.faults draft.old) (D.faults draft.new) }
 {
     for block in file_blocks(header, file) {
-        push_block(header, field, samples, block, buffer)?;
+        push_block(header, layout, field, samples, block, buffer)?;
         write_piece(buffer, draft)?;
     }
     Ok(())
 }
 
-/// Appends a block of a field to the buffer.
+/// Appends a block of a field to the buffer, in a layout.
 fn push_block(
     header: &Header,
+    layout: Layout,
     field: u32,
     samples: &[u8],
     block: u64,
@@ -90,12 +93,14 @@ fn push_block(
     requires exists { block < block_count header.now }
     requires samples { length samples.now ≡ sample_bytes_of header.now field * length (points header.now.box) }
     ensures { OnOk result (buffer.new.items ≡ buffer.old.items ++
-        block_of_samples (layout_of header.now) (sample_bytes_of header.now field)
+        block_in_file layout (placing_of header.now) (sample_bytes_of header.now field)
         (samples_of (sample_bytes_of header.now field) (length (points header.now.box)) samples.now) block) }
 {
     let used = buffer.len();
     buffer.resize(used + header.block_bytes(field) as usize, 0)?;
-    fill_block(header, field, samples, block, &mut buffer[used..]);
+    match layout {
+        Layout::Hz => fill_block(header, field, samples, block, &mut buffer[used..]),
+    }
     Ok(())
 }
 

@@ -12,12 +12,14 @@ use crate::step::write_step;
 use crate::volume::read_volume;
 use idx_edition::Edition;
 use idx_header::Header;
+use idx_layout::Layout;
 use idx_outside::{Bay, BayFault, Blocks, Gate, Source};
 use std::alloc::Global;
 
 /// Writes a step from a raw volume and makes it stand in the bay, in the folder that was last begun: exactly its files,
-/// byte for byte as the format defines them. The first raw volume alone is read, once and whole, before the first file is
-/// begun. The answer is the step as blocks, out of the files that now stand; making it costs no read.
+/// byte for byte as the format defines them, with the samples of each block in hierarchical order. The first raw volume
+/// alone is read, once and whole, before the first file is begun. The answer is the step as blocks, out of the files that
+/// now stand; making it costs no read.
 ///
 /// After a refusal no file stands that did not before. A store's fault may come of the commit itself: then the step stands
 /// whole or not at all.
@@ -77,7 +79,7 @@ pub fn gather<V: Source, B: Bay, G: Gate>(
     ensures count { NeverFalls (B.faults bay.old) (B.faults bay.new) }
 {
     let raw = read_volume(alloc, header, &mut raws[0])?;
-    match write_step(alloc, header, step, &raw, bay) {
+    match write_step(alloc, header, Layout::Hz, step, &raw, bay) {
         Ok(edition) => Ok(edition),
         Err(BayFault::Outage) => Err(GatherFault::StoreFault {
             faults: bay.faults(),

@@ -1,11 +1,12 @@
--- When two keys are the same.
+-- When two keys are the same, and two names of blocks.
 use Rattle.std.proofs.Common.{◌≡◌, Bool, true, false, ◌&&◌, nat_eq, refl, ap, ◌∙◌}
 use Rattle.std.proofs.lemmas.Bool.{eqb-true, eq-eqb, false≢true}
 use Rattle.std.proofs.lemmas.Cmp.{nat_eq_equiv}
 use Rattle.std.specs.Cmp.{IsEquivalence}
 use Rattle.std.specs.Cmp.Derive.{both_true}
-use Rattle.idx_hall.specs.Hall.{key_eq}
+use Rattle.idx_hall.specs.Hall.{key_eq, name_eq}
 use Rattle.idx_hall.specs.declared.key.Key.{Key}
+use Rattle.idx_hall.specs.declared.block_name.BlockName.{BlockName}
 
 both : (s t : Bool) → (s && t) ≡ true → (s ≡ true) × (t ≡ true)
 both true true h = (refl, refl)
@@ -34,4 +35,22 @@ key_laws = record {
       ∙ ap (λ s. nat_eq y.time x.time && (s && nat_eq x.block y.block)) (nat_eq_equiv.symm x.field y.field)
       ∙ ap (λ s. nat_eq y.time x.time && (nat_eq y.field x.field && s)) (nat_eq_equiv.symm x.block y.block);
   congr = λ x y z same. ap (λ k. key_eq k z) (key_eq-same x y same);
+}
+
+-- names that are taken for one are one
+pub name_eq-same : (a b : BlockName) → name_eq a b ≡ true → a ≡ b
+name_eq-same a b h =
+    let parts = both (nat_eq a.post b.post) (key_eq a.key b.key) h in
+    let post : a.post ≡ b.post = eqb-true a.post b.post parts.0 in
+    let key : a.key ≡ b.key = key_eq-same a.key b.key parts.1 in
+    ap (λ p. record { post = p; key = a.key }) post ∙ ap (λ k. record { post = b.post; key = k }) key
+
+pub name_eq-refl : (a : BlockName) → name_eq a a ≡ true
+name_eq-refl a = both_true (eq-eqb a.post a.post refl) (key_eq-refl a.key)
+
+pub name_laws : IsEquivalence name_eq
+name_laws = record {
+  refl = name_eq-refl;
+  symm = λ x y. ap (λ s. s && key_eq x.key y.key) (nat_eq_equiv.symm x.post y.post) ∙ ap (λ s. nat_eq y.post x.post && s) (key_laws.symm x.key y.key);
+  congr = λ x y z same. ap (λ n. name_eq n z) (name_eq-same x y same);
 }

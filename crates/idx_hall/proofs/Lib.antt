@@ -1,2 +1,4 @@
 pub mod KeyLemmas
+pub mod NewestLemmas
+pub mod DropLemmas
 pub mod HallLemmas

@@ -1,18 +1,22 @@
 -- What the calls of a hall are given, and what they answer.
-use Rattle.std.specs.Prelude.{◌≡◌, ℕ, Bool, List, map, Option, Some, slice_get}
+use Rattle.std.specs.Prelude.{◌≡◌, ◌≢◌, ℕ, Bool, List, map, Option, Some, IfSome, slice_get}
 use Rattle.std.specs.Arc.{arc_value}
 use Rattle.std.specs.declared.sync.Arc.{Arc}
 use Rattle.idx_outside.specs.Shape.{Shape}
-use Rattle.idx_hall.specs.Posts.{Post, IsPostOf, Lacks, post_of}
+use Rattle.idx_hall.specs.Posts.{Post, IsPostOf, newest, post_of}
 use Rattle.idx_hall.specs.Hall.{HallValue, IsBlockOf}
 use Rattle.idx_hall.specs.declared.key.Key.{Key}
 use Rattle.idx_hall.specs.declared.publish_refusal.PublishRefusal.{PublishRefusal}
 use Rattle.idx_hall.specs.declared.publish_refusal.PublishRefusal.TheVariants.{AlreadyPublished, NoMemory}
 
--- what each refusal of a step of this time says of the board
-abbrev pub IsRefused : List Post → ℕ → PublishRefusal → Type 0
-IsRefused board time (AlreadyPublished number) = (post : Post) × IsPostOf board time number post
-IsRefused board time NoMemory = Lacks time board
+-- what each refusal of a step of this time, which is to follow this post, says of the board
+abbrev pub IsRefused : List Post → ℕ → Option ℕ → PublishRefusal → Type 0
+IsRefused board time after (AlreadyPublished number) = (newest board time ≡ Some number) × (after ≢ Some number)
+IsRefused board time after NoMemory = newest board time ≡ after
+
+-- the post that a step of this time is to follow, if there is one, is of that time
+abbrev pub IsAfter : List Post → ℕ → Option ℕ → Type 0
+IsAfter board time after = IfSome after (λ number. (post : Post) × IsPostOf board time number post)
 
 -- the step is the post of this number
 pub record IsStepOf {E : Type 0} (time : E → ℕ) (shape : E → Shape) (has : E → ℕ → ℕ → Bool) (stored : E → Option (ℕ → ℕ → List ℕ))

@@ -1,7 +1,7 @@
 -- The published steps of a dataset, as plain values.
-use Rattle.std.specs.Prelude.{◌≡◌, ◌≢◌, ℕ, Bool, false, List, [], length, map, All, get_or, slice_get, Option, Some}
+use Rattle.std.specs.Prelude.{◌≡◌, ◌≢◌, ℕ, ◌+◌, Bool, true, false, nat_eq, List, [], ◌∷◌, length, map, All, get_or, slice_get, Option, Some, None}
 use Rattle.std.specs.List.{range_with_len}
-use Rattle.std.specs.Option.{option_map}
+use Rattle.std.specs.Option.{option_map, option_map_or}
 use Rattle.idx_outside.specs.Shape.{Shape}
 
 -- what a function gives for each field, and for each block of the field
@@ -35,12 +35,29 @@ bytes_at = entry_at []
 abbrev pub Lacks : ℕ → List Post → Type 0
 Lacks time board = All (λ post. post.time ≢ time) board
 
--- the post of this number is the step's
+-- the post of this number is of the step
 pub record IsPostOf (board : List Post) (step number : ℕ) (post : Post) : Type 0 where
   pub at : slice_get board number ≡ Some post
   pub time : post.time ≡ step
 
--- no two posts have one time
-abbrev pub HasDistinctTimes : List Post → Type 0
-HasDistinctTimes board = (m n : ℕ) (p q : Post) →
-    slice_get board m ≡ Some p → slice_get board n ≡ Some q → p.time ≡ q.time → m ≡ n
+-- the number behind the first post, where the rest has one; else that of the first post, where it will do
+abbrev pub behind_first : Bool → Option ℕ → Option ℕ
+behind_first will_do (Some number) = Some (number + 1)
+behind_first true None = Some 0
+behind_first false None = None
+
+-- the number of the newest post of a time: the greatest place of a post that has it
+abbrev pub newest : List Post → ℕ → Option ℕ
+newest [] time = None
+newest (post ∷ board) time = behind_first (nat_eq post.time time) (newest board time)
+
+-- the post of this number is the newest of the step
+pub record IsNewestOf (board : List Post) (step number : ℕ) (post : Post) : Type 0 where
+  pub at : slice_get board number ≡ Some post
+  pub time : post.time ≡ step
+  pub newest_is : newest board step ≡ Some number
+
+-- the post of this number is there, and no later one has its time
+abbrev pub is_newest : List Post → ℕ → Bool
+is_newest board number =
+    option_map_or (λ post. option_map_or (nat_eq number) (newest board post.time) false) (slice_get board number) false

@@ -1,17 +1,18 @@
 //! The published steps, in the order of their numbers.
-ghost use Rattle.std.specs.Prelude.{◌≡◌, ◌≢◌, ◌++◌, ◌∷◌, [], ℕ, Some, IfErr, IfOk, IfSome, IfNone, OnErr, OnOk, length, slice_get};
+ghost use Rattle.std.specs.Prelude.{◌≡◌, ◌≢◌, ◌<◌, ◌++◌, ◌∷◌, [], ℕ, Some, IfErr, IfOk, IfSome, IfNone, OnErr, OnOk, length, slice_get};
 ghost use Rattle.std.specs.Arc.{arc_value};
 
 use crate::published::Published;
 use idx_outside::Blocks;
 use std::sync::Arc;
 
-/// The number of the step of a time, if it is there.
-pub(crate) fn number_of<E: Blocks + Drop>(board: &[Published<E>], time: u64) -> Option<usize>
+/// The number of the newest step of a time, if there is one.
+pub(crate) fn newest_of<E: Blocks + Drop>(board: &[Published<E>], time: u64) -> Option<usize>
     ensures some { IfSome result (λ n. (e : E) × ((slice_get board.now n ≡ Some e) × (E.time e ≡ time))) }
+    ensures last { IfSome result (λ n. (m : ℕ) (e : E) → n < m → slice_get board.now m ≡ Some e → E.time e ≢ time) }
     ensures none { IfNone result ((n : ℕ) (e : E) → slice_get board.now n ≡ Some e → E.time e ≢ time) }
 {
-    board.iter().position(|published| published.time() == time)
+    board.iter().rposition(|published| published.time() == time)
 }
 
 /// Adds a step behind the others, and answers its number. It comes back where there is no memory.

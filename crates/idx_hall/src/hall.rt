@@ -1,16 +1,16 @@
-ghost use Rattle.std.specs.Prelude.{◌≡◌, ◌≤◌, ◌<◌, [], All, Err, None, Ok, Some, IfErr, IfOk, IfSome, IfNone, OnErr, OnOk, ℕ, length, map, min, slice_get};
+ghost use Rattle.std.specs.Prelude.{◌≡◌, ◌≢◌, ◌≤◌, ◌<◌, [], All, Err, None, Ok, Some, IfErr, IfOk, IfSome, IfNone, OnErr, OnOk, ℕ, length, map, min, slice_get};
 ghost use Rattle.std.specs.Arc.{arc_value};
 ghost use Rattle.idx_cache.specs.Cached.{cached};
-ghost use Rattle.idx_hall.specs.Posts.{IsPostOf, Lacks, Post, post_of};
-ghost use Rattle.idx_hall.specs.Hall.{HallOk, HallValue, IsBlockOf, after_evict, after_fill, after_look, after_publish, hall, noted};
+ghost use Rattle.idx_hall.specs.Posts.{IsNewestOf, Lacks, Post, is_newest, newest, post_of};
+ghost use Rattle.idx_hall.specs.Hall.{HallOk, HallValue, IsBlockOf, after_evict, after_fill, after_look, after_publish, hall, named, noted, stale_of};
 ghost use Rattle.idx_hall.specs.Looked.{looked_up, not_looked};
-ghost use Rattle.idx_hall.specs.Calls.{AreBlocksOf, IsRefused, IsStepOf, pairs_of};
+ghost use Rattle.idx_hall.specs.Calls.{AreBlocksOf, IsAfter, IsRefused, IsStepOf, pairs_of};
 
 use crate::block::Block;
-use crate::board::{append, number_of};
-use crate::caching::{put_blocks, touch_all};
+use crate::board::{append, newest_of};
+use crate::caching::{drop_time, put_blocks, touch_all};
 use crate::published::Published;
-use crate::{Key, Looked, PublishRefusal, Standing};
+use crate::{BlockName, Key, Looked, PublishRefusal, Standing};
 use idx_cache::Cache;
 use idx_outside::{Blocks, Bytes, NoMemory};
 use std::alloc::Global;
@@ -25,7 +25,7 @@ pub struct Hall<E: Blocks> {
     blocks: u64,
     lengths: Vec<u64>,
     board: Vec<Published<E>>,
-    cache: Cache<Key, Block>,
+    cache: Cache<BlockName, Block>,
 }
 
 impl<E: Blocks> Model for Hall<E> {
@@ -76,36 +76,60 @@ impl<E: Blocks + Drop> Hall<E> {
         })
     }
 
-    /// Adds a step to the board, and answers its number. `AlreadyPublished` exactly where a step of its time is there,
-    /// which stays; after a refusal the hall is as it was, and the step comes back.
-    pub fn publish(&mut self, edition: Arc<E>) -> Result<u64, (Arc<E>, PublishRefusal)>
+    /// Adds a step behind the others, as the newest of its time, drops the cached blocks of that time, and answers its
+    /// number. `after` is the number of the step of the time that it follows, or nothing where it is to be the first.
+    /// `AlreadyPublished` exactly where the newest step of the time is there and is another one; it has the number of
+    /// that one. After a refusal the hall is as it was, and the step comes back.
+    pub fn publish(
+        &mut self,
+        edition: Arc<E>,
+        after: Option<u64>,
+    ) -> Result<u64, (Arc<E>, PublishRefusal)>
         requires shape { E.shape (arc_value edition) ≡ self.old.shape }
+        requires after { IsAfter self.old.board (E.time (arc_value edition)) after }
         ensures number { IfOk result (λ number. number ≡ length self.old.board) }
         ensures published { OnOk result (self.new ≡ after_publish
             (post_of self.old.shape (E.time (arc_value edition)) (E.has (arc_value edition))
             (E.stored (arc_value edition)))
             self.old) }
-        ensures fresh { OnOk result (Lacks (E.time (arc_value edition)) self.old.board) }
-        ensures taken { (number : ℕ) (post : Post) →
-            IsPostOf self.old.board (E.time (arc_value edition)) number post →
-            result ≡ Err (edition, PublishRefusal.AlreadyPublished number) }
+        ensures follows { OnOk result (newest self.old.board (E.time (arc_value edition)) ≡ after) }
+        ensures taken { (number : ℕ) → newest self.old.board (E.time (arc_value edition)) ≡ Some number →
+            after ≢ Some number → result ≡ Err (edition, PublishRefusal.AlreadyPublished number) }
         ensures cause { IfErr result (λ refusal. (refusal.0 ≡ edition) ×
-            IsRefused self.old.board (E.time (arc_value edition)) refusal.1) }
+            IsRefused self.old.board (E.time (arc_value edition)) after refusal.1) }
         ensures kept { OnErr result (self.new ≡ self.old) }
     {
-        if let Some(post) = self.number_of(edition.time()) {
+        let time = edition.time();
+        if let Some(post) = self.newer_than(time, after) {
             return Err((edition, PublishRefusal::AlreadyPublished { post }));
         }
+        let Ok(names) = self.cache.keys(*self.board.allocator()) else {
+            return Err((edition, PublishRefusal::NoMemory));
+        };
         match append(&mut self.board, edition) {
-            Ok(number) => Ok(number),
+            Ok(number) => {
+                drop_time(&mut self.cache, &names, time);
+                Ok(number)
+            }
             Err(edition) => Err((edition, PublishRefusal::NoMemory)),
         }
     }
 
-    /// Looks for the blocks of some keys of one time. `None` exactly where no step of the time was published; then
-    /// nothing changes. Else the step's number; `looked` gets the step and, for each key in order, the cached block or
-    /// nothing, and the blocks that were found are now the most recently used ones, the last of them the most. After
-    /// `NoMemory` nothing has changed.
+    /// The number of the newest post of a time. `None` exactly where no step of the time was published. Takes no
+    /// memory.
+    pub fn newest(&self, time: u64) -> Option<u64>
+        ensures { result ≡ newest self.now.board time }
+    {
+        match newest_of(&self.board, time) {
+            Some(number) => Some(number as u64),
+            None => None,
+        }
+    }
+
+    /// Looks for the blocks of some keys of one time, in the newest post of that time. `None` exactly where no step of
+    /// the time was published; then nothing changes. Else that post's number; `looked` gets the step and, for each key
+    /// in order, the cached block or nothing, and the blocks that were found are now the most recently used ones, the
+    /// last of them the most. After `NoMemory` nothing has changed.
     pub fn look(
         &mut self,
         time: u64,
@@ -116,12 +140,12 @@ impl<E: Blocks + Drop> Hall<E> {
         requires empty { looked.old ≡ not_looked looked.old.room }
         requires room { length keys.now ≤ looked.old.room }
         ensures post { IfOk result (λ found. IfSome found (λ number. (post : Post) ×
-            IsPostOf self.old.board time number post × AreBlocksOf self.old.shape post keys.now looked.new.found)) }
+            IsNewestOf self.old.board time number post × AreBlocksOf self.old.shape post keys.now looked.new.found)) }
         ensures step { IfOk result (λ found. IfSome found (λ number.
             IfSome looked.new.edition (IsStepOf E.time E.shape E.has E.stored self.old number))) }
-        ensures noted { IfOk result (λ found. IfSome found (λ _. (e : E) ×
-            (looked.new ≡ looked_up e (noted keys.now self.old.cache.pairs) looked.old.room))) }
-        ensures order { IfOk result (λ found. IfSome found (λ _. self.new ≡ after_look keys.now self.old)) }
+        ensures noted { IfOk result (λ found. IfSome found (λ number. (e : E) ×
+            (looked.new ≡ looked_up e (noted (named number keys.now) self.old.cache.pairs) looked.old.room))) }
+        ensures order { IfOk result (λ found. IfSome found (λ number. self.new ≡ after_look number keys.now self.old)) }
         ensures lacks { IfOk result (λ found. IfNone found (Lacks time self.old.board)) }
         ensures none { Lacks time self.old.board →
             (result ≡ Ok None) × (self.new ≡ self.old) × (looked.new ≡ looked.old) }
@@ -129,22 +153,54 @@ impl<E: Blocks + Drop> Hall<E> {
         ensures shape { self.new.shape ≡ self.old.shape }
         ensures board { self.new.board ≡ self.old.board }
     {
-        let Some(number) = self.number_of(time) else {
+        let Some(number) = self.newest(time) else {
             return Ok(None);
         };
-        looked.note(&self.board[number as usize], &self.cache, keys)?;
-        touch_all(&mut self.cache, keys);
+        self.look_at(number, keys, looked)?;
         Ok(Some(number))
     }
 
-    /// Puts loaded blocks of a post into the cache, in order. The least recently used ones go where the capacity is
-    /// passed. It is never refused, and takes no memory.
-    pub fn fill(&mut self, post: u64, loaded: Vec<(Key, Arc<Bytes>)>)
+    /// Looks as `look` does, in the post of this number, be it the newest of its time or not.
+    pub fn look_at(
+        &mut self,
+        post: u64,
+        keys: &[Key],
+        looked: &mut Looked<E>,
+    ) -> Result<(), NoMemory>
+        requires post { (p : Post) × (slice_get self.old.board post ≡ Some p) × All (λ key. key.time ≡ p.time) keys.now }
+        requires empty { looked.old ≡ not_looked looked.old.room }
+        requires room { length keys.now ≤ looked.old.room }
+        ensures blocks { OnOk result ((p : Post) → slice_get self.old.board post ≡ Some p →
+            AreBlocksOf self.old.shape p keys.now looked.new.found) }
+        ensures step { OnOk result (IfSome looked.new.edition
+            (IsStepOf E.time E.shape E.has E.stored self.old post)) }
+        ensures noted { OnOk result ((e : E) ×
+            (looked.new ≡ looked_up e (noted (named post keys.now) self.old.cache.pairs) looked.old.room)) }
+        ensures order { OnOk result (self.new ≡ after_look post keys.now self.old) }
+        ensures refused { OnErr result ((self.new ≡ self.old) × (looked.new ≡ looked.old)) }
+        ensures shape { self.new.shape ≡ self.old.shape }
+        ensures board { self.new.board ≡ self.old.board }
+    {
+        looked.note(&self.board[post as usize], &self.cache, post, keys)?;
+        touch_all(&mut self.cache, post, keys);
+        Ok(())
+    }
+
+    /// Puts loaded blocks of a post into the cache, in order, where that post is the newest of its time; else all of
+    /// them are stale and are dropped. Answers how many were stale. The least recently used ones go where the capacity
+    /// is passed. It is never refused, and takes no memory.
+    pub fn fill(&mut self, post: u64, loaded: Vec<(Key, Arc<Bytes>)>) -> u64
         requires blocks { (p : Post) × ((slice_get self.old.board post ≡ Some p) ×
             All (IsBlockOf self.old.shape p) (pairs_of loaded.items)) }
-        ensures { self.new ≡ after_fill (pairs_of loaded.items) self.old }
+        ensures filled { self.new ≡ after_fill post (pairs_of loaded.items) self.old }
+        ensures stale { result ≡ stale_of post (length loaded.items) self.old }
     {
-        put_blocks(&mut self.cache, loaded);
+        if self.is_newest(post) {
+            put_blocks(&mut self.cache, post, loaded);
+            0
+        } else {
+            loaded.len() as u64
+        }
     }
 
     /// Drops the n least recently used blocks, or all, and tells how many went.
@@ -178,14 +234,21 @@ impl<E: Blocks + Drop> Hall<E> {
         self.cache.capacity()
     }
 
-    /// The number of the step of a time, if it was published.
-    fn number_of(&self, time: u64) -> Option<u64>
-        ensures some { IfSome result (λ number. (post : Post) × IsPostOf self.now.board time number post) }
-        ensures none { IfNone result (Lacks time self.now.board) }
+    /// The number of the newest post of a time, where that is not the one that a step of the time is to follow.
+    fn newer_than(&self, time: u64, after: Option<u64>) -> Option<u64>
+        requires { IsAfter self.now.board time after }
+        ensures some { IfSome result (λ number. (newest self.now.board time ≡ Some number) × (after ≢ Some number)) }
+        ensures none { IfNone result (newest self.now.board time ≡ after) }
     {
-        match number_of(&self.board, time) {
-            Some(number) => Some(number as u64),
-            None => None,
-        }
+        let newest = self.newest(time);
+        if newest == after { None } else { newest }
+    }
+
+    /// Whether the post of this number is the newest of its time.
+    fn is_newest(&self, post: u64) -> bool
+        requires { post < length self.now.board }
+        ensures { result ≡ is_newest self.now.board post }
+    {
+        self.newest(self.board[post as usize].time()) == Some(post)
     }
 }

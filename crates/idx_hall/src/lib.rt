@@ -2,19 +2,23 @@
 #![tactic(auto)]
 
 mod block;
+mod block_name;
 mod board;
 mod caching;
 mod examples;
 mod hall;
 mod key;
+mod laws;
 mod looked;
 mod publish_refusal;
 mod published;
 mod standing;
 
+pub use block_name::BlockName;
 pub use examples::worked_hall;
 pub use hall::Hall;
 pub use key::Key;
+pub use laws::{newest_posts, newest_rises};
 pub use looked::Looked;
 pub use publish_refusal::PublishRefusal;
 pub use standing::Standing;

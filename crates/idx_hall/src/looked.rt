@@ -2,20 +2,20 @@ ghost use Rattle.std.specs.Prelude.{◌≡◌, ◌<◌, ◌≤◌, Some, IfOk, O
 ghost use Rattle.std.specs.Option.{option_map};
 ghost use Rattle.std.specs.Arc.{arc_value};
 ghost use Rattle.idx_cache.specs.Cached.{found};
-ghost use Rattle.idx_hall.specs.Hall.{key_eq};
+ghost use Rattle.idx_hall.specs.Hall.{name_eq, name_of};
 ghost use Rattle.idx_hall.specs.Looked.{LookedValue, looked_up, not_looked};
 
-use crate::Key;
 use crate::block::Block;
 use crate::caching::note_all;
 use crate::published::Published;
+use crate::{BlockName, Key};
 use idx_cache::Cache;
 use idx_outside::{Blocks, Bytes, NoMemory};
 use std::alloc::Global;
 use std::marker::Model;
 use std::sync::Arc;
 
-/// What a look finds: the step of the time, and for each key the cached block or nothing.
+/// What a look finds: the step that it looked in, and for each key the cached block or nothing.
 #[derive(Drop)]
 pub struct Looked<E: Blocks> {
     published: Option<Published<E>>,
@@ -46,22 +46,24 @@ impl<E: Blocks + Drop> Looked<E> {
         })
     }
 
-    /// Notes the step and, for each key in order, the block that the cache has of it, if it has one. After `NoMemory`
-    /// nothing is noted.
+    /// Notes the step, which is the post of this number, and, for each key in order, the block that the cache has of it
+    /// in that post, if it has one. After `NoMemory` nothing is noted.
     pub(crate) fn note(
         &mut self,
         published: &Published<E>,
-        cache: &Cache<Key, Block>,
+        cache: &Cache<BlockName, Block>,
+        post: u64,
         keys: &[Key],
     ) -> Result<(), NoMemory>
         requires empty { self.old ≡ not_looked self.old.room }
         requires room { length keys.now ≤ self.old.room }
         ensures found { OnOk result (self.new ≡
-            looked_up published.now (map (λ key. found key_eq key cache.now.pairs) keys.now) self.old.room) }
+            looked_up published.now (map (λ key. found name_eq (name_of post key) cache.now.pairs) keys.now)
+            self.old.room) }
         ensures refused { OnErr result (self.new ≡ self.old) }
     {
         let published = published.share()?;
-        if note_all(cache, keys, &mut self.blocks).is_err() {
+        if note_all(cache, post, keys, &mut self.blocks).is_err() {
             self.blocks.clear();
             return Err(NoMemory);
         }
@@ -77,7 +79,7 @@ impl<E: Blocks + Drop> Looked<E> {
         self.blocks.clear();
     }
 
-    /// The step, if the last look found its time.
+    /// The step, if the last look found one.
     pub fn edition(&self) -> Option<&Arc<E>>
         ensures { option_map (λ edition. arc_value edition) (option_copied result) ≡ self.now.edition }
     {

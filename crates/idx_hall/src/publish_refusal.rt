@@ -7,10 +7,10 @@ use thiserror::Error;
 /// Why a step is not published.
 #[derive(Clone, Copy, Debug, PartialEq, Eq, Error)]
 pub enum PublishRefusal {
-    /// The step of this number has the time already.
+    /// The step of this number is the newest of the time, and the refused step was not to follow it.
     #[error("a step of this time was published before")]
     AlreadyPublished {
-        /// The number of that step.
+        /// The number of that newest step.
         post: u64,
     },
     /// There was no memory.

@@ -1,7 +1,7 @@
 //! What a hall and its looks answer, at small steps in memory.
-ghost use Rattle.std.specs.Prelude.{◌≡◌, ◌≤◌, ◌<◌, ◌∷◌, [], true, None, length, IfOk, OnOk};
+ghost use Rattle.std.specs.Prelude.{◌≡◌, ◌≤◌, ◌<◌, true, None, length, IfOk, OnOk};
 ghost use Rattle.std.specs.Arc.{arc_value};
-ghost use Rattle.idx_hall.specs.Examples.{key_at, six_blocks, HasOneStep};
+ghost use Rattle.idx_hall.specs.Examples.{key_at, six_blocks, HasOneStep, HasTwoSteps};
 
 use idx_hall::{Hall, Key, Looked, PublishRefusal};
 use idx_memory::MemLeaf;
@@ -18,6 +18,7 @@ const NONE: u8 = 99;
 #[derive(Drop)]
 struct Step {
     time: u64,
+    mark: u8,
     leaf: MemLeaf,
     ghost whole: { length leaf ≡ 6 },
 }
@@ -49,12 +50,17 @@ impl Blocks for Step {
     }
 }
 
-/// The step of a time.
-fn step_of(alloc: Global, time: u64) -> Result<Arc<Step>, Fail>
-    ensures { IfOk result (λ step. (arc_value step).time ≡ time) }
+/// A step of time 0, with a mark to tell it from others.
+fn step_of(alloc: Global, mark: u8) -> Result<Arc<Step>, Fail>
+    ensures { IfOk result (λ step. (arc_value step).time ≡ 0) }
 {
     let leaf = MemLeaf::new(Bytes::from_slice(alloc, &[0, 1, 2, 3, 4, 5])?);
-    Ok(Arc::new(alloc, Step { time, leaf })?)
+    let step = Step {
+        time: 0,
+        mark,
+        leaf,
+    };
+    Ok(Arc::new(alloc, step)?)
 }
 
 /// The key of a block of the step of time 0.
@@ -75,7 +81,8 @@ fn hall_with_room(alloc: Global, rt: &impl Abort, capacity: u32) -> Result<Hall<
     ensures { IfOk result HasOneStep }
 {
     let mut hall = Hall::new(alloc, capacity, 6, vec![in alloc; 1]?)?;
-    let number = hall.publish(step_of(alloc, 0)?).ok().expect(rt, "a number");
+    let step = step_of(alloc, 0)?;
+    let number = hall.publish(step, None).ok().expect(rt, "a number");
     assert_eq!(rt; number, 0);
     Ok(hall)
 }
@@ -89,7 +96,7 @@ fn fill(alloc: Global, hall: &mut Hall<Step>, block: u64) -> Result<(), Fail>
     let bytes = Bytes::from_slice(alloc, &[block as u8])?;
     let mut loaded = Vec::new(alloc);
     loaded.push((key(block), Arc::new(alloc, bytes)?))?;
-    hall.fill(0, loaded);
+    let _stale = hall.fill(0, loaded);
     Ok(())
 }
 
@@ -147,22 +154,102 @@ fn sizes(hall: &Hall<Step>) -> (u64, u64, u64) {
     (hall.capacity(), hall.cache_len(), hall.board_len())
 }
 
-/// How the step of time 0 is refused again: why, the time of the step that comes back, and how many hold it.
+/// How a step of time 0 is refused that is to be the first: why, the time of the step that comes back, and how many hold it.
 fn refused_again(
     alloc: Global,
     rt: &impl Abort,
     hall: &mut Hall<Step>,
 ) -> Result<(PublishRefusal, u64, usize), Fail>
-    requires { HasOneStep hall.old }
+    requires { hall.old.shape ≡ six_blocks }
 {
-    let again = step_of(alloc, 0)?;
+    let again = step_of(alloc, 2)?;
     let same = Arc::try_clone(&again)?;
-    let (returned, refusal) = hall.publish(again).err().expect(rt, "a refusal");
+    let (returned, refusal) = hall.publish(again, None).err().expect(rt, "a refusal");
     Ok((refusal, returned.time(), Arc::strong_count(&same)))
 }
 
+/// Publishes a step of time 0 again, to follow the first one, and tells its number.
+fn publish_again(alloc: Global, rt: &impl Abort, hall: &mut Hall<Step>) -> Result<u64, Fail>
+    requires { HasOneStep hall.old }
+    ensures { OnOk result (HasTwoSteps hall.new) }
+{
+    let step = step_of(alloc, 1)?;
+    Ok(hall.publish(step, Some(0)).ok().expect(rt, "a number"))
+}
+
+/// Puts a block of the first of two steps, and tells how many were stale.
+fn fill_older(alloc: Global, hall: &mut Hall<Step>) -> Result<u64, Fail>
+    requires { HasTwoSteps hall.old }
+    ensures { OnOk result (HasTwoSteps hall.new) }
+{
+    let bytes = Bytes::from_slice(alloc, &[0])?;
+    let mut loaded = Vec::new(alloc);
+    loaded.push((key(0), Arc::new(alloc, bytes)?))?;
+    Ok(hall.fill(0, loaded))
+}
+
+/// The number of the post that a look at time 0 finds, and the mark of its step.
+fn look_newest(alloc: Global, hall: &mut Hall<Step>) -> Result<(Option<u64>, u8), Fail>
+    requires { HasTwoSteps hall.old }
+    ensures { OnOk result (HasTwoSteps hall.new) }
+{
+    let mut looked = Looked::new(alloc, 1)?;
+    let number = hall.look(0, &[key(0)], &mut looked)?;
+    Ok((number, mark(&looked)))
+}
+
+/// The mark of the step that a look in the first of two posts finds, and the byte of its block 0.
+fn look_older(alloc: Global, hall: &mut Hall<Step>) -> Result<(u8, u8), Fail>
+    requires { HasTwoSteps hall.old }
+{
+    let mut looked = Looked::new(alloc, 1)?;
+    hall.look_at(0, &[key(0)], &mut looked)?;
+    let found = if looked.len() == 1 {
+        byte(looked.found(0))
+    } else {
+        0
+    };
+    Ok((mark(&looked), found))
+}
+
+/// The mark of the step that was found, or `NONE`.
+fn mark(looked: &Looked<Step>) -> u8 {
+    match looked.edition() {
+        Some(step) => step.mark,
+        None => NONE,
+    }
+}
+
 #[test]
-fn a_time_is_published_once(rt: HostRuntime) -> Result<(), Fail> {
+fn a_time_is_published_again(rt: HostRuntime) -> Result<(), Fail> {
+    let mut hall = hall_with_room(rt.alloc(), &rt, 4)?;
+    fill(rt.alloc(), &mut hall, 0)?;
+    fill(rt.alloc(), &mut hall, 1)?;
+    fill(rt.alloc(), &mut hall, 2)?;
+    fill(rt.alloc(), &mut hall, 3)?;
+    assert_eq!(rt; sizes(&hall), (4, 4, 1));
+    assert_eq!(rt; publish_again(rt.alloc(), &rt, &mut hall)?, 1);
+    assert_eq!(rt; sizes(&hall), (4, 0, 2));
+    assert_eq!(rt; fill_older(rt.alloc(), &mut hall)?, 1);
+    assert_eq!(rt; sizes(&hall), (4, 0, 2));
+    assert_eq!(rt; look_newest(rt.alloc(), &mut hall)?, (Some(1), 1));
+    assert_eq!(rt; look_older(rt.alloc(), &mut hall)?, (0, NONE));
+    Ok(())
+}
+
+#[test]
+fn a_step_that_follows_an_older_one_is_refused(rt: HostRuntime) -> Result<(), Fail> {
+    let mut hall = hall_with_room(rt.alloc(), &rt, 4)?;
+    assert_eq!(rt; publish_again(rt.alloc(), &rt, &mut hall)?, 1);
+    assert_eq!(rt;
+        refused_again(rt.alloc(), &rt, &mut hall)?,
+        (PublishRefusal::AlreadyPublished { post: 1 }, 0, 2)
+    );
+    Ok(())
+}
+
+#[test]
+fn a_time_has_one_first_step(rt: HostRuntime) -> Result<(), Fail> {
     let mut hall = hall_with_room(rt.alloc(), &rt, 4)?;
     assert_eq!(rt;
         refused_again(rt.alloc(), &rt, &mut hall)?,

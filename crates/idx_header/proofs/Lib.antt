@@ -1,4 +1,5 @@
 pub mod BoundLemmas
+pub mod RevisionLemmas
 pub mod BoxLemmas
 pub mod FaultLemmas
 pub mod FieldTexts

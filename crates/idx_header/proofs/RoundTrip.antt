@@ -201,6 +201,7 @@ module _ (h : HeaderValue) (s : Steps) (is : IsHeader h) (time : h.steps ≡ Som
     template = ap (or_else (record { above = []; pieces = [] })) template-is i;
     steps = (steps-are ∙ sym time) i;
     unknown = same-unknown i;
+    revision = sym w.unrevised i;
   }
 
   back : header_of (text_of h) ≡ Ok h

@@ -25,6 +25,22 @@ pub record HeaderValue : Type 0 where
   pub template : TemplateValue
   pub steps : Option Steps
   pub unknown : List Unknown
+  pub revision : ℕ
+
+-- the header at this revision of its steps, which counts from 0; all other values are the same
+abbrev pub at_revision : ℕ → HeaderValue → HeaderValue
+at_revision r h =
+    record {
+      box = h.box;
+      mask = h.mask;
+      fields = h.fields;
+      block_bits = h.block_bits;
+      blocks_per_file = h.blocks_per_file;
+      template = h.template;
+      steps = h.steps;
+      unknown = h.unknown;
+      revision = r;
+    }
 
 -- how many blocks of 2^bits addresses there are under a mask of so many digits
 abbrev pub blocks_under : ℕ → ℕ → ℕ
@@ -97,6 +113,8 @@ pub record IsHeader (h : HeaderValue) : Type 0 where
   pub fits : Fits h.template (last_file h)
   pub steps : IfSome h.steps AreSteps
   pub unknown : All IsUnknown h.unknown
+  pub revision_few : h.revision ≤ 255
+  pub unrevised : h.steps ≡ None → h.revision ≡ 0
 
 -- the header has this step; without a time the only step is 0
 abbrev pub HasTimeAmong : Option Steps → ℕ → Type 0
@@ -111,7 +129,7 @@ abbrev pub ends_of : Option Steps → Option (ℕ × ℕ)
 ends_of None = None
 ends_of (Some steps) = Some (steps.first, steps.last)
 
--- all values are equal, attribute words and other keys apart
+-- all values are equal, attribute words, other keys and the revision apart
 pub record Agree (these those : HeaderValue) : Type 0 where
   pub box : these.box ≡ those.box
   pub mask : these.mask ≡ those.mask

@@ -99,7 +99,7 @@ fields_of_header sections = fields_in (section_at keys.Fields sections)
 abbrev pub unknown_in : List Section → List Unknown
 unknown_in sections = map (λ s. record { key = s.key; value = s.value }) (unknown_sections sections)
 
--- the values that the sections give
+-- the values that the sections give, at revision 0
 unfoldable pub header_in : List Section → HeaderValue
 header_in sections =
     record {
@@ -111,6 +111,7 @@ header_in sections =
       template = template_in (section_at keys.FilenameTemplate sections);
       steps = steps_in (section_of keys.Time sections);
       unknown = unknown_in sections;
+      revision = 0;
     }
 
 -- the header, unless there is a fault

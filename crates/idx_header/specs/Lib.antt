@@ -7,4 +7,5 @@ pub mod HeaderOf
 pub mod OfBay
 pub mod Written
 pub mod Names
+pub mod Revisions
 pub mod Worked

@@ -1,7 +1,8 @@
--- Headers that the worked values name.
-use Rattle.std.specs.Prelude.{ℕ, ◌+◌, List, [], ◌∷◌, ◌++◌, take, drop, map, Some, codes}
+-- Headers and files that the worked values name.
+use Rattle.std.specs.Prelude.{ℕ, ◌+◌, List, [], ◌∷◌, ◌++◌, take, drop, map, Some, None, codes}
 use Rattle.idx_fields.specs.declared.base.Base.TheVariants as bases
 use Rattle.idx_names.specs.declared.piece.Piece.TheVariants.{Byte, Mark}
+use Rattle.idx_outside.specs.declared.mem_file.MemFile.{MemFile}
 use Rattle.idx_text.specs.Entries.{lines_text}
 use Rattle.idx_header.specs.Header.{HeaderValue}
 
@@ -30,4 +31,24 @@ small_header =
       template = record { above = []; pieces = Mark 1 ∷ map Byte (codes ".bin") };
       steps = Some (record { first = 0; last = 9; template = record { pieces = map Byte (codes "time") ++ Mark 4 ∷ [] } });
       unknown = [];
+      revision = 0;
     }
+
+-- the same without a time
+abbrev pub untimed_header : HeaderValue
+untimed_header =
+    record {
+      box = small_header.box;
+      mask = small_header.mask;
+      fields = small_header.fields;
+      block_bits = small_header.block_bits;
+      blocks_per_file = small_header.blocks_per_file;
+      template = small_header.template;
+      steps = None;
+      unknown = [];
+      revision = 0;
+    }
+
+-- a file of this folder
+abbrev pub file_in : List ℕ → MemFile
+file_in folder = record { folder = folder; path = folder ++ codes "/0.bin"; bytes = [] }

@@ -60,9 +60,10 @@ entries_of h =
 unfoldable pub text_of : HeaderValue → List ℕ
 text_of h = entries_text (entries_of h)
 
--- The text of a header that reads back: the header has a time, its text is no longer than a header may be, and none of the
--- lines of its values is a key line.
+-- The text of a header that reads back: the header has a time and is at revision 0, its text is no longer than a header may
+-- be, and none of the lines of its values is a key line.
 pub record IsWritable (h : HeaderValue) : Type 0 where
   pub time : IsSome h.steps
+  pub unrevised : h.revision ≡ 0
   pub short : length (text_of h) ≤ 65536
   pub lines : All (λ e. All (λ line. is_key_line line ≡ false) e.lines) (entries_of h)

@@ -1,13 +1,17 @@
 //! Copies of a header and of its parts.
-ghost use Rattle.std.specs.Prelude.{◌≡◌, IfOk};
+ghost use Rattle.std.specs.Prelude.{◌≡◌, ◌≤◌, IfOk, None};
+ghost use Rattle.idx_header.specs.Header.{IsHeader, at_revision};
 
 use crate::{Header, Steps, Unknown};
 use idx_outside::{Bytes, NoMemory};
 use std::alloc::Global;
 
-/// An equal header.
-pub(crate) fn copy_header(alloc: Global, header: &Header) -> Result<Header, NoMemory>
-    ensures { IfOk result (λ copy. copy ≡ header.now) }
+/// The header at a revision.
+pub(crate) fn copy_at(alloc: Global, header: &Header, revision: u32) -> Result<Header, NoMemory>
+    requires few { revision ≤ 255 }
+    requires timed { header.now.steps ≡ None → revision ≡ 0 }
+    ensures same { IfOk result (λ copy. copy ≡ at_revision revision header.now) }
+    ensures valid { IsHeader header.now }
 {
     Ok(Header {
         region: header.region,
@@ -18,6 +22,7 @@ pub(crate) fn copy_header(alloc: Global, header: &Header) -> Result<Header, NoMe
         template: header.template.copy(alloc)?,
         steps: copy_time(alloc, &header.steps)?,
         unknown: copy_unknowns(alloc, &header.unknown)?,
+        revision,
     })
 }
 

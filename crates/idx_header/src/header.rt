@@ -5,14 +5,14 @@ ghost use Rattle.idx_geom.specs.Region.{points, upper_ends};
 ghost use Rattle.idx_hz.specs.Mask.{HasAddress};
 ghost use Rattle.idx_outside.specs.Calls.{last_failed};
 ghost use Rattle.idx_outside.specs.declared.bay_call.BayCall.{BayCall};
-ghost use Rattle.idx_header.specs.Header.{IsHeader, Agree, HasTime, ends_of, block_count, block_bytes, file_of, sample_bytes_of, volume_bytes};
+ghost use Rattle.idx_header.specs.Header.{IsHeader, Agree, HasTime, at_revision, ends_of, block_count, block_bytes, file_of, sample_bytes_of, volume_bytes};
 ghost use Rattle.idx_header.specs.HeaderOf.{header_of};
 ghost use Rattle.idx_header.specs.Names.{file_name, step_folder};
 ghost use Rattle.idx_header.specs.OfBay.{Gives, GivesStanding, IsFaultOf, IsFaultOfSome, IsRefusal, OnlyAsks, asked_quietly};
 ghost use Rattle.idx_header.specs.Written.{text_of};
 
 use crate::blocks::block_bytes;
-use crate::copy::copy_header;
+use crate::copy::copy_at;
 use crate::of_bay::{bay_text, read_text};
 use crate::read::read_header;
 use crate::write::header_text;
@@ -25,7 +25,7 @@ use idx_outside::{Bay, Bytes, NoMemory};
 use std::alloc::Global;
 use std::marker::Model;
 
-/// The header of a dataset (OpenVisus IDX, version 6).
+/// The header of a dataset (OpenVisus IDX, version 6), at a revision of its steps: one that was read is at revision 0.
 #[derive(Debug, Drop)]
 pub struct Header {
     pub(crate) region: Region,
@@ -36,6 +36,7 @@ pub struct Header {
     pub(crate) template: Template,
     pub(crate) steps: Option<Steps>,
     pub(crate) unknown: Vec<Unknown>,
+    pub(crate) revision: u32,
 }
 
 impl Model for Header {
@@ -52,6 +53,7 @@ impl Model for Header {
       template = h.template;
       steps = h.steps;
       unknown = h.unknown.items;
+      revision = h.revision;
     } };
 
     ghost invariant = { λ h. IsHeader (record {
@@ -63,6 +65,7 @@ impl Model for Header {
       template = h.template;
       steps = h.steps;
       unknown = h.unknown.items;
+      revision = h.revision;
     }) };
 }
 
@@ -116,7 +119,7 @@ impl Header {
         out.append(text.as_slice())
     }
 
-    /// Whether all values are equal, attribute words and the keys that have no effect apart.
+    /// Whether all values are equal, attribute words, the keys that have no effect and the revision apart.
     pub fn agrees(&self, other: &Header) -> bool
         ensures { IsTrue result ↔ Agree self.now other.now }
     {
@@ -127,7 +130,7 @@ impl Header {
     pub fn copy(&self, alloc: Global) -> Result<Header, NoMemory>
         ensures { IfOk result (λ copy. copy ≡ self.now) }
     {
-        copy_header(alloc, self)
+        copy_at(alloc, self, self.revision)
     }
 
     /// How many axes the box has, 2 to 5.
@@ -278,23 +281,41 @@ impl Header {
         self.fields.write_type(i, out)
     }
 
-    /// The path of a file of a step, by the template's parts; a file's number is that of its first block.
+    /// The path of a file of a step at the header's revision, by the template's parts; a file's number is that of its
+    /// first block.
     #[tactic(auto, unfolding(crate::specs::Names::file_name))]
     pub fn file_name(&self, alloc: Global, step: u64, file: u64) -> Result<Bytes, NoMemory>
         ensures { IfOk result (λ path. path ≡ file_name self.now step file) }
     {
         match &self.steps {
-            Some(steps) => {
-                idx_names::file_path_of_step(alloc, &self.template, &steps.template, step, file)
-            }
+            Some(steps) => idx_names::file_path_of_step(
+                alloc,
+                &self.template,
+                &steps.template,
+                step,
+                self.revision,
+                file,
+            ),
             None => idx_names::file_path(alloc, &self.template, file),
         }
     }
 
-    /// The path of a step's folder. `None` exactly where the header has no time.
-    #[tactic(auto, unfolding(crate::specs::Names::step_folder))]
+    /// The path of a step's folder at the header's revision. `None` exactly where the header has no time.
     pub fn step_folder(&self, alloc: Global, step: u64) -> Result<Option<Bytes>, NoMemory>
         ensures { IfOk result (λ folder. folder ≡ step_folder self.now step) }
+    {
+        self.folder_at(alloc, step, self.revision)
+    }
+
+    /// The path of a step's folder at a revision. `None` exactly where the header has no time.
+    #[tactic(auto, unfolding(crate::specs::Names::step_folder))]
+    pub(crate) fn folder_at(
+        &self,
+        alloc: Global,
+        step: u64,
+        revision: u32,
+    ) -> Result<Option<Bytes>, NoMemory>
+        ensures { IfOk result (λ folder. folder ≡ step_folder (at_revision revision self.now) step) }
     {
         match &self.steps {
             Some(steps) => Ok(Some(idx_names::step_folder(
@@ -302,6 +323,7 @@ impl Header {
                 &self.template,
                 &steps.template,
                 step,
+                revision,
             )?)),
             None => Ok(None),
         }
@@ -320,7 +342,7 @@ fn total_bytes(fields: &Fields) -> u64
     total
 }
 
-/// Whether all values of two headers are equal, attribute words and the keys that have no effect apart.
+/// Whether all values of two headers are equal, attribute words, the keys that have no effect and the revision apart.
 fn agree(these: &Header, those: &Header) -> bool
     ensures { IsTrue result ↔ Agree these.now those.now }
 {

@@ -77,5 +77,6 @@ fn read_values(alloc: Global, sections: &[Section]) -> Result<Header, HeaderFaul
         template,
         steps,
         unknown,
+        revision: 0,
     })
 }

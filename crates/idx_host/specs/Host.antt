@@ -22,13 +22,13 @@ use Rattle.idx_board.specs.Standing.{first_bad_row, reads_of, standing_posts, st
 use Rattle.idx_host.specs.declared.host_fault.HostFault.{HostFault}
 use Rattle.idx_host.specs.declared.host_fault.HostFault.TheVariants as faults
 
--- The state before the first link: the steps that stand are published, by rising time, nothing is cached, and each file that is
--- there was read once. More steps are not published meanwhile.
+-- The state before the first link: the newest revisions of the steps that stand are published, by rising time, nothing is cached, the
+-- hall was not held yet, and each file of them that is there was read once. More steps are not published meanwhile.
 pub record IsOpened (h : HeaderValue) (wish : ℕ) (k : Known) (opened : State) : Type 0 where
   pub posts : List Post
   pub standing : IfSome k.files (λ files. posts ≡ standing_posts h files)
   pub reads : IfSome k.files (λ files. MadeReads k.reads_before opened.reads (reads_of h files (step_numbers h)))
-  pub state : opened ≡ state_of posts true k.counts.reader_before opened.reads (Some (hall (shape_of h) posts (cached [] (capacity_for h wish))))
+  pub state : opened ≡ state_of posts true k.counts.reader_before opened.reads (Some (hall (shape_of h) posts (cached [] (capacity_for h wish)))) 0
 
 -- the site of a header and a name
 abbrev pub site_of : HeaderValue → List ℕ → Site

@@ -12,12 +12,12 @@ use idx_serve::{Summary, serve_door};
 use idx_turn::Solo;
 use std::alloc::Global;
 
-/// Serves a dataset by this name at a door, until the door hands out no more links or fails: the header is read, the steps
-/// that stand are loaded and published by rising time, and the links are served one after another. The cache keeps as
-/// many blocks as are wished for, and no more than have 2^31 bytes. The dataset is not changed.
+/// Serves a dataset by this name at a door, until the door hands out no more links or fails: the header is read, the newest
+/// revision of each step that stands is loaded and published, by rising time, and the links are served one after another.
+/// The cache keeps as many blocks as are wished for, and no more than have 2^31 bytes. The dataset is not changed.
 ///
-/// The first refusal ends it before any link is handed out, in this order: the header, the tables of the files of the steps
-/// that stand.
+/// The first refusal ends it before any link is handed out, in this order: the header, the tables of the files of these
+/// revisions.
 pub fn host<B: Bay, R: Reader<B::Leaf>, D: Door>(
     alloc: Global,
     name: &[u8],

@@ -15,8 +15,11 @@ use Rattle.idx_hz.specs.Address.{hz_address}
 use Rattle.idx_geom.specs.Region.{points, place_of}
 use Rattle.idx_geom.specs.Volume.{IsVolume, sample_at}
 use Rattle.idx_geom.proofs.PointsLemmas.{LiesIn-slice_get, place_of-lt, length-points}
-use Rattle.idx_layout.specs.Layout.{Layout, block_bytes, present_blocks, is_present, stored_sample, block_of_samples}
-use Rattle.idx_layout.specs.Files.{blocks_of_file, file_bytes, rows_of_file, row_of_block, offset_of, length_of_file, row_count}
+use Rattle.idx_layout.specs.declared.layout.Layout.{Layout}
+use Rattle.idx_layout.specs.declared.layout.Layout.TheVariants.{Hz}
+use Rattle.idx_layout.specs.Layout.{arranged}
+use Rattle.idx_layout.specs.Placing.{Placing, block_bytes, present_blocks, is_present, stored_sample, block_of_samples}
+use Rattle.idx_layout.specs.Files.{block_in_file, blocks_of_file, file_bytes, rows_of_file, row_of_block, offset_of, length_of_file, row_count}
 use Rattle.idx_table.specs.Row.{IsRow, row_bytes}
 use Rattle.idx_table.specs.Table.{rows_of, table_bytes}
 use Rattle.idx_table.proofs.ReadBackLemmas.{length-written, rows_of-written}
@@ -34,7 +37,7 @@ found {X = X} test (y ∷ ys) x e = by_test (λ rest. found test ys x rest) (tes
     by_test more false is =
         let next = more (sym (ap (λ b. cond b (Some y) (find test ys)) is) ∙ e) in (suc next.0, next.1)
 
-length-stored_sample : (l : Layout) (size : ℕ) (samples : List (List ℕ)) (address : ℕ) →
+length-stored_sample : (l : Placing) (size : ℕ) (samples : List (List ℕ)) (address : ℕ) →
     length samples ≡ length (points l.region) → All (λ sample. length sample ≡ size) samples →
     length (stored_sample l size samples address) ≡ size
 length-stored_sample l size samples address count sizes = by_point _ refl
@@ -56,31 +59,40 @@ length-flat_map_same f size (x ∷ xs) h =
     one_more : (s n : ℕ) → s + s * n ≡ s * suc n
     one_more s n = grind arith
 
-pub length-block_of_samples : (l : Layout) (size : ℕ) (samples : List (List ℕ)) (block : ℕ) →
+pub length-block_of_samples : (l : Placing) (size : ℕ) (samples : List (List ℕ)) (block : ℕ) →
     length samples ≡ length (points l.region) → All (λ sample. length sample ≡ size) samples →
     length (block_of_samples l size samples block) ≡ size * 2 ^ l.bits
 length-block_of_samples l size samples block count sizes =
     length-flat_map_same (stored_sample l size samples) size (range_with_len (block * 2 ^ l.bits) (2 ^ l.bits)) (λ address. length-stored_sample l size samples address count sizes)
     ∙ ap (λ n. size * n) (length-range_with_len (block * 2 ^ l.bits) (2 ^ l.bits))
 
+length-arranged : (layout : Layout) (l : Placing) (size block : ℕ) (bytes : List ℕ) → length (arranged layout l size block bytes) ≡ length bytes
+length-arranged Hz l size block bytes = refl
+
+pub length-block_in_file : (layout : Layout) (l : Placing) (size : ℕ) (samples : List (List ℕ)) (block : ℕ) →
+    length samples ≡ length (points l.region) → All (λ sample. length sample ≡ size) samples →
+    length (block_in_file layout l size samples block) ≡ size * 2 ^ l.bits
+length-block_in_file layout l size samples block count sizes =
+    length-arranged layout l size block (block_of_samples l size samples block) ∙ length-block_of_samples l size samples block count sizes
+
 -- ---- the fields before a field
 
 -- the blocks with these numbers of fields with these sizes and samples
-abbrev pub blocks_of : Layout → List ℕ → List (ℕ × List (List ℕ)) → List ℕ
-blocks_of l blocks fields = flat_map (λ field. flat_map (block_of_samples l field.0 field.1) blocks) fields
+abbrev pub blocks_of : Layout → Placing → List ℕ → List (ℕ × List (List ℕ)) → List ℕ
+blocks_of layout l blocks fields = flat_map (λ field. flat_map (block_in_file layout l field.0 field.1) blocks) fields
 
-length-blocks_of : (l : Layout) (blocks sizes : List ℕ) (volume : List (List (List ℕ))) →
+length-blocks_of : (layout : Layout) (l : Placing) (blocks sizes : List ℕ) (volume : List (List (List ℕ))) →
     IsVolume sizes (length (points l.region)) volume →
-    length (blocks_of l blocks (zip sizes volume)) ≡ sum_by (λ size. size * 2 ^ l.bits) sizes * length blocks
-length-blocks_of l blocks [] [] h = omega arith
-length-blocks_of l blocks [] (samples ∷ volume) h = absurd h
-length-blocks_of l blocks (size ∷ sizes) [] h = absurd h
-length-blocks_of l blocks (size ∷ sizes) (samples ∷ volume) h =
-    let first : List ℕ = flat_map (block_of_samples l size samples) blocks in
-    let rest : List ℕ = blocks_of l blocks (zip sizes volume) in
+    length (blocks_of layout l blocks (zip sizes volume)) ≡ sum_by (λ size. size * 2 ^ l.bits) sizes * length blocks
+length-blocks_of layout l blocks [] [] h = omega arith
+length-blocks_of layout l blocks [] (samples ∷ volume) h = absurd h
+length-blocks_of layout l blocks (size ∷ sizes) [] h = absurd h
+length-blocks_of layout l blocks (size ∷ sizes) (samples ∷ volume) h =
+    let first : List ℕ = flat_map (block_in_file layout l size samples) blocks in
+    let rest : List ℕ = blocks_of layout l blocks (zip sizes volume) in
     length-append first rest
-    ∙ ap (λ n. n + length rest) (length-flat_map_same (block_of_samples l size samples) (size * 2 ^ l.bits) blocks (λ block. length-block_of_samples l size samples block h.0 h.1))
-    ∙ ap (λ n. size * 2 ^ l.bits * length blocks + n) (length-blocks_of l blocks sizes volume h.2)
+    ∙ ap (λ n. n + length rest) (length-flat_map_same (block_in_file layout l size samples) (size * 2 ^ l.bits) blocks (λ block. length-block_in_file layout l size samples block h.0 h.1))
+    ∙ ap (λ n. size * 2 ^ l.bits * length blocks + n) (length-blocks_of layout l blocks sizes volume h.2)
     ∙ sym (add-mul (size * 2 ^ l.bits) (sum_by (λ s. s * 2 ^ l.bits) sizes) (length blocks))
     ∙ ap (λ n. n * length blocks) (sym (sum_by-cons (λ s. s * 2 ^ l.bits) size sizes))
 
@@ -137,7 +149,7 @@ split_at (size ∷ sizes) (v ∷ volume) n (suc field) samples h e =
 -- ---- a block in its file
 
 -- a present block, those of its file before it, and those behind it
-pub present_split : (l : Layout) (file block : ℕ) → file ≤ block → block < file + l.per_file →
+pub present_split : (l : Placing) (file block : ℕ) → file ≤ block → block < file + l.per_file →
     is_present l block ≡ true → (behind : List ℕ) × (present_blocks l file ≡ filter (is_present l)
     (range_with_len file (block - file)) ++ (block ∷ behind))
 present_split l file block from to present =
@@ -164,96 +176,96 @@ piece front middle back n m at size =
 regroup : (t a b x c d : List ℕ) → t ++ (a ++ ((b ++ (x ++ c)) ++ d)) ≡ (t ++ (a ++ b)) ++ (x ++ (c ++ d))
 regroup t a b x c d = simp append_assoc
 
-pub length-rows_of_file : (l : Layout) (file : ℕ) → length (rows_of_file l file) ≡ row_count l
-length-rows_of_file l file =
-    length-flat_map_same (λ field. map (row_of_block l file field) (range_with_len file l.per_file)) l.per_file
-    (range_with_len 0 (length l.sizes)) (λ field. length-map-range_with_len (row_of_block l file field) file
+pub length-rows_of_file : (layout : Layout) (l : Placing) (file : ℕ) → length (rows_of_file layout l file) ≡ row_count l
+length-rows_of_file layout l file =
+    length-flat_map_same (λ field. map (row_of_block layout l file field) (range_with_len file l.per_file)) l.per_file
+    (range_with_len 0 (length l.sizes)) (λ field. length-map-range_with_len (row_of_block layout l file field) file
     l.per_file)
     ∙ ap (λ n. l.per_file * n) (length-range_with_len 0 (length l.sizes)) ∙ mul_comm l.per_file (length l.sizes)
 
 -- the head of a file and its rows
-head_of : Layout → ℕ → List ℕ
-head_of l file = replicate 40 0 ++ flat_map row_bytes (rows_of_file l file)
+head_of : Layout → Placing → ℕ → List ℕ
+head_of layout l file = replicate 40 0 ++ flat_map row_bytes (rows_of_file layout l file)
 
-length-head_of : (l : Layout) (file : ℕ) → length (head_of l file) ≡ table_bytes (row_count l)
+length-head_of : (layout : Layout) (l : Placing) (file : ℕ) → length (head_of layout l file) ≡ table_bytes (row_count l)
 unfolding head_of
-length-head_of l file =
-    length-append (replicate 40 0) (flat_map row_bytes (rows_of_file l file)) ∙ length-written (rows_of_file l file) ∙ ap table_bytes (length-rows_of_file l file)
+length-head_of layout l file =
+    length-append (replicate 40 0) (flat_map row_bytes (rows_of_file layout l file)) ∙ length-written (rows_of_file layout l file) ∙ ap table_bytes (length-rows_of_file layout l file)
 
-pub length-file_bytes : (l : Layout) (volume : List (List (List ℕ))) (file : ℕ) → IsVolume l.sizes (length (points l.region)) volume → length (file_bytes l volume file) ≡ length_of_file l file
+pub length-file_bytes : (layout : Layout) (l : Placing) (volume : List (List (List ℕ))) (file : ℕ) → IsVolume l.sizes (length (points l.region)) volume → length (file_bytes layout l volume file) ≡ length_of_file l file
 unfolding head_of
-length-file_bytes l volume file h =
-    length-append (head_of l file) (blocks_of_file l volume file)
-    ∙ ap (λ n. n + length (blocks_of_file l volume file)) (length-head_of l file)
+length-file_bytes layout l volume file h =
+    length-append (head_of layout l file) (blocks_of_file layout l volume file)
+    ∙ ap (λ n. n + length (blocks_of_file layout l volume file)) (length-head_of layout l file)
     ∙ ap (λ n. table_bytes (row_count l) + n)
-    (length-blocks_of l (present_blocks l file) l.sizes volume h
+    (length-blocks_of layout l (present_blocks l file) l.sizes volume h
     ∙ ap (λ n. n * length (present_blocks l file)) (ap (sum_by (λ size. size * 2 ^ l.bits))
     (sym (take-length l.sizes)) ∙ sym (sum_by-sizes (λ size. size * 2 ^ l.bits) l.sizes (length l.sizes)
     (omega arith))))
     ∙ sym (length_of_file-sums l file)
 
 -- how far from its file's beginning a block begins
-length_before : (l : Layout) (volume : List (List (List ℕ))) (file field block : ℕ) (samples : List (List ℕ)) →
+length_before : (layout : Layout) (l : Placing) (volume : List (List (List ℕ))) (file field block : ℕ) (samples : List (List ℕ)) →
     IsSplitAt l.sizes volume (length (points l.region)) field samples → file ≤ block → block ≤ file + l.per_file →
-    length (head_of l file ++ (blocks_of l (present_blocks l file) (zip (take field l.sizes) (take field volume))
-    ++ flat_map (block_of_samples l (slice_index l.sizes field) samples) (filter (is_present l) (range_with_len file (block - file))))) ≡ offset_of l file field block
-length_before l volume file field block samples h from to =
+    length (head_of layout l file ++ (blocks_of layout l (present_blocks l file) (zip (take field l.sizes) (take field volume))
+    ++ flat_map (block_in_file layout l (slice_index l.sizes field) samples) (filter (is_present l) (range_with_len file (block - file))))) ≡ offset_of l file field block
+length_before layout l volume file field block samples h from to =
     let n : ℕ = length (present_blocks l file) in
     let size : ℕ = slice_index l.sizes field in
-    let fields : List ℕ = blocks_of l (present_blocks l file) (zip (take field l.sizes) (take field volume)) in
+    let fields : List ℕ = blocks_of layout l (present_blocks l file) (zip (take field l.sizes) (take field volume)) in
     let earlier : List ℕ = filter (is_present l) (range_with_len file (block - file)) in
-    let own : List ℕ = flat_map (block_of_samples l size samples) earlier in
+    let own : List ℕ = flat_map (block_in_file layout l size samples) earlier in
     let in_fields : length fields ≡ sum_by (block_bytes l) (range_with_len 0 field) * n =
-    length-blocks_of l (present_blocks l file) (take field l.sizes) (take field volume) h.front
+    length-blocks_of layout l (present_blocks l file) (take field l.sizes) (take field volume) h.front
     ∙ ap (λ k. k * n) (sym (sum_by-sizes (λ s. s * 2 ^ l.bits) l.sizes field (omega (arith, h.within)))) in
     let in_own : length own ≡ block_bytes l field * length earlier =
-    length-flat_map_same (block_of_samples l size samples) (size * 2 ^ l.bits) earlier (λ b. length-block_of_samples l size samples b h.count h.right) in
-    length-append (head_of l file) (fields ++ own)
-    ∙ ap (λ k. k + length (fields ++ own)) (length-head_of l file)
+    length-flat_map_same (block_in_file layout l size samples) (size * 2 ^ l.bits) earlier (λ b. length-block_in_file layout l size samples b h.count h.right) in
+    length-append (head_of layout l file) (fields ++ own)
+    ∙ ap (λ k. k + length (fields ++ own)) (length-head_of layout l file)
     ∙ ap (λ k. table_bytes (row_count l) + k)
     (length-append fields own ∙ ap (λ k. k + length own) in_fields ∙ ap (λ k. sum_by (block_bytes l) (range_with_len 0 field) * n + k) in_own
     ∙ ap (λ bs. sum_by (block_bytes l) (range_with_len 0 field) * n + block_bytes l field * length bs) (sym (present_before l file block from to)))
     ∙ sym (offset_of-sums l file field block h.within)
 
 -- the parts of a file about a block
-parts_of_file : (l : Layout) (volume : List (List (List ℕ))) (file field block : ℕ) (samples : List (List ℕ)) →
+parts_of_file : (layout : Layout) (l : Placing) (volume : List (List (List ℕ))) (file field block : ℕ) (samples : List (List ℕ)) →
     (s : IsSplitAt l.sizes volume (length (points l.region)) field samples) → (behind : List ℕ) →
     present_blocks l file ≡ filter (is_present l) (range_with_len file (block - file)) ++ (block ∷ behind) →
-    file_bytes l volume file ≡ (head_of l file ++ (blocks_of l (present_blocks l file) (zip (take field l.sizes) (take field volume))
-    ++ flat_map (block_of_samples l (slice_index l.sizes field) samples) (filter (is_present l) (range_with_len file (block - file)))))
-    ++ (block_of_samples l (slice_index l.sizes field) samples block
-    ++ (flat_map (block_of_samples l (slice_index l.sizes field) samples) behind ++ blocks_of l (present_blocks l file) s.behind))
+    file_bytes layout l volume file ≡ (head_of layout l file ++ (blocks_of layout l (present_blocks l file) (zip (take field l.sizes) (take field volume))
+    ++ flat_map (block_in_file layout l (slice_index l.sizes field) samples) (filter (is_present l) (range_with_len file (block - file)))))
+    ++ (block_in_file layout l (slice_index l.sizes field) samples block
+    ++ (flat_map (block_in_file layout l (slice_index l.sizes field) samples) behind ++ blocks_of layout l (present_blocks l file) s.behind))
 unfolding head_of
-parts_of_file l volume file field block samples s behind cut =
+parts_of_file layout l volume file field block samples s behind cut =
     let bs : List ℕ = present_blocks l file in
     let size : ℕ = slice_index l.sizes field in
-    let of_block : ℕ → List ℕ = block_of_samples l size samples in
+    let of_block : ℕ → List ℕ = block_in_file layout l size samples in
     let earlier : List ℕ = filter (is_present l) (range_with_len file (block - file)) in
-    let before : List ℕ = blocks_of l bs (zip (take field l.sizes) (take field volume)) in
-    let after : List ℕ = blocks_of l bs s.behind in
-    let by_field : blocks_of_file l volume file ≡ before ++ (flat_map of_block bs ++ after) =
-    ap (blocks_of l bs) s.whole
-    ∙ flat_map-append (λ field. flat_map (block_of_samples l field.0 field.1) bs) (zip (take field l.sizes) (take field volume)) ((size, samples) ∷ s.behind) in
+    let before : List ℕ = blocks_of layout l bs (zip (take field l.sizes) (take field volume)) in
+    let after : List ℕ = blocks_of layout l bs s.behind in
+    let by_field : blocks_of_file layout l volume file ≡ before ++ (flat_map of_block bs ++ after) =
+    ap (blocks_of layout l bs) s.whole
+    ∙ flat_map-append (λ field. flat_map (block_in_file layout l field.0 field.1) bs) (zip (take field l.sizes) (take field volume)) ((size, samples) ∷ s.behind) in
     let by_block : flat_map of_block bs ≡ flat_map of_block earlier ++ (of_block block ++ flat_map of_block behind) =
     ap (flat_map of_block) cut ∙ flat_map-append of_block earlier (block ∷ behind) in
-    ap (λ xs. head_of l file ++ xs) (by_field ∙ ap (λ xs. before ++ (xs ++ after)) by_block)
-    ∙ regroup (head_of l file) before (flat_map of_block earlier) (of_block block) (flat_map of_block behind) after
+    ap (λ xs. head_of layout l file ++ xs) (by_field ∙ ap (λ xs. before ++ (xs ++ after)) by_block)
+    ∙ regroup (head_of layout l file) before (flat_map of_block earlier) (of_block block) (flat_map of_block behind) after
 
 -- a present block stands at its offset
-pub block_at_offset : (l : Layout) (volume : List (List (List ℕ))) (file field block : ℕ) (samples : List (List ℕ)) →
+pub block_at_offset : (layout : Layout) (l : Placing) (volume : List (List (List ℕ))) (file field block : ℕ) (samples : List (List ℕ)) →
     IsVolume l.sizes (length (points l.region)) volume → slice_get volume field ≡ Some samples → file ≤ block →
     block < file + l.per_file → is_present l block ≡ true →
-    take (block_bytes l field) (drop (offset_of l file field block) (file_bytes l volume file)) ≡ block_of_samples l (slice_index l.sizes field) samples block
-block_at_offset l volume file field block samples h is from to present =
+    take (block_bytes l field) (drop (offset_of l file field block) (file_bytes layout l volume file)) ≡ block_in_file layout l (slice_index l.sizes field) samples block
+block_at_offset layout l volume file field block samples h is from to present =
     let s = split_at l.sizes volume (length (points l.region)) field samples h is in
     let cut = present_split l file block from to present in
-    ap (λ bytes. take (block_bytes l field) (drop (offset_of l file field block) bytes)) (parts_of_file l volume file field block samples s cut.0 cut.1)
-    ∙ piece _ (block_of_samples l (slice_index l.sizes field) samples block) _ (offset_of l file field block) (block_bytes l field)
-    (sym (length_before l volume file field block samples s from (omega arith)))
-    (sym (length-block_of_samples l (slice_index l.sizes field) samples block s.count s.right))
+    ap (λ bytes. take (block_bytes l field) (drop (offset_of l file field block) bytes)) (parts_of_file layout l volume file field block samples s cut.0 cut.1)
+    ∙ piece _ (block_in_file layout l (slice_index l.sizes field) samples block) _ (offset_of l file field block) (block_bytes l field)
+    (sym (length_before layout l volume file field block samples s from (omega arith)))
+    (sym (length-block_in_file layout l (slice_index l.sizes field) samples block s.count s.right))
 
 -- the rows of a file are read from its bytes
-pub rows_of-file_bytes : (l : Layout) (volume : List (List (List ℕ))) (file : ℕ) → All IsRow (rows_of_file l file) → rows_of (file_bytes l volume file) (row_count l) ≡ rows_of_file l file
-rows_of-file_bytes l volume file h =
-    ap (rows_of (file_bytes l volume file)) (sym (length-rows_of_file l file))
-    ∙ rows_of-written (replicate 40 0) (blocks_of_file l volume file) (rows_of_file l file) refl h
+pub rows_of-file_bytes : (layout : Layout) (l : Placing) (volume : List (List (List ℕ))) (file : ℕ) → All IsRow (rows_of_file layout l file) → rows_of (file_bytes layout l volume file) (row_count l) ≡ rows_of_file layout l file
+rows_of-file_bytes layout l volume file h =
+    ap (rows_of (file_bytes layout l volume file)) (sym (length-rows_of_file layout l file))
+    ∙ rows_of-written (replicate 40 0) (blocks_of_file layout l volume file) (rows_of_file layout l file) refl h

@@ -6,7 +6,7 @@ use Rattle.std.proofs.Math.Nat.{div-add-mod', mod-lt, mul_comm, mul-le-mul_left}
 use Rattle.std.proofs.lemmas.Bool.{ne_eqb}
 use Rattle.std.proofs.Common.{eq-eqb}
 use Rattle.std.proofs.lemmas.List.Elements.{filter-append}
-use Rattle.idx_layout.specs.Layout.{Layout, block_count, file_numbers, file_of, has_point_in, is_present}
+use Rattle.idx_layout.specs.Placing.{Placing, block_count, file_numbers, file_of, has_point_in, is_present}
 use Rattle.idx_layout.proofs.PresentLemmas.{absent-past}
 use Rattle.idx_layout.specs.FileNumbers.{AreFiles, files_from}
 use Rattle.idx_layout.proofs.ListLemmas.{count-none, range-split}
@@ -79,7 +79,7 @@ and_other : (a b : Bool) → b ≡ false → (a && b) ≡ false
 and_other true b e = e
 and_other false b e = refl
 
-module _ (l : Layout) where
+module _ (l : Placing) where
   -- a block is present and of a file
   abbrev of_file : ℕ → ℕ → Bool
   of_file file block = is_present l block && (file_of l block == file)
@@ -163,19 +163,19 @@ module _ (l : Layout) where
           by_distance (suc d) less = wrong (sym present ∙ least other (omega (arith, at.0, same, low)) (omega (arith, less)))
 
 -- from the first block on it is all files
-pub files_of_all : (l : Layout) → files_from l 0 ≡ file_numbers l
+pub files_of_all : (l : Placing) → files_from l 0 ≡ file_numbers l
 files_of_all l =
     let all : block_count l - 0 ≡ block_count l = omega arith in
     ap (λ n. filter (λ file. list_any (λ block. is_present l block && (file_of l block == file)) (range_with_len 0 (block_count l))) (range_with_len 0 n)) all
 
 -- behind a file begins the next
-pub next_begins : (l : Layout) (next block : ℕ) → AreFiles l next → AreFiles l (file_of l block + l.per_file)
+pub next_begins : (l : Placing) (next block : ℕ) → AreFiles l next → AreFiles l (file_of l block + l.per_file)
 next_begins l next block is =
     let one_more : file_of l block + l.per_file ≡ l.per_file * (block / l.per_file + 1) = grind arith in
     record { address = is.address; bits = is.bits; some = is.some; few = is.few; begins = (block / l.per_file + 1, one_more) }
 
 -- a layout of the same mask, box and numbers has the same files, whatever its fields
-pub files_of_same : (l : Layout) (mask : List ℕ) (region : List (ℕ × ℕ)) (bits per_file : ℕ) → mask ≡ l.mask → region ≡ l.region → bits ≡ l.bits → per_file ≡ l.per_file →
+pub files_of_same : (l : Placing) (mask : List ℕ) (region : List (ℕ × ℕ)) (bits per_file : ℕ) → mask ≡ l.mask → region ≡ l.region → bits ≡ l.bits → per_file ≡ l.per_file →
     files_from (record { mask = mask; region = region; bits = bits; per_file = per_file; sizes = [] }) 0 ≡ file_numbers l
 files_of_same l mask region bits per_file a b c d =
     ap (λ (x : List ℕ). files_from (record { mask = x; region = region; bits = bits; per_file = per_file; sizes = [] }) 0) a

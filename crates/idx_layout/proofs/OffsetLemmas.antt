@@ -7,7 +7,7 @@ use Rattle.std.proofs.lemmas.Bool.{lt-ltb, le-ltb, ne_eqb}
 use Rattle.std.proofs.lemmas.Grind.{flat_map-append}
 use Rattle.std.proofs.lemmas.List.Elements.{filter-append}
 use Rattle.std.proofs.lemmas.List.Sums.{sum_by-append, sum_by-cons}
-use Rattle.idx_layout.specs.Layout.{Layout, block_bytes, present_blocks, is_present}
+use Rattle.idx_layout.specs.Placing.{Placing, block_bytes, present_blocks, is_present}
 use Rattle.idx_layout.specs.Files.{stands_before, offset_of, length_of_file, row_count}
 use Rattle.idx_table.specs.Table.{table_bytes}
 use Rattle.idx_layout.proofs.ListLemmas.{range-split}
@@ -115,7 +115,7 @@ stored_before field block blocks n h =
     ∙ append-nil (of_field (filter (λ b. nat_lt b block) blocks) field))
 
 -- where a block begins
-pub offset_of-sums : (l : Layout) (file field block : ℕ) → field < length l.sizes →
+pub offset_of-sums : (l : Placing) (file field block : ℕ) → field < length l.sizes →
     offset_of l file field block ≡ table_bytes (row_count l)
     + (sum_by (block_bytes l) (range_with_len 0 field) * length (present_blocks l file) + block_bytes l field * length
     (filter (λ b. nat_lt b block) (present_blocks l file)))
@@ -130,7 +130,7 @@ offset_of-sums l file field block h =
     ∙ ap (λ n. sum_by (block_bytes l) (range_with_len 0 field) * length blocks + n) (bytes_of-field (block_bytes l) own field))
 
 -- how many bytes a file has
-pub length_of_file-sums : (l : Layout) (file : ℕ) → length_of_file l file ≡ table_bytes (row_count l) + sum_by (block_bytes l) (range_with_len 0 (length l.sizes)) * length (present_blocks l file)
+pub length_of_file-sums : (l : Placing) (file : ℕ) → length_of_file l file ≡ table_bytes (row_count l) + sum_by (block_bytes l) (range_with_len 0 (length l.sizes)) * length (present_blocks l file)
 length_of_file-sums l file =
     ap (λ n. table_bytes (row_count l) + n) (bytes_of-fields (block_bytes l) (present_blocks l file) 0 (length l.sizes))
 
@@ -159,7 +159,7 @@ number_behind p a (suc n) block h = by_test (p a) (number_behind p (a + 1) n blo
     by_test false e = e
 
 -- the present blocks of a file whose numbers are below one of its places
-pub present_before : (l : Layout) (file block : ℕ) → file ≤ block → block ≤ file + l.per_file →
+pub present_before : (l : Placing) (file block : ℕ) → file ≤ block → block ≤ file + l.per_file →
     filter (λ b. nat_lt b block) (present_blocks l file) ≡ filter (is_present l) (range_with_len file (block - file))
 present_before l file block from to =
     let m : ℕ = block - file in
@@ -221,7 +221,7 @@ place_among p a (suc n) i b e = by_test (place_among p (a + 1) n) (p a) refl i e
         ∙ more i b (sym (ap (λ (t : Bool). slice_get (cond t (a ∷ rest) rest) i) is) ∙ e)
 
 -- where the present block of a place among them begins
-pub offset_of-place : (l : Layout) (file field i block : ℕ) → field < length l.sizes → slice_get (present_blocks l file) i ≡ Some block →
+pub offset_of-place : (l : Placing) (file field i block : ℕ) → field < length l.sizes → slice_get (present_blocks l file) i ≡ Some block →
     offset_of l file field block ≡ table_bytes (row_count l) + (sum_by (block_bytes l) (range_with_len 0 field) * length (present_blocks l file) + block_bytes l field * i)
 offset_of-place l file field i block h e =
     offset_of-sums l file field block h

@@ -18,7 +18,7 @@ use Rattle.idx_grid.proofs.LevelGridLemmas.{length-first_of, length-strides}
 use Rattle.std.proofs.lemmas.List.{length-replicate}
 use Rattle.idx_grid.proofs.GridLemmas.{is_on_axes_iff}
 use Rattle.std.specs.List.{list_any}
-use Rattle.idx_layout.specs.Layout.{has_point_in}
+use Rattle.idx_layout.specs.Placing.{has_point_in}
 use Rattle.idx_layout.proofs.ListLemmas.{same_tests, list_any-slice_get, passing}
 
 -- a region's point that passes a test is found

@@ -6,7 +6,10 @@ use Rattle.idx_geom.specs.Volume.{IsVolume}
 use Rattle.idx_table.specs.declared.row.Row.{Row}
 use Rattle.idx_table.specs.Table.{table_bytes, fault_in, field_of, first_fault, row_at}
 use Rattle.std.proofs.lemmas.Bool.Decides.{nat_tests}
-use Rattle.idx_layout.specs.Layout.{Layout, block_bytes, present_blocks, is_present}
+use Rattle.idx_layout.specs.declared.layout.Layout.{Layout}
+use Rattle.idx_layout.specs.declared.layout.Layout.TheVariants.{Hz}
+use Rattle.idx_layout.specs.Layout.{flags_of}
+use Rattle.idx_layout.specs.Placing.{Placing, block_bytes, present_blocks, is_present}
 use Rattle.idx_layout.specs.Files.{FitsRows, file_bytes, row_of_block, rows_of_file, offset_of, length_of_file, row_count}
 use Rattle.idx_layout.proofs.OffsetLemmas.{offset_of-sums, present_before, length_of_file-sums}
 use Rattle.idx_layout.proofs.FileLemmas.{present_split, length-flat_map_same, length-rows_of_file, rows_of-file_bytes}
@@ -26,6 +29,10 @@ has_samples [] volume n field h within = absurd (omega arith)
 has_samples (size ∷ sizes) [] n field h within = absurd h
 has_samples (size ∷ sizes) (v ∷ volume) n zero h within = (v, refl)
 has_samples (size ∷ sizes) (v ∷ volume) n (suc field) h within = has_samples sizes volume n field h.2 (omega arith)
+
+-- the flags say that the samples are as they are read
+flags_none : (layout : Layout) → flags_of layout ≡ 0
+flags_none Hz = refl
 
 -- a row that says where such a block stands is right
 right_row : (rows size len offset : ℕ) → table_bytes rows ≤ offset → offset + size ≤ len → fault_in rows size len (record { offset = offset; size = size; flags = 0 }) ≡ None
@@ -52,7 +59,7 @@ product_within s g r n before behind all count sum =
     omega (arith, whole, some)
 
 -- a block ends within its file
-pub ends_within : (l : Layout) (file field block : ℕ) → field < length l.sizes → file ≤ block →
+pub ends_within : (l : Placing) (file field block : ℕ) → field < length l.sizes → file ≤ block →
     block < file + l.per_file → is_present l block ≡ true →
     offset_of l file field block + block_bytes l field ≤ length_of_file l file
 ends_within l file field block within from to present =
@@ -69,16 +76,16 @@ ends_within l file field block within from to present =
     omega (arith, fits, offset, length_of_file-sums l file)
 
 -- a row of a file, by its number
-pub row_at_place : (l : Layout) (file i : ℕ) (d : Row) → 1 ≤ l.per_file → i < row_count l → get_or (rows_of_file l file) i d ≡ row_of_block l file (i / l.per_file) (file + i % l.per_file)
-row_at_place l file i d some h =
+pub row_at_place : (layout : Layout) (l : Placing) (file i : ℕ) (d : Row) → 1 ≤ l.per_file → i < row_count l → get_or (rows_of_file layout l file) i d ≡ row_of_block layout l file (i / l.per_file) (file + i % l.per_file)
+row_at_place layout l file i d some h =
     let p : ℕ = l.per_file in
     let k : ℕ = i / p in
     let j : ℕ = i % p in
     let xs : List ℕ = range_with_len 0 (length l.sizes) in
-    let f : ℕ → List Row = λ field. map (row_of_block l file field) (range_with_len file p) in
+    let f : ℕ → List Row = λ field. map (row_of_block layout l file field) (range_with_len file p) in
     let field : k < length l.sizes = (div-lt_iff_lt-mul {k = p} {x = i} {y = length l.sizes} some).1 h in
     let place : j < p = mod-lt i some in
-    let one : (field : ℕ) → length (f field) ≡ p = λ field. length-map-range_with_len (row_of_block l file field) file p in
+    let one : (field : ℕ) → length (f field) ≡ p = λ field. length-map-range_with_len (row_of_block layout l file field) file p in
     let before : length (flat_map f (take k xs)) ≡ p * k =
     length-flat_map_same f p (take k xs) one ∙ ap (λ n. p * n) (length-take-le k xs (omega (arith, field, length-range_with_len 0 (length l.sizes)))) in
     let at : i ≡ length (flat_map f (take k xs)) + j =
@@ -87,55 +94,59 @@ row_at_place l file i d some h =
     ap (λ n. get_or (flat_map f xs) n d) at
     ∙ get_or-flat_map f xs k j 0 d (omega (arith, field, length-range_with_len 0 (length l.sizes))) (omega (arith, place, one (get_or xs k 0)))
     ∙ ap (λ field. get_or (f field) j d) number
-    ∙ get_or-map-range_with_len (row_of_block l file k) file p j (file + j) d place refl
+    ∙ get_or-map-range_with_len (row_of_block layout l file k) file p j (file + j) d place refl
 
 -- the row of a block is right, and has a row's values
-right_block : (l : Layout) (file field block : ℕ) → FitsRows l file → field < length l.sizes → file ≤ block → block < file + l.per_file →
-    (fault_in (row_count l) (block_bytes l field) (length_of_file l file) (row_of_block l file field block) ≡ None) × IsRow (row_of_block l file field block)
-right_block l file field block fits within from to = by_test (is_present l block) refl
+right_block : (layout : Layout) (l : Placing) (file field block : ℕ) → FitsRows l file → field < length l.sizes → file ≤ block → block < file + l.per_file →
+    (fault_in (row_count l) (block_bytes l field) (length_of_file l file) (row_of_block layout l file field block) ≡ None) × IsRow (row_of_block layout l file field block)
+right_block layout l file field block fits within from to = by_test (is_present l block) refl
   where
+    there : ℕ → Row
+    there flags = record { offset = offset_of l file field block; size = block_bytes l field; flags = flags }
+
     row : Bool → Row
-    row b = cond b (record { offset = offset_of l file field block; size = block_bytes l field; flags = 0 }) (record { offset = 0; size = 0; flags = 0 })
+    row b = cond b (there (flags_of layout)) (record { offset = 0; size = 0; flags = 0 })
 
     by_test : (b : Bool) → is_present l block ≡ b →
-        (fault_in (row_count l) (block_bytes l field) (length_of_file l file) (row_of_block l file field block) ≡
-        None) × IsRow (row_of_block l file field block)
+        (fault_in (row_count l) (block_bytes l field) (length_of_file l file) (row_of_block layout l file field block) ≡
+        None) × IsRow (row_of_block layout l file field block)
     by_test true is =
         let ends = ends_within l file field block within from to is in
         let begins = offset_of-sums l file field block within in
-        let e : row_of_block l file field block ≡ record { offset = offset_of l file field block; size = block_bytes l field; flags = 0 } = ap row is in (
+        let e : row_of_block layout l file field block ≡ record { offset = offset_of l file field block; size = block_bytes l field; flags = 0 } =
+        ap row is ∙ ap there (flags_none layout) in (
           ap (fault_in (row_count l) (block_bytes l field) (length_of_file l file)) e
               ∙ right_row (row_count l) (block_bytes l field) (length_of_file l file) (offset_of l file field block) (omega (arith, begins)) ends,
           subst IsRow (sym e) (record { offset = omega (arith, ends, fits.bytes); size = fits.sizes field within; flags = lit< tt }),
         )
     by_test false is =
-        let e : row_of_block l file field block ≡ record { offset = 0; size = 0; flags = 0 } = ap row is in (
+        let e : row_of_block layout l file field block ≡ record { offset = 0; size = 0; flags = 0 } = ap row is in (
           ap (fault_in (row_count l) (block_bytes l field) (length_of_file l file)) e,
           subst IsRow (sym e) (record { offset = lit< tt; size = lit< tt; flags = lit< tt }),
         )
 
-right_place : (l : Layout) (file i : ℕ) → FitsRows l file → i < row_count l →
+right_place : (layout : Layout) (l : Placing) (file i : ℕ) → FitsRows l file → i < row_count l →
     (fault_in (row_count l) (block_bytes l (i / l.per_file)) (length_of_file l file)
-    (row_of_block l file (i / l.per_file) (file + i % l.per_file)) ≡ None) × IsRow
-    (row_of_block l file (i / l.per_file) (file + i % l.per_file))
-right_place l file i fits h =
+    (row_of_block layout l file (i / l.per_file) (file + i % l.per_file)) ≡ None) × IsRow
+    (row_of_block layout l file (i / l.per_file) (file + i % l.per_file))
+right_place layout l file i fits h =
     let place = mod-lt i fits.places in
-    right_block l file (i / l.per_file) (file + i % l.per_file) fits
+    right_block layout l file (i / l.per_file) (file + i % l.per_file) fits
     ((div-lt_iff_lt-mul {k = l.per_file} {x = i} {y = length l.sizes} fits.places).1 h) (omega arith) (omega (arith, place))
 
-pub rows_fit : (l : Layout) (file : ℕ) → FitsRows l file → All IsRow (rows_of_file l file)
-rows_fit l file fits =
+pub rows_fit : (layout : Layout) (l : Placing) (file : ℕ) → FitsRows l file → All IsRow (rows_of_file layout l file)
+rows_fit layout l file fits =
     let none : Row = record { offset = 0; size = 0; flags = 0 } in
-    All-from_get_or IsRow (rows_of_file l file) none (λ i h.
-    let within : i < row_count l = omega (arith, h, length-rows_of_file l file) in
-    subst IsRow (sym (row_at_place l file i none fits.places within)) (right_place l file i fits within).1)
+    All-from_get_or IsRow (rows_of_file layout l file) none (λ i h.
+    let within : i < row_count l = omega (arith, h, length-rows_of_file layout l file) in
+    subst IsRow (sym (row_at_place layout l file i none fits.places within)) (right_place layout l file i fits within).1)
 
 -- no row is faulty
-pub no_fault : (l : Layout) (volume : List (List (List ℕ))) (file : ℕ) → FitsRows l file →
-    first_fault (file_bytes l volume file) (row_count l) (map (block_bytes l) (range_with_len 0 (length l.sizes)))
+pub no_fault : (layout : Layout) (l : Placing) (volume : List (List (List ℕ))) (file : ℕ) → FitsRows l file →
+    first_fault (file_bytes layout l volume file) (row_count l) (map (block_bytes l) (range_with_len 0 (length l.sizes)))
     (length_of_file l file) ≡ None
-no_fault l volume file fits =
-    let front : List ℕ = file_bytes l volume file in
+no_fault layout l volume file fits =
+    let front : List ℕ = file_bytes layout l volume file in
     let rows : ℕ = row_count l in
     let blocks : List ℕ = map (block_bytes l) (range_with_len 0 (length l.sizes)) in
     let len : ℕ = length_of_file l file in
@@ -148,11 +159,11 @@ no_fault l volume file fits =
     ap (λ n. i / (rows / n)) count ∙ ap (λ n. i / n) (mul-div_cancel_left p {n = length l.sizes} fits.fields) in
     let size : slice_index blocks (field_of rows (length blocks) i) ≡ block_bytes l (i / p) =
     ap (slice_index blocks) of_field ∙ get_or-map-range_with_len (block_bytes l) 0 (length l.sizes) (i / p) (i / p) 0 field (zero-add (i / p)) in
-    let row : row_at front i ≡ row_of_block l file (i / p) (file + i % p) =
+    let row : row_at front i ≡ row_of_block layout l file (i / p) (file + i % p) =
     sym (get_or-map-range_with_len (row_at front) 0 rows i i (row_at front i) h (zero-add i))
-    ∙ ap (λ rows. get_or rows i (row_at front i)) (rows_of-file_bytes l volume file (rows_fit l file fits))
-    ∙ row_at_place l file i (row_at front i) fits.places h in
+    ∙ ap (λ rows. get_or rows i (row_at front i)) (rows_of-file_bytes layout l volume file (rows_fit layout l file fits))
+    ∙ row_at_place layout l file i (row_at front i) fits.places h in
     kind_of_row-whole front rows blocks len i whole
     ∙ ap (λ n. fault_in rows n len (row_at front i)) size
     ∙ ap (fault_in rows (block_bytes l (i / p)) len) row
-    ∙ (right_place l file i fits h).0)
+    ∙ (right_place layout l file i fits h).0)

@@ -6,7 +6,7 @@ use Rattle.std.proofs.lemmas.Nat.{pow-add, pow_pos}
 use Rattle.std.proofs.Math.Pow.{pow_mono}
 use Rattle.idx_geom.specs.Region.{LiesIn}
 use Rattle.idx_hz.specs.Address.{hz_address}
-use Rattle.idx_layout.specs.Layout.{has_point_in}
+use Rattle.idx_layout.specs.Placing.{has_point_in}
 use Rattle.idx_layout.specs.Runs.{NoneBetween}
 use Rattle.idx_layout.proofs.PresentLemmas.{any_point, point_found}
 

@@ -1,5 +1,6 @@
-pub mod Layout
+pub mod Placing
 pub mod Content
+pub mod Layout
 pub mod Files
 pub mod FileNumbers
 pub mod FileRows

@@ -1,6 +1,6 @@
 -- Runs of blocks without a point of a box.
 use Rattle.std.specs.Prelude.{◌≡◌, ℕ, ◌+◌, ◌-◌, ◌*◌, ◌^◌, ◌<◌, ◌≤◌, true, false, List, length}
-use Rattle.idx_layout.specs.Layout.{has_point_in}
+use Rattle.idx_layout.specs.Placing.{has_point_in}
 use Rattle.idx_layout.specs.declared.run.Run.{Run}
 
 -- none of the blocks from one on and before an end has a point of the box

@@ -4,8 +4,8 @@ ghost use Rattle.std.specs.Iterator.{YieldsFirst, item_count};
 ghost use Rattle.idx_geom.specs.Region.{upper_ends};
 ghost use Rattle.idx_header.specs.Header.{IsHeader};
 ghost use Rattle.idx_hz.specs.Mask.{HasAddress};
-ghost use Rattle.idx_layout.specs.Layout.{has_point_in, present_blocks};
-ghost use Rattle.idx_layout.specs.OfHeader.{layout_of};
+ghost use Rattle.idx_layout.specs.Placing.{has_point_in, present_blocks};
+ghost use Rattle.idx_layout.specs.OfHeader.{placing_of};
 
 use crate::next_block::next_present;
 use idx_geom::Region;
@@ -30,7 +30,7 @@ impl Model for FileBlocks {
     ghost use Rattle.std.specs.List.{range_with_len};
     ghost use Rattle.idx_geom.specs.Region.{upper_ends};
     ghost use Rattle.idx_hz.specs.Mask.{HasAddress};
-    ghost use Rattle.idx_layout.specs.Layout.{has_point_in};
+    ghost use Rattle.idx_layout.specs.Placing.{has_point_in};
 
     ghost Value = { List ℕ };
 
@@ -42,7 +42,7 @@ impl Model for FileBlocks {
 impl FileBlocks {
     /// The present blocks of a file of a header.
     pub(crate) fn of_header(header: &Header, file: u64) -> FileBlocks
-        ensures value { result ≡ present_blocks (layout_of header.now) file }
+        ensures value { result ≡ present_blocks (placing_of header.now) file }
         ensures valid { IsHeader header.now }
     {
         FileBlocks::between(

@@ -2,12 +2,13 @@ ghost use Rattle.std.specs.Prelude.{◌≡◌, ◌+◌, ◌-◌, ◌*◌, ◌/�
 ghost use Rattle.std.specs.List.{range_with_len};
 ghost use Rattle.idx_header.specs.Header.{IsHeader, block_count};
 ghost use Rattle.idx_table.specs.Table.{table_bytes};
-ghost use Rattle.idx_layout.specs.Layout.{block_bytes, file_numbers, file_of, is_present, present_blocks};
+ghost use Rattle.idx_layout.specs.Placing.{block_bytes, file_numbers, file_of, is_present, present_blocks};
 ghost use Rattle.idx_layout.specs.Files.{length_of_file, row_count, rows_of_file};
-ghost use Rattle.idx_layout.specs.OfHeader.{layout_of, place_of};
+ghost use Rattle.idx_layout.specs.OfHeader.{placing_of, place_of};
 
 use crate::block_place::Place;
 use crate::blocks_in_file::FileBlocks;
+use crate::layout::Layout;
 use crate::present_files::Files;
 use crate::rows_in_file::FileRows;
 use crate::{blocks_with_points, has_point_in};
@@ -18,7 +19,7 @@ use idx_table::table_bytes;
 /// an axis.
 pub fn present(header: &Header, block: u64) -> bool
     requires exists { block < block_count header.now }
-    ensures { result ≡ is_present (layout_of header.now) block }
+    ensures { result ≡ is_present (placing_of header.now) block }
 {
     has_point_in(
         &header.mask(),
@@ -30,7 +31,7 @@ pub fn present(header: &Header, block: u64) -> bool
 
 /// The numbers, rising, of the files that have a present block.
 pub fn files(header: &Header) -> Files
-    ensures value { result ≡ file_numbers (layout_of header.now) }
+    ensures value { result ≡ file_numbers (placing_of header.now) }
     ensures few { length result ≤ 2 ^ 24 }
 {
     Files::of_header(header)
@@ -39,19 +40,19 @@ pub fn files(header: &Header) -> Files
 /// The present blocks of a file, rising. One after another, numbered from 0, they begin where `offset_at` says for their
 /// numbers, so that the places of all blocks of a file take one pass.
 pub fn file_blocks(header: &Header, file: u64) -> FileBlocks
-    ensures value { result ≡ present_blocks (layout_of header.now) file }
+    ensures value { result ≡ present_blocks (placing_of header.now) file }
     ensures few { length result ≤ 65536 }
 {
     FileBlocks::of_header(header, file)
 }
 
-/// The rows of the table of a file, for each field one for each of its block places.
-pub fn file_rows(header: &Header, file: u64) -> FileRows<'_>
+/// The rows of the table of a file whose blocks stand in a layout, for each field one for each of its block places.
+pub fn file_rows(header: &Header, layout: Layout, file: u64) -> FileRows<'_>
     requires exists { file < block_count header.now }
-    ensures rows { result ≡ rows_of_file (layout_of header.now) file }
+    ensures rows { result ≡ rows_of_file layout (placing_of header.now) file }
     ensures valid { IsHeader header.now }
 {
-    FileRows::of_header(header, file)
+    FileRows::of_header(header, layout, file)
 }
 
 /// Where a block of a field stands: `None` exactly where it is absent. The answer goes through the
@@ -59,7 +60,7 @@ pub fn file_rows(header: &Header, file: u64) -> FileRows<'_>
 pub fn place(header: &Header, field: u32, block: u64) -> Option<Place>
     requires field { field < length header.now.fields }
     requires exists { block < block_count header.now }
-    ensures { result ≡ place_of (layout_of header.now) field block }
+    ensures { result ≡ place_of (placing_of header.now) field block }
 {
     if !present(header, block) {
         return None;
@@ -77,7 +78,7 @@ pub fn place(header: &Header, field: u32, block: u64) -> Option<Place>
 
 /// How many bytes a file has: its table, and the present blocks of all fields.
 pub fn file_len(header: &Header, file: u64) -> u64
-    ensures { result ≡ length_of_file (layout_of header.now) file }
+    ensures { result ≡ length_of_file (placing_of header.now) file }
 {
     let present = present_in_file(header, file);
     table_len(header) + bytes_before(header, header.field_count()) * present
@@ -85,7 +86,7 @@ pub fn file_len(header: &Header, file: u64) -> u64
 
 /// How many blocks of a file are present.
 pub fn present_in_file(header: &Header, file: u64) -> u64
-    ensures value { result ≡ length (present_blocks (layout_of header.now) file) }
+    ensures value { result ≡ length (present_blocks (placing_of header.now) file) }
     ensures few { result ≤ 65536 }
     ensures valid { IsHeader header.now }
 {
@@ -94,7 +95,7 @@ pub fn present_in_file(header: &Header, file: u64) -> u64
 
 /// How many bytes the table of a file has.
 pub fn table_len(header: &Header) -> u64
-    ensures value { result ≡ table_bytes (row_count (layout_of header.now)) }
+    ensures value { result ≡ table_bytes (row_count (placing_of header.now)) }
     ensures few { result ≤ 2 ^ 28 }
     ensures fields { length header.now.fields ≤ 64 }
     ensures valid { IsHeader header.now }
@@ -114,7 +115,7 @@ pub(crate) fn file_of(block: u64, per_file: u64) -> u64
 
 /// How many of the blocks from `first` on and before `end` are present.
 fn present_between(header: &Header, first: u64, end: u64) -> u64
-    ensures value { result ≡ length (filter (is_present (layout_of header.now)) (range_with_len first (end - first))) }
+    ensures value { result ≡ length (filter (is_present (placing_of header.now)) (range_with_len first (end - first))) }
     ensures few { result ≤ end - first }
     ensures valid { IsHeader header.now }
 {
@@ -131,7 +132,7 @@ fn present_between(header: &Header, first: u64, end: u64) -> u64
 fn bytes_before(header: &Header, field: u32) -> u64
     requires field { field ≤ length header.now.fields }
     requires few { field ≤ 64 }
-    ensures value { result ≡ sum_by (block_bytes (layout_of header.now)) (range_with_len 0 field) }
+    ensures value { result ≡ sum_by (block_bytes (placing_of header.now)) (range_with_len 0 field) }
     ensures few { result ≤ 2 ^ 30 }
 {
     let mut bytes = 0;
@@ -146,9 +147,9 @@ pub fn offset_at(header: &Header, field: u32, earlier: u64, present: u64) -> u64
     requires field { field < length header.now.fields }
     requires earlier { earlier ≤ 65536 }
     requires present { present ≤ 65536 }
-    ensures { result ≡ table_bytes (row_count (layout_of header.now))
-        + (sum_by (block_bytes (layout_of header.now)) (range_with_len 0 field) * present
-        + block_bytes (layout_of header.now) field * earlier) }
+    ensures { result ≡ table_bytes (row_count (placing_of header.now))
+        + (sum_by (block_bytes (placing_of header.now)) (range_with_len 0 field) * present
+        + block_bytes (placing_of header.now) field * earlier) }
 {
     table_len(header)
         + (bytes_before(header, field) * present + header.block_bytes(field) * earlier)

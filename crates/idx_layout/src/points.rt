@@ -2,7 +2,7 @@ ghost use Rattle.std.specs.Prelude.{◌≡◌, ◌-◌, ◌^◌, ◌<◌, ◌≤
 ghost use Rattle.std.specs.List.{range_with_len};
 ghost use Rattle.idx_geom.specs.Region.{upper_ends};
 ghost use Rattle.idx_hz.specs.Mask.{HasAddress};
-ghost use Rattle.idx_layout.specs.Layout.{has_point_in};
+ghost use Rattle.idx_layout.specs.Placing.{has_point_in};
 
 use crate::blocks_in_file::FileBlocks;
 use idx_geom::Region;

@@ -1,8 +1,8 @@
 ghost use Rattle.std.specs.Prelude.{◌≡◌};
 ghost use Rattle.std.specs.Iterator.{YieldsFirst, item_count};
 ghost use Rattle.idx_header.specs.Header.{IsHeader};
-ghost use Rattle.idx_layout.specs.Layout.{file_numbers};
-ghost use Rattle.idx_layout.specs.OfHeader.{layout_of};
+ghost use Rattle.idx_layout.specs.Placing.{file_numbers};
+ghost use Rattle.idx_layout.specs.OfHeader.{placing_of};
 
 use crate::next_block::next_present;
 use crate::places::file_of;
@@ -48,7 +48,7 @@ impl Model for Files {
 impl Files {
     /// The files of a header.
     pub(crate) fn of_header(header: &Header) -> Files
-        ensures value { result ≡ file_numbers (layout_of header.now) }
+        ensures value { result ≡ file_numbers (placing_of header.now) }
         ensures valid { IsHeader header.now }
     {
         Files {

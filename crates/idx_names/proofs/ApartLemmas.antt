@@ -1,5 +1,5 @@
 -- Different numbers give different paths.
-use Rattle.std.proofs.Common.{◌≡◌, ℕ, zero, suc, ◌+◌, ◌-◌, ◌*◌, ◌/◌, ◌%◌, ◌^◌, ◌<◌, ◌≤◌, true, false, eqb, ltb, List, [], ◌∷◌, ◌++◌, length, map, replicate, refl, sym, ap, ◌∙◌, subst, arith, append_assoc, if◌then◌else◌, mod-lt, length-append, true≢false, Some, None}
+use Rattle.std.proofs.Common.{◌≡◌, ℕ, zero, suc, ◌+◌, ◌-◌, ◌*◌, ◌/◌, ◌%◌, ◌^◌, ◌<◌, ◌≤◌, true, false, eqb, ltb, List, [], ◌∷◌, ◌++◌, length, map, replicate, refl, sym, ap, ◌∙◌, subst, arith, append_assoc, append-nil, if◌then◌else◌, mod-lt, length-append, true≢false, Some, None}
 use Rattle.std.proofs.lemmas.List.{append_cancel_left, length-map, length-replicate}
 use Rattle.std.proofs.lemmas.Bool.Decides.{nat_tests}
 use Rattle.std.proofs.lemmas.Int.Digits.{number_digits_of, all_below_base_digits_of, length-digits_of-le}
@@ -15,7 +15,7 @@ use Rattle.idx_names.specs.Numeral.{numeral}
 use Rattle.idx_names.specs.Pieces.{bits_of, mark_count, is_plain}
 use Rattle.idx_names.specs.Template.{TemplateValue, IsTemplate}
 use Rattle.idx_names.specs.TimeTemplate.{TimeTemplateValue, IsTimeTemplate, folder_text, folder_name}
-use Rattle.idx_names.specs.Path.{numbered, step_folder, file_path}
+use Rattle.idx_names.specs.Path.{numbered, revision_mark, step_folder, file_path}
 use Rattle.idx_names.proofs.GrammarLemmas.{IsInner, All-both}
 use Rattle.idx_names.proofs.TemplateLemmas.{made}
 use Rattle.idx_names.proofs.TimeLemmas.{made_time}
@@ -171,38 +171,44 @@ numbered_once (Mark d ∷ ps) m n some e =
     let both = mark_parts d ps m n e in
     whole_again m n k both.0 (small_once ps (m % k) (n % k) (mod-lt m room) (mod-lt n room) both.1)
 
--- a character that is no `/`
-abbrev IsOther : ℕ → Type 0
-IsOther b = eqb b 47 ≡ false
+-- a character other than this one
+abbrev IsOther : ℕ → ℕ → Type 0
+IsOther c b = eqb b c ≡ false
 
-plain_other : (b : ℕ) → is_plain b ≡ true → IsOther b
+plain_other : (b : ℕ) → is_plain b ≡ true → IsOther 47 b
 plain_other b t = grind (arith, nat_tests)
 
-zeros_other : (k : ℕ) → AllByRecursion IsOther (replicate k 48)
-zeros_other zero = tt
-zeros_other (suc k) = (refl, zeros_other k)
+zeros_other : (c k : ℕ) → c ≤ 47 → AllByRecursion (IsOther c) (replicate k 48)
+zeros_other c zero low = tt
+zeros_other c (suc k) low = let other : eqb 48 c ≡ false = grind (arith, nat_tests) in (other, zeros_other c k low)
 
-glyph_other : (d : ℕ) → IsOther (digit_glyph false d)
-glyph_other d = grind (arith, nat_tests)
+glyph_other : (c d : ℕ) → c ≤ 47 → IsOther c (digit_glyph false d)
+glyph_other c d low = grind (arith, nat_tests)
 
-glyphs_other : (ds : List ℕ) → AllByRecursion IsOther (map (digit_glyph false) ds)
-glyphs_other [] = tt
-glyphs_other (d ∷ ds) = (glyph_other d, glyphs_other ds)
+glyphs_other : (c : ℕ) (ds : List ℕ) → c ≤ 47 → AllByRecursion (IsOther c) (map (digit_glyph false) ds)
+glyphs_other c [] low = tt
+glyphs_other c (d ∷ ds) low = (glyph_other c d low, glyphs_other c ds low)
 
-pub numeral_other : (b least n : ℕ) → AllByRecursion IsOther (numeral b least n)
-numeral_other b least n =
+-- no digit is one of the characters before `0`
+numeral_other : (c b least n : ℕ) → c ≤ 47 → AllByRecursion (IsOther c) (numeral b least n)
+numeral_other c b least n low =
     let digits = map (digit_glyph false) (digits_of b n) in
-    subst (AllByRecursion IsOther) (sym (numeral_parts b least n digits refl))
-    (All-both IsOther (replicate (least - length digits) 48) digits (zeros_other (least - length digits)) (glyphs_other (digits_of b n)))
+    subst (AllByRecursion (IsOther c)) (sym (numeral_parts b least n digits refl))
+    (All-both (IsOther c) (replicate (least - length digits) 48) digits (zeros_other c (least - length digits) low) (glyphs_other c (digits_of b n) low))
 
-folder_other : (step : ℕ) (ps : List Piece) → AllByRecursion (IsInner Step) ps → AllByRecursion IsOther (folder_text step ps)
+folder_other : (step : ℕ) (ps : List Piece) → AllByRecursion (IsInner Step) ps → AllByRecursion (IsOther 47) (folder_text step ps)
 unfolding folder_text
 folder_other step [] h = tt
 folder_other step (Byte b ∷ ps) h = (plain_other b h.0, folder_other step ps h.1)
-folder_other step (Mark d ∷ ps) h = All-both IsOther (numeral 10 d step) (folder_text step ps) (numeral_other 10 d step) (folder_other step ps h.1)
+folder_other step (Mark d ∷ ps) h =
+    All-both (IsOther 47) (numeral 10 d step) (folder_text step ps) (numeral_other 47 10 d step (omega arith)) (folder_other step ps h.1)
+
+mark_other : (r : ℕ) → AllByRecursion (IsOther 47) (revision_mark r)
+mark_other zero = tt
+mark_other (suc r) = (refl, (refl, numeral_other 47 10 1 (suc r) (omega arith)))
 
 -- lists up to their first `/`
-cut : (xs us ys vs : List ℕ) → AllByRecursion IsOther xs → AllByRecursion IsOther us → xs ++ 47 ∷ ys ≡ us ++ 47 ∷ vs → (xs ≡ us) × (ys ≡ vs)
+cut : (xs us ys vs : List ℕ) → AllByRecursion (IsOther 47) xs → AllByRecursion (IsOther 47) us → xs ++ 47 ∷ ys ≡ us ++ 47 ∷ vs → (xs ≡ us) × (ys ≡ vs)
 cut [] [] ys vs h k e = (refl, byte_off 47 ys vs e)
 cut [] (u ∷ us) ys vs h k e =
     let same : u ≡ 47 = cc in absurd (true≢false (sym (ap (λ b. eqb b 47) same) ∙ k.0))
@@ -239,27 +245,102 @@ folder_once s u (Mark d ∷ ps) one e =
     (sym (folder_mark s d ps) ∙ e ∙ folder_mark u d ps) in
     numeral_once 10 d s u (omega arith) (omega arith) both.0
 
+-- a list with a `.` in it
+dotted : (us vs : List ℕ) → AllByRecursion (IsOther 46) (us ++ 46 ∷ vs) → ⊥
+dotted [] vs h = absurd (true≢false h.0)
+dotted (u ∷ us) vs h = dotted us vs h.1
+
+-- lists from their last `.` on
+last_cut : (xs us ys vs : List ℕ) → AllByRecursion (IsOther 46) ys → AllByRecursion (IsOther 46) vs → xs ++ 46 ∷ ys ≡ us ++ 46 ∷ vs →
+    (xs ≡ us) × (ys ≡ vs)
+last_cut [] [] ys vs h k e = (refl, byte_off 46 ys vs e)
+last_cut [] (u ∷ us) ys vs h k e =
+    let tail : ys ≡ us ++ 46 ∷ vs = cc in absurd (dotted us vs (subst (AllByRecursion (IsOther 46)) tail h))
+last_cut (x ∷ xs) [] ys vs h k e =
+    let tail : vs ≡ xs ++ 46 ∷ ys = cc in absurd (dotted xs ys (subst (AllByRecursion (IsOther 46)) tail k))
+last_cut (x ∷ xs) (u ∷ us) ys vs h k e =
+    let head : x ≡ u = cc in
+    let tail : xs ++ 46 ∷ ys ≡ us ++ 46 ∷ vs = cc in
+    let rest = last_cut xs us ys vs h k tail in
+    (λ i. head i ∷ rest.0 i, rest.1)
+
+-- how many characters are `.`
+dots : List ℕ → ℕ
+dots [] = 0
+dots (b ∷ bs) = (if eqb b 46 then 1 else 0) + dots bs
+
+dots_append : (xs ys : List ℕ) → dots (xs ++ ys) ≡ dots xs + dots ys
+unfolding dots
+dots_append [] ys = omega arith
+dots_append (x ∷ xs) ys = let rest = dots_append xs ys in omega (arith, rest)
+
+dots_none : (xs : List ℕ) → AllByRecursion (IsOther 46) xs → dots xs ≡ 0
+unfolding dots
+dots_none [] h = refl
+dots_none (x ∷ xs) h =
+    let rest : dots xs ≡ 0 = dots_none xs h.1 in
+    let here : ◌≡◌ {A = ℕ} (if eqb x 46 then 1 else 0) 0 = ap (λ b. if b then 1 else 0) h.0 in
+    omega (arith, rest, here)
+
+-- the step's number adds none
+same_dots : (s u : ℕ) (ps : List Piece) → dots (folder_text s ps) ≡ dots (folder_text u ps)
+unfolding dots folder_text
+same_dots s u [] = refl
+same_dots s u (Byte b ∷ ps) = ap (λ n. (if eqb b 46 then 1 else 0) + n) (same_dots s u ps)
+same_dots s u (Mark d ∷ ps) =
+    dots_append (numeral 10 d s) (folder_text s ps)
+    ∙ omega (arith, same_dots s u ps, dots_none (numeral 10 d s) (numeral_other 46 10 d s (omega arith)), dots_none (numeral 10 d u) (numeral_other 46 10 d u (omega arith)))
+    ∙ sym (dots_append (numeral 10 d u) (folder_text u ps))
+
+-- a name with a mark of a revision has one more
+one_more_dot : (s u r : ℕ) (ps : List Piece) → folder_text s ps ≡ folder_text u ps ++ 46 ∷ 114 ∷ numeral 10 1 (suc r) → ⊥
+unfolding dots
+one_more_dot s u r ps e =
+    let marked : dots (46 ∷ 114 ∷ numeral 10 1 (suc r)) ≡ 1 + (0 + dots (numeral 10 1 (suc r))) = refl in
+    let whole : dots (folder_text s ps) ≡ dots (folder_text u ps ++ 46 ∷ 114 ∷ numeral 10 1 (suc r)) = ap dots e in
+    omega (arith, marked, whole, dots_append (folder_text u ps) (46 ∷ 114 ∷ numeral 10 1 (suc r)), same_dots s u ps)
+
+-- a folder's name tells its step and its revision
+marked_once : (s u r q : ℕ) (ps : List Piece) → mark_count ps ≡ 1 → folder_text s ps ++ revision_mark r ≡ folder_text u ps ++ revision_mark q →
+    (s ≡ u) × (r ≡ q)
+marked_once s u zero zero ps one e =
+    (folder_once s u ps one (sym (append-nil (folder_text s ps)) ∙ e ∙ append-nil (folder_text u ps)), refl)
+marked_once s u zero (suc q) ps one e = absurd (one_more_dot s u q ps (sym (append-nil (folder_text s ps)) ∙ e))
+marked_once s u (suc r) zero ps one e = absurd (one_more_dot u s r ps (sym (append-nil (folder_text u ps)) ∙ sym e))
+marked_once s u (suc r) (suc q) ps one e =
+    let none : (n : ℕ) → AllByRecursion (IsOther 46) (114 ∷ numeral 10 1 n) = λ n. (refl, numeral_other 46 10 1 n (omega arith)) in
+    let both = last_cut (folder_text s ps) (folder_text u ps) (114 ∷ numeral 10 1 (suc r)) (114 ∷ numeral 10 1 (suc q))
+    (none (suc r)) (none (suc q)) e in (
+      folder_once s u ps one both.0,
+      numeral_once 10 1 (suc r) (suc q) (omega arith) (omega arith)
+          (byte_off 114 (numeral 10 1 (suc r)) (numeral 10 1 (suc q)) both.1),
+    )
+
 -- the laws of paths
 pub files_differ : (t : TemplateValue) (f g : ℕ) → IsTemplate t → file_path t None f ≡ file_path t None g → f ≡ g
 unfolding file_path
 files_differ t f g h e =
     numbered_once t.pieces f g (made t h).some (append_cancel_left t.above (numbered t.pieces f) (numbered t.pieces g) e)
 
-pub folders_differ : (t : TemplateValue) (time : TimeTemplateValue) (s u : ℕ) → IsTimeTemplate time →
-    step_folder t time s ≡ step_folder t time u → s ≡ u
+pub folders_differ : (t : TemplateValue) (time : TimeTemplateValue) (s u r q : ℕ) → IsTimeTemplate time →
+    step_folder t time s r ≡ step_folder t time u q → (s ≡ u) × (r ≡ q)
 unfolding step_folder folder_name
-folders_differ t time s u k e =
-    folder_once s u time.pieces (made_time time k).one (append_cancel_left t.above (folder_text s time.pieces) (folder_text u time.pieces) e)
+folders_differ t time s u r q k e =
+    marked_once s u r q time.pieces (made_time time k).one
+    (append_cancel_left t.above (folder_text s time.pieces ++ revision_mark r) (folder_text u time.pieces ++ revision_mark q) e)
 
-pub steps_differ : (t : TemplateValue) (time : TimeTemplateValue) (s u f g : ℕ) → IsTemplate t → IsTimeTemplate time →
-    file_path t (Some (time, s)) f ≡ file_path t (Some (time, u)) g → (s ≡ u) × (f ≡ g)
+pub steps_differ : (t : TemplateValue) (time : TimeTemplateValue) (s u r q f g : ℕ) → IsTemplate t → IsTimeTemplate time →
+    file_path t (Some (time, s, r)) f ≡ file_path t (Some (time, u, q)) g → (s ≡ u) × (r ≡ q) × (f ≡ g)
 unfolding file_path step_folder folder_name
-steps_differ t time s u f g h k e =
+steps_differ t time s u r q f g h k e =
     let m = made_time time k in
-    let behind : folder_text s time.pieces ++ 47 ∷ numbered t.pieces f ≡ folder_text u time.pieces ++ 47 ∷ numbered t.pieces g =
+    let here : List ℕ = folder_text s time.pieces ++ revision_mark r in
+    let there : List ℕ = folder_text u time.pieces ++ revision_mark q in
+    let behind : here ++ 47 ∷ numbered t.pieces f ≡ there ++ 47 ∷ numbered t.pieces g =
     append_cancel_left t.above _ _
-    (sym (append_assoc t.above (folder_text s time.pieces) (47 ∷ numbered t.pieces f)) ∙ e
-    ∙ append_assoc t.above (folder_text u time.pieces) (47 ∷ numbered t.pieces g)) in
-    let both = cut (folder_text s time.pieces) (folder_text u time.pieces) (numbered t.pieces f) (numbered t.pieces g)
-    (folder_other s time.pieces m.inner) (folder_other u time.pieces m.inner) behind in
-    (folder_once s u time.pieces m.one both.0, numbered_once t.pieces f g (made t h).some both.1)
+    (sym (append_assoc t.above here (47 ∷ numbered t.pieces f)) ∙ e ∙ append_assoc t.above there (47 ∷ numbered t.pieces g)) in
+    let both = cut here there (numbered t.pieces f) (numbered t.pieces g)
+    (All-both (IsOther 47) (folder_text s time.pieces) (revision_mark r) (folder_other s time.pieces m.inner) (mark_other r))
+    (All-both (IsOther 47) (folder_text u time.pieces) (revision_mark q) (folder_other u time.pieces m.inner) (mark_other q)) behind in
+    let folder = marked_once s u r q time.pieces m.one both.0 in
+    (folder.0, folder.1, numbered_once t.pieces f g (made t h).some both.1)

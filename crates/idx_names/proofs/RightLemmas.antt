@@ -13,7 +13,7 @@ use Rattle.idx_names.specs.Numeral.{numeral}
 use Rattle.idx_names.specs.Pieces.{pieces_text, bits_of, mark_count, IsPiece}
 use Rattle.idx_names.specs.Template.{TemplateValue, IsTemplate}
 use Rattle.idx_names.specs.TimeTemplate.{TimeTemplateValue, IsTimeTemplate, folder_text, folder_name}
-use Rattle.idx_names.specs.Path.{numbered, step_folder, file_path}
+use Rattle.idx_names.specs.Path.{numbered, revision_mark, step_folder, file_path}
 use Rattle.idx_names.proofs.PieceLemmas.{bits_of-append}
 use Rattle.idx_names.proofs.ApartLemmas.{numbered_nil, numbered_byte, numbered_mark, folder_byte, folder_mark}
 use Rattle.idx_names.proofs.GrammarLemmas.{IsInner}
@@ -152,12 +152,13 @@ path_some t f h e =
     let m = made t h in
     some_front t.above (numbered t.pieces f) (numbered_some t.pieces f (pieces_are t m) m.some) e
 
-pub step_path_some : (t : TemplateValue) (time : TimeTemplateValue) (s f : ℕ) → file_path t (Some (time, s)) f ≡ [] → ⊥
+pub step_path_some : (t : TemplateValue) (time : TimeTemplateValue) (s r f : ℕ) → file_path t (Some (time, s, r)) f ≡ [] → ⊥
 unfolding file_path
-step_path_some t time s f e = some_front (step_folder t time s) (47 ∷ numbered t.pieces f) (byte_first 47 (numbered t.pieces f)) e
+step_path_some t time s r f e = some_front (step_folder t time s r) (47 ∷ numbered t.pieces f) (byte_first 47 (numbered t.pieces f)) e
 
-pub folder_path_some : (t : TemplateValue) (time : TimeTemplateValue) (s : ℕ) → IsTimeTemplate time → step_folder t time s ≡ [] → ⊥
+pub folder_path_some : (t : TemplateValue) (time : TimeTemplateValue) (s r : ℕ) → IsTimeTemplate time → step_folder t time s r ≡ [] → ⊥
 unfolding step_folder folder_name
-folder_path_some t time s k e =
+folder_path_some t time s r k e =
     let m = made_time time k in
-    some_front t.above (folder_text s time.pieces) (folder_some s time.pieces m.inner m.one) e
+    some_front t.above (folder_text s time.pieces ++ revision_mark r)
+    (some_back (folder_text s time.pieces) (revision_mark r) (folder_some s time.pieces m.inner m.one)) e

@@ -41,16 +41,24 @@ pub fn worked_time_templates()
 /// Paths of files and of steps' folders.
 #[tactic(auto, unfolding(crate::specs::Numeral::numeral, crate::specs::Pieces::first_piece, crate::specs::Pieces::pieces_behind, crate::specs::Pieces::part_of, crate::specs::Pieces::pieces_text, crate::specs::Template::parts_of, crate::specs::Template::of_parts, crate::specs::Template::template_of, crate::specs::TimeTemplate::time_template_of, crate::specs::TimeTemplate::folder_text, crate::specs::TimeTemplate::folder_name, crate::specs::Path::numbered, crate::specs::Path::step_folder, crate::specs::Path::file_path))]
 pub fn worked_paths()
-    ensures two_marks { option_and_then (λ t. option_map (λ time. file_path t (Some (time, 3)) 4612)
+    ensures two_marks { option_and_then (λ t. option_map (λ time. file_path t (Some (time, 3, 0)) 4612)
         (time_template_of (codes "time%04d/"))) (template_of (codes "./d/%02x/%02x.bin")) ≡
         Some (codes "d/time0003/12/04.bin") }
-    ensures folder { option_and_then (λ t. option_map (λ time. step_folder t time 3)
+    ensures folder { option_and_then (λ t. option_map (λ time. step_folder t time 3 0)
         (time_template_of (codes "time%04d/"))) (template_of (codes "./d/%02x/%02x.bin")) ≡ Some (codes "d/time0003") }
-    ensures one_mark { option_and_then (λ t. option_map (λ time. file_path t (Some (time, 0)) 2)
+    ensures revised { option_and_then (λ t. option_map (λ time. file_path t (Some (time, 3, 2)) 4612)
+        (time_template_of (codes "time%04d/"))) (template_of (codes "./d/%02x/%02x.bin")) ≡
+        Some (codes "d/time0003.r2/12/04.bin") }
+    ensures revised_folder { option_and_then (λ t. option_map (λ time. step_folder t time 3 2)
+        (time_template_of (codes "time%04d/"))) (template_of (codes "./d/%02x/%02x.bin")) ≡
+        Some (codes "d/time0003.r2") }
+    ensures last_revision { option_and_then (λ t. option_map (λ time. step_folder t time 0 255)
+        (time_template_of (codes "t%01d/"))) (template_of (codes "%01x")) ≡ Some (codes "t0.r255") }
+    ensures one_mark { option_and_then (λ t. option_map (λ time. file_path t (Some (time, 0, 0)) 2)
         (time_template_of (codes "time%04d/"))) (template_of (codes "./%01x.bin")) ≡ Some (codes "time0000/2.bin") }
     ensures no_steps { option_map (λ t. file_path t None 4612) (template_of (codes "./d/%02x/%02x.bin")) ≡
         Some (codes "d/12/04.bin") }
     ensures letters { option_map (λ t. file_path t None 43981) (template_of (codes "%01x/%02x")) ≡ Some (codes "ab/cd") }
-    ensures long_step { option_and_then (λ t. option_map (λ time. step_folder t time 120)
+    ensures long_step { option_and_then (λ t. option_map (λ time. step_folder t time 120 0)
         (time_template_of (codes "t%02d/"))) (template_of (codes "%01x")) ≡ Some (codes "t120") }
 {}

@@ -31,14 +31,15 @@ pub fn texts_are_words()
     ensures time { (t : TimeTemplateValue) → IsTimeTemplate t → All IsWordByte (time_template_text t) }
 {}
 
-/// Different pairs of a step and a file have different paths; so have different files where there are no steps, and so
-/// have the folders of different steps.
+/// Different triples of a step, a revision and a file have different paths; so have different files where there are no
+/// steps, and so have the folders of different pairs of a step and a revision.
 pub fn paths_differ()
-    ensures steps { (t : TemplateValue) (time : TimeTemplateValue) (s u f g : ℕ) → IsTemplate t → IsTimeTemplate time →
-        file_path t (Some (time, s)) f ≡ file_path t (Some (time, u)) g → (s ≡ u) × (f ≡ g) }
+    ensures steps { (t : TemplateValue) (time : TimeTemplateValue) (s u r q f g : ℕ) → IsTemplate t →
+        IsTimeTemplate time → file_path t (Some (time, s, r)) f ≡ file_path t (Some (time, u, q)) g →
+        (s ≡ u) × (r ≡ q) × (f ≡ g) }
     ensures files { (t : TemplateValue) (f g : ℕ) → IsTemplate t → file_path t None f ≡ file_path t None g → f ≡ g }
-    ensures folders { (t : TemplateValue) (time : TimeTemplateValue) (s u : ℕ) → IsTimeTemplate time →
-        step_folder t time s ≡ step_folder t time u → s ≡ u }
+    ensures folders { (t : TemplateValue) (time : TimeTemplateValue) (s u r q : ℕ) → IsTimeTemplate time →
+        step_folder t time s r ≡ step_folder t time u q → (s ≡ u) × (r ≡ q) }
 {}
 
 /// The last of several marks takes the lowest bits of a file's number, four for each of its digits, and the marks before
@@ -56,7 +57,8 @@ pub fn marks_are_filled_from_the_right()
 /// No path is empty.
 pub fn paths_are_not_empty()
     ensures file { (t : TemplateValue) (f : ℕ) → IsTemplate t → file_path t None f ≢ [] }
-    ensures step_file { (t : TemplateValue) (time : TimeTemplateValue) (s f : ℕ) → file_path t (Some (time, s)) f ≢ [] }
-    ensures folder { (t : TemplateValue) (time : TimeTemplateValue) (s : ℕ) → IsTimeTemplate time →
-        step_folder t time s ≢ [] }
+    ensures step_file { (t : TemplateValue) (time : TimeTemplateValue) (s r f : ℕ) →
+        file_path t (Some (time, s, r)) f ≢ [] }
+    ensures folder { (t : TemplateValue) (time : TimeTemplateValue) (s r : ℕ) → IsTimeTemplate time →
+        step_folder t time s r ≢ [] }
 {}

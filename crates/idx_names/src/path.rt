@@ -1,7 +1,7 @@
 ghost use Rattle.std.specs.Prelude.{◌≡◌, ◌≤◌, ◌/◌, ◌^◌, ◌++◌, IfOk, OnOk, Some, None};
 ghost use Rattle.idx_names.specs.Pieces.{bits_of};
 ghost use Rattle.idx_names.specs.TimeTemplate.{step_piece, folder_text};
-ghost use Rattle.idx_names.specs.Path.{numbered, file_piece, bits_left, file_path, step_folder};
+ghost use Rattle.idx_names.specs.Path.{numbered, file_piece, bits_left, file_path, revision_mark, step_folder};
 
 use crate::bits::{high_bits, low_bits};
 use crate::mark_kind::MarkKind;
@@ -18,41 +18,56 @@ use std::alloc::Global;
 pub fn file_path(alloc: Global, template: &Template, file: u64) -> Result<Bytes, NoMemory>
     ensures { IfOk result (λ path. path ≡ file_path template.now None file) }
 {
-    let mut path = Bytes::from_slice(alloc, template.above())?;
-    append_numbered(&mut path, template, file)?;
-    Ok(path)
+    let mut name = Bytes::from_slice(alloc, template.above())?;
+    append_numbered(&mut name, template, file)?;
+    Ok(name)
 }
 
-/// The path of a step's file: the step's folder, and behind it the part with the first mark and those behind it, as in
+/// The path of a file of a step at a revision: the step's folder at it, and behind it the part with the first mark and those behind it, as in
 /// `file_path`.
 pub fn file_path_of_step(
     alloc: Global,
     template: &Template,
     time: &TimeTemplate,
     step: u64,
+    revision: u32,
     file: u64,
 ) -> Result<Bytes, NoMemory>
-    ensures { IfOk result (λ path. path ≡ file_path template.now (Some (time.now, step)) file) }
+    ensures { IfOk result (λ path. path ≡ file_path template.now (Some (time.now, step, revision)) file) }
 {
-    let mut path = step_folder(alloc, template, time, step)?;
+    let mut path = step_folder(alloc, template, time, step, revision)?;
     path.push(b'/')?;
     append_numbered(&mut path, template, file)?;
     Ok(path)
 }
 
-/// The path of a step's folder: the template's parts before the first part with a mark, and then the folder's name, in
-/// which the step's number is decimal with at least the digits of its mark.
+/// The path of the folder of a step at a revision: the template's parts before the first part with a mark, and then the
+/// folder's name, in which the step's number is decimal with at least the digits of its mark. From revision 1 on, `.r`
+/// and the revision in decimal follow the name.
 pub fn step_folder(
     alloc: Global,
     template: &Template,
     time: &TimeTemplate,
     step: u64,
+    revision: u32,
 ) -> Result<Bytes, NoMemory>
-    ensures { IfOk result (λ path. path ≡ step_folder template.now time.now step) }
+    ensures { IfOk result (λ path. path ≡ step_folder template.now time.now step revision) }
 {
     let mut path = Bytes::from_slice(alloc, template.above())?;
     append_folder(&mut path, time.pieces(), step)?;
+    append_revision(&mut path, revision)?;
     Ok(path)
+}
+
+/// Appends what stands behind the name of a step's folder at a revision: nothing at revision 0.
+fn append_revision(path: &mut Bytes, revision: u32) -> Result<(), NoMemory>
+    ensures { OnOk result (path.new ≡ path.old ++ revision_mark revision) }
+{
+    if revision == 0 {
+        return Ok(());
+    }
+    path.append(b".r")?;
+    append_numeral(path, MarkKind::Step, 1, u64::from(revision))
 }
 
 /// Appends the name of a step's folder.

@@ -15,8 +15,8 @@ use Rattle.idx_hz.specs.Answer.{answer, has_level}
 use Rattle.idx_hz.proofs.AddressLaws.{hz_address-lt}
 use Rattle.idx_header.specs.Header.{HeaderValue, block_count, sample_bytes_of}
 use Rattle.idx_layout.specs.Content.{field_in, sample_in}
-use Rattle.idx_layout.specs.Layout.{Layout}
-use Rattle.idx_layout.specs.OfHeader.{layout_of}
+use Rattle.idx_layout.specs.Placing.{Placing}
+use Rattle.idx_layout.specs.OfHeader.{placing_of}
 use Rattle.idx_layout.proofs.PresentLemmas.{any_point}
 use Rattle.idx_scatter.specs.Asked.{asked_points}
 use Rattle.idx_scatter.specs.Scatter.{sample_of}
@@ -64,7 +64,7 @@ pieces size f (x ∷ xs) out whole each =
     next place = omega arith
 
 -- the sample of a field at a point of the box
-field-sample_at : (l : Layout) (content : ℕ → ℕ → List ℕ) (field : ℕ) (p : List ℕ) → LiesIn l.region p → sample_at l.region (field_in l content field) p ≡ sample_in l content field p
+field-sample_at : (l : Placing) (content : ℕ → ℕ → List ℕ) (field : ℕ) (p : List ℕ) → LiesIn l.region p → sample_at l.region (field_in l content field) p ≡ sample_in l content field p
 field-sample_at l content field p inside =
     let at = slice_get-place_of l.region p inside in
     get_or-map (sample_in l content field) (points l.region) (place_of l.region p) p [] (slice_get_within (points l.region) (place_of l.region p) p at)
@@ -75,12 +75,12 @@ no_axis h ask None e = refl
 no_axis h ask (Some axis) e = cc
 
 pub copied : (h : HeaderValue) (ask : Ask) (content : ℕ → ℕ → List ℕ) (out : List ℕ) → length ask.region ≡ length h.box → plan_fault h ask ≡ None → length out ≡ answer_bytes h ask →
-    ((place : ℕ) (p : List ℕ) → slice_get (asked_points (asked_of h ask)) place ≡ Some p → sample_of (sample_bytes_of h ask.field) out place ≡ sample_in (layout_of h) content ask.field p) → out ≡ answer_of h ask content
+    ((place : ℕ) (p : List ℕ) → slice_get (asked_points (asked_of h ask)) place ≡ Some p → sample_of (sample_bytes_of h ask.field) out place ≡ sample_in (placing_of h) content ask.field p) → out ≡ answer_of h ask content
 copied h ask content out axes sound whole each =
-    pieces (sample_bytes_of h ask.field) (sample_at h.box (field_in (layout_of h) content ask.field)) (asked_points (asked_of h ask)) out whole
+    pieces (sample_bytes_of h ask.field) (sample_at h.box (field_in (placing_of h) content ask.field)) (asked_points (asked_of h ask)) out whole
     (λ place p at.
     let inside : LiesIn h.box p = inside-box 0 ask.region h.box p axes (no_axis h ask (outside_axis 0 ask.region h.box) sound) (asked-from (asked_of h ask) place p at).inside in
-    each place p at ∙ sym (field-sample_at (layout_of h) content ask.field p inside))
+    each place p at ∙ sym (field-sample_at (placing_of h) content ask.field p inside))
 
 -- ---- the blocks of its points
 

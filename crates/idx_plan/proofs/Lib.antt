@@ -4,3 +4,4 @@ mod BlockLemmas
 mod NeededLemmas
 pub mod PlanLemmas
 pub mod AnswerLemmas
+pub mod RoundLemmas

@@ -12,7 +12,7 @@ use Rattle.idx_geom.specs.Region.{points}
 use Rattle.idx_hz.specs.Address.{level, hz_address}
 use Rattle.idx_hz.specs.Answer.{has_level}
 use Rattle.idx_header.specs.Header.{HeaderValue, block_count}
-use Rattle.idx_layout.specs.Layout.{has_point_in}
+use Rattle.idx_layout.specs.Placing.{has_point_in}
 use Rattle.idx_layout.proofs.ListLemmas.{counted}
 use Rattle.idx_plan.specs.declared.ask.Ask.{Ask}
 use Rattle.idx_plan.specs.Needed.{is_needed, needed, needed_keys, key_of}

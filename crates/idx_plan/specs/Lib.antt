@@ -1,4 +1,5 @@
 pub mod Needed
+pub mod Rounds
 pub mod Answer
 pub mod Answerable
 pub mod Plan

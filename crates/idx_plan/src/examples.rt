@@ -2,7 +2,8 @@
 ghost use Rattle.std.specs.Prelude.{◌≡◌, [], ◌∷◌, None, Some};
 ghost use Rattle.idx_header.specs.Worked.{small_header};
 ghost use Rattle.idx_plan.specs.Needed.{answer_bytes, answer_samples, needed, outside_axis, plan_fault};
-ghost use Rattle.idx_plan.specs.Worked.{question};
+ghost use Rattle.idx_plan.specs.Rounds.{cut_into, rounds, width_for};
+ghost use Rattle.idx_plan.specs.Worked.{key_in, question};
 ghost use Rattle.idx_plan.specs.declared.plan_fault.PlanFault.TheVariants as faults;
 
 /// Of a box of 4 by 4 points in blocks of four samples: the levels 0 to 2 stand in block 0 alone, level 3 in block 1,
@@ -28,4 +29,17 @@ pub fn worked_faults()
     ensures order { plan_fault small_header (question ((0, 3) ∷ (0, 3) ∷ []) 3 2) ≡ Some (faults.BadLevels 3 2 4) }
     ensures deep { plan_fault small_header (question ((0, 3) ∷ (0, 3) ∷ []) 0 5) ≡ Some (faults.BadLevels 0 5 4) }
     ensures both { plan_fault small_header (question ((0, 3) ∷ (0, 4) ∷ []) 0 5) ≡ Some (faults.OutsideVolume 1) }
+{}
+
+/// Blocks of four bytes: 2^24 of them make a round. Keys are cut in order, the last list may be shorter, and no keys make one
+/// round without any.
+pub fn worked_rounds()
+    ensures width { width_for small_header 0 ≡ 16777216 }
+    ensures one { rounds small_header (question ((0, 3) ∷ (0, 3) ∷ []) 3 4) ≡
+        (key_in 1 ∷ key_in 2 ∷ key_in 3 ∷ []) ∷ [] }
+    ensures none { rounds small_header (question ((1, 1) ∷ (1, 1) ∷ []) 0 0) ≡ [] ∷ [] }
+    ensures two { cut_into 4 (key_in 0 ∷ key_in 1 ∷ key_in 2 ∷ key_in 3 ∷ key_in 5 ∷ key_in 6 ∷ []) ≡
+        (key_in 0 ∷ key_in 1 ∷ key_in 2 ∷ key_in 3 ∷ []) ∷ (key_in 5 ∷ key_in 6 ∷ []) ∷ [] }
+    ensures even { cut_into 2 (key_in 0 ∷ key_in 1 ∷ key_in 2 ∷ key_in 3 ∷ []) ≡
+        (key_in 0 ∷ key_in 1 ∷ []) ∷ (key_in 2 ∷ key_in 3 ∷ []) ∷ [] }
 {}

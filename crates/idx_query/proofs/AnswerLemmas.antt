@@ -11,8 +11,8 @@ use Rattle.idx_header.specs.Header.{HeaderValue, sample_bytes_of}
 use Rattle.idx_header.specs.Header.{block_bytes as header_block_bytes}
 use Rattle.idx_hz.specs.Address.{hz_address}
 use Rattle.idx_layout.specs.Content.{sample_in}
-use Rattle.idx_layout.specs.Layout.{block_bytes}
-use Rattle.idx_layout.specs.OfHeader.{layout_of}
+use Rattle.idx_layout.specs.Placing.{block_bytes}
+use Rattle.idx_layout.specs.OfHeader.{placing_of}
 use Rattle.idx_layout.proofs.HeaderLemmas.{same_bytes}
 use Rattle.idx_scatter.specs.Asked.{Asked}
 use Rattle.idx_scatter.specs.Scatter.{sample_of}
@@ -66,14 +66,14 @@ pub has_field : (h : HeaderValue) (shape : Shape) (field : ℕ) → shape ≡ sh
 has_field h shape field is within =
     let count : length shape.lengths ≡ length h.fields =
     ap (λ (s : Shape). length s.lengths) is
-    ∙ length-map-range_with_len (block_bytes (layout_of h)) 0 (length (layout_of h).sizes)
+    ∙ length-map-range_with_len (block_bytes (placing_of h)) 0 (length (placing_of h).sizes)
     ∙ length-map h.fields sample_bytes in
     omega (arith, count, within)
 
 pub field_length : (h : HeaderValue) (shape : Shape) (field : ℕ) → shape ≡ shape_of h → field < length h.fields → slice_index shape.lengths field ≡ header_block_bytes h field
 field_length h shape field is within =
     ap (λ (s : Shape). slice_index s.lengths field) is
-    ∙ get_or-map-range_with_len (block_bytes (layout_of h)) 0 (length (layout_of h).sizes) field field 0 (omega (arith, within, length-map h.fields sample_bytes)) (zero-add field)
+    ∙ get_or-map-range_with_len (block_bytes (placing_of h)) 0 (length (placing_of h).sizes) field field 0 (omega (arith, within, length-map h.fields sample_bytes)) (zero-add field)
     ∙ same_bytes h field within
 
 pub plan_length : (h : HeaderValue) (ask : Ask) (plan : PlanValue) → IsPlanOf h ask plan → header_block_bytes h ask.field ≡ plan.size * 2 ^ plan.bits
@@ -87,11 +87,11 @@ keys_exist h ask plan shape is of exist =
 
 -- ---- the answer
 
-sample-in : (h : HeaderValue) (field : ℕ) (stored : ℕ → ℕ → List ℕ) (p : List ℕ) → field < length h.fields → sample_in (layout_of h) stored field p ≡ sample_of (sample_bytes_of h field) (stored field (hz_address h.mask p / 2 ^ h.block_bits)) (hz_address h.mask p % 2 ^ h.block_bits)
+sample-in : (h : HeaderValue) (field : ℕ) (stored : ℕ → ℕ → List ℕ) (p : List ℕ) → field < length h.fields → sample_in (placing_of h) stored field p ≡ sample_of (sample_bytes_of h field) (stored field (hz_address h.mask p / 2 ^ h.block_bits)) (hz_address h.mask p % 2 ^ h.block_bits)
 sample-in h field stored p within =
     let bytes : List ℕ = stored field (hz_address h.mask p / 2 ^ h.block_bits) in
     let place : ℕ = hz_address h.mask p % 2 ^ h.block_bits in
-    let size : slice_index (layout_of h).sizes field ≡ sample_bytes_of h field = get_or-map sample_bytes h.fields field (field_at [] 0) 0 within in
+    let size : slice_index (placing_of h).sizes field ≡ sample_bytes_of h field = get_or-map sample_bytes h.fields field (field_at [] 0) 0 within in
     ap (λ n. take n (drop (n * place) bytes)) size
     ∙ ap (λ n. take (sample_bytes_of h field) (drop n bytes)) (mul_comm (sample_bytes_of h field) place)
 

@@ -16,7 +16,7 @@ use Rattle.idx_query.specs.Blocks.{blocks_of, lacking}
 use Rattle.idx_query.specs.Rounds.{missed}
 use Rattle.idx_query.specs.Steps.{AreDone, IsBlock, IsCameBy, LoadingValue, load_state, with_absent, with_block, with_hit, with_read}
 use Rattle.idx_query.specs.declared.report.Report.{Report}
-use Rattle.idx_query.proofs.CopyLemmas.{KnownCopied, copied-first, copied-more, key_at}
+use Rattle.idx_query.proofs.CopyLemmas.{KnownCopiedTo, copied-first, copied-more, key_at}
 
 -- ---- how a block came
 
@@ -128,7 +128,7 @@ reads-more m before between after n first second =
 
 -- no key has come
 pub done-first : (plan : PlanValue) (field : ℕ) (has : ℕ → Bool) (stored : Option (ℕ → ℕ → List ℕ)) (found : List (Option (List ℕ))) (before : ℕ) (old : LoadingValue) (post : ℕ) (report : Report) (out : List ℕ) →
-    report ≡ record { post = post; hits = 0; reads = 0; absent = 0 } → AreDone plan field has stored found 0 before before old old report out
+    report ≡ record { post = post; hits = 0; reads = 0; absent = 0 } → AreDone plan field has stored found 0 before before old old report out out
 done-first plan field has stored found before old post report out is =
     let reads : report.reads ≡ 0 = ap (λ (r : Report). r.reads) is in
     let hits : report.hits ≡ 0 = ap (λ (r : Report). r.hits) is in
@@ -148,8 +148,8 @@ done-first plan field has stored found before old post report out is =
     }
 
 -- the bytes of a block stay as many
-pub done-bytes : {plan : PlanValue} {field : ℕ} {has : ℕ → Bool} {stored : Option (ℕ → ℕ → List ℕ)} {found : List (Option (List ℕ))} {n before after : ℕ} {old new : LoadingValue} {report : Report} {out : List ℕ} →
-    AreDone plan field has stored found n before after old new report out → new.bytes ≡ old.bytes
+pub done-bytes : {plan : PlanValue} {field : ℕ} {has : ℕ → Bool} {stored : Option (ℕ → ℕ → List ℕ)} {found : List (Option (List ℕ))} {n before after : ℕ} {old new : LoadingValue} {report : Report} {start out : List ℕ} →
+    AreDone plan field has stored found n before after old new report start out → new.bytes ≡ old.bytes
 done-bytes done = ap (λ (l : LoadingValue). l.bytes) done.loaded
 
 -- the post stays the same
@@ -158,10 +158,10 @@ pub came-post : {plan : PlanValue} {field : ℕ} {has : ℕ → Bool} {stored : 
 came-post came = ⊎_elim (λ hit. ap (λ (r : Report). r.post) hit.2) (λ miss. ⊎_elim (λ read. ap (λ (r : Report). r.post) read.1) (λ lack. ap (λ (r : Report). r.post) lack.1) miss.2) came.came
 
 -- the block of one key more was found
-done_hit : (plan : PlanValue) (field : ℕ) (has : ℕ → Bool) (stored : Option (ℕ → ℕ → List ℕ)) (found : List (Option (List ℕ))) (i before mid after : ℕ) (old between new : LoadingValue) (report_old report_new : Report) (out_old out_new : List ℕ) (bytes : List ℕ) →
-    AreDone plan field has stored found i before mid old between report_old out_old → slice_get found i ≡ Some (Some bytes) → new ≡ between → report_new ≡ with_hit report_old → after ≡ mid →
-    KnownCopied stored plan field (blocks_of (take (i + 1) plan.keys)) out_new → AreDone plan field has stored found (i + 1) before after old new report_new out_new
-done_hit plan field has stored found i before mid after old between new report_old report_new out_old out_new bytes done some same is no_read copied =
+done_hit : (plan : PlanValue) (field : ℕ) (has : ℕ → Bool) (stored : Option (ℕ → ℕ → List ℕ)) (found : List (Option (List ℕ))) (i before mid after : ℕ) (old between new : LoadingValue) (report_old report_new : Report) (start out_old out_new : List ℕ) (bytes : List ℕ) →
+    AreDone plan field has stored found i before mid old between report_old start out_old → slice_get found i ≡ Some (Some bytes) → new ≡ between → report_new ≡ with_hit report_old → after ≡ mid →
+    KnownCopiedTo stored plan field (blocks_of (take (i + 1) plan.keys)) start out_new → AreDone plan field has stored found (i + 1) before after old new report_new start out_new
+done_hit plan field has stored found i before mid after old between new report_old report_new start out_old out_new bytes done some same is no_read copied =
     let so = missed-same plan.keys found i bytes some in
     let reads : report_new.reads ≡ report_old.reads = ap (λ (r : Report). r.reads) is in
     let hits : report_new.hits ≡ report_old.hits + 1 = ap (λ (r : Report). r.hits) is in
@@ -179,11 +179,11 @@ done_hit plan field has stored found i before mid after old between new report_o
     }
 
 -- the block of one key more was loaded
-done_miss : (plan : PlanValue) (field : ℕ) (has : ℕ → Bool) (stored : Option (ℕ → ℕ → List ℕ)) (found : List (Option (List ℕ))) (i before mid after : ℕ) (old between new : LoadingValue) (report_old report_new : Report) (out_old out_new : List ℕ) (key : Key) (bytes : List ℕ) (there : Bool) →
-    AreDone plan field has stored found i before mid old between report_old out_old → slice_get plan.keys i ≡ Some key → slice_get found i ≡ Some None → IsBlock old.bytes field stored (key, bytes) →
+done_miss : (plan : PlanValue) (field : ℕ) (has : ℕ → Bool) (stored : Option (ℕ → ℕ → List ℕ)) (found : List (Option (List ℕ))) (i before mid after : ℕ) (old between new : LoadingValue) (report_old report_new : Report) (start out_old out_new : List ℕ) (key : Key) (bytes : List ℕ) (there : Bool) →
+    AreDone plan field has stored found i before mid old between report_old start out_old → slice_get plan.keys i ≡ Some key → slice_get found i ≡ Some None → IsBlock old.bytes field stored (key, bytes) →
     new ≡ with_block (key, bytes) between → has key.block ≡ there → report_new ≡ cond there (with_read report_old) (with_absent report_old) → MadeReads mid after (cond there 1 0) →
-    KnownCopied stored plan field (blocks_of (take (i + 1) plan.keys)) out_new → AreDone plan field has stored found (i + 1) before after old new report_new out_new
-done_miss plan field has stored found i before mid after old between new report_old report_new out_old out_new key bytes there done at none block kept is_there is_report made copied =
+    KnownCopiedTo stored plan field (blocks_of (take (i + 1) plan.keys)) start out_new → AreDone plan field has stored found (i + 1) before after old new report_new start out_new
+done_miss plan field has stored found i before mid after old between new report_old report_new start out_old out_new key bytes there done at none block kept is_there is_report made copied =
     let so = missed-more plan.keys found i key at none in
     let more : length (done.pairs ++ (key, bytes) ∷ []) ≡ length done.pairs + 1 = length-append done.pairs ((key, bytes) ∷ []) in
     let lacks : lacking has (blocks_of (missed (take (i + 1) plan.keys) (take (i + 1) found))) ≡ lacking has (blocks_of (missed (take i plan.keys) (take i found))) + cond there 0 1 =
@@ -219,21 +219,21 @@ done_miss plan field has stored found i before mid after old between new report_
         (hits, omega (arith, reads), absent, made ∙ ap (λ n. n % 2 ^ 64) same ∙ done.reads ∙ ap (λ n. (before + n) % 2 ^ 64) (sym reads), λ more. omega (arith, more, reads, absent, done.all))
 
 -- one key more has come
-pub done-more : (plan : PlanValue) (field : ℕ) (has : ℕ → Bool) (stored : Option (ℕ → ℕ → List ℕ)) (found : List (Option (List ℕ))) (i before mid after : ℕ) (old between new : LoadingValue) (report_old report_new : Report) (out_old out_new : List ℕ) →
-    AreDone plan field has stored found i before mid old between report_old out_old → IsCameBy plan field has stored found i mid after between new report_old report_new out_old out_new →
-    AreDone plan field has stored found (i + 1) before after old new report_new out_new
-done-more plan field has stored found i before mid after old between new report_old report_new out_old out_new done came =
+pub done-more : (plan : PlanValue) (field : ℕ) (has : ℕ → Bool) (stored : Option (ℕ → ℕ → List ℕ)) (found : List (Option (List ℕ))) (i before mid after : ℕ) (old between new : LoadingValue) (report_old report_new : Report) (start out_old out_new : List ℕ) →
+    AreDone plan field has stored found i before mid old between report_old start out_old → IsCameBy plan field has stored found i mid after between new report_old report_new out_old out_new →
+    AreDone plan field has stored found (i + 1) before after old new report_new start out_new
+done-more plan field has stored found i before mid after old between new report_old report_new start out_old out_new done came =
     let within : i < length plan.keys = slice_get_within plan.keys i came.key came.at in
     let own : came.key ≡ key_at plan.keys i = sym (get_or_from_slice_get plan.keys i came.key (record { time = 0; field = 0; block = 0 }) came.at) in
     let block : IsBlock old.bytes field stored (came.key, came.bytes) = subst (λ n. IsBlock n field stored (came.key, came.bytes)) (done-bytes done) came.block in
-    let copied : KnownCopied stored plan field (blocks_of (take (i + 1) plan.keys)) out_new =
-    copied-more stored plan field i came.bytes out_old out_new within (subst (λ (k : Key). IsScattered plan.asked plan.bits k.block plan.size came.bytes out_old out_new) own came.scattered)
+    let copied : KnownCopiedTo stored plan field (blocks_of (take (i + 1) plan.keys)) start out_new =
+    copied-more stored plan field i came.bytes start out_old out_new within (subst (λ (k : Key). IsScattered plan.asked plan.bits k.block plan.size came.bytes out_old out_new) own came.scattered)
     (subst (λ (k : Key). IfSome stored (λ stored. came.bytes ≡ stored field k.block)) own came.block.stored) done.copied in
     ⊎_elim
-    (λ hit. done_hit plan field has stored found i before mid after old between new report_old report_new out_old out_new came.bytes done hit.0 hit.1 hit.2 hit.3 copied)
+    (λ hit. done_hit plan field has stored found i before mid after old between new report_old report_new start out_old out_new came.bytes done hit.0 hit.1 hit.2 hit.3 copied)
     (λ miss. ⊎_elim
-    (λ read. done_miss plan field has stored found i before mid after old between new report_old report_new out_old out_new came.key came.bytes true done came.at miss.0 block miss.1 read.0 read.1 read.2 copied)
-    (λ lack. done_miss plan field has stored found i before mid after old between new report_old report_new out_old out_new came.key came.bytes false done came.at miss.0 block miss.1 lack.0 lack.1
+    (λ read. done_miss plan field has stored found i before mid after old between new report_old report_new start out_old out_new came.key came.bytes true done came.at miss.0 block miss.1 read.0 read.1 read.2 copied)
+    (λ lack. done_miss plan field has stored found i before mid after old between new report_old report_new start out_old out_new came.key came.bytes false done came.at miss.0 block miss.1 lack.0 lack.1
     (let same : after ≡ mid + 0 = omega (arith, lack.2) in ap (λ n. n % 2 ^ 64) same) copied)
     miss.2)
     came.came

@@ -1,5 +1,5 @@
 -- The blocks that a hall keeps of an answer are those that the rounds put.
-use Rattle.std.proofs.Common.{◌≡◌, ℕ, zero, suc, ◌+◌, ◌-◌, ◌<◌, ◌≤◌, Bool, true, false, cond, not, List, [], ◌∷◌, length, map, take, drop, filter, All, Some, None, Option, refl, sym, ap, ◌∙◌, subst, arith, inl, inr}
+use Rattle.std.proofs.Common.{◌≡◌, ℕ, zero, suc, ◌+◌, ◌-◌, ◌<◌, ◌≤◌, Bool, true, false, cond, ◌&&◌, nat_eq, not, List, [], ◌∷◌, length, map, take, drop, filter, All, Some, None, Option, refl, sym, ap, ◌∙◌, subst, arith, inl, inr}
 use Rattle.std.specs.List.{AllByRecursion, IsDistinct, range_with_len}
 use Rattle.std.specs.Map.{keys_of}
 use Rattle.std.proofs.lemmas.Bool.{cases_lt}
@@ -10,13 +10,14 @@ use Rattle.idx_header.specs.Header.{HeaderValue, block_count}
 use Rattle.idx_cache.specs.Cached.{put_all}
 use Rattle.idx_cache.proofs.Lists.{put_all-only_last}
 use Rattle.idx_hall.specs.declared.key.Key.{Key}
-use Rattle.idx_hall.specs.Posts.{bytes_at}
-use Rattle.idx_hall.specs.Hall.{HallValue, after_fill, after_look, key_eq, with_pairs}
-use Rattle.idx_hall.proofs.KeyLemmas.{key_eq-same, key_laws}
+use Rattle.idx_hall.specs.Posts.{bytes_at, is_newest}
+use Rattle.idx_hall.specs.declared.block_name.BlockName.{BlockName}
+use Rattle.idx_hall.specs.Hall.{HallValue, after_fill, key_eq, name_eq, name_of, named, named_pairs, with_pairs}
+use Rattle.idx_hall.proofs.KeyLemmas.{key_eq-same, name_laws}
 use Rattle.idx_plan.specs.Needed.{is_needed, key_of, needed_keys}
 use Rattle.idx_plan.specs.declared.ask.Ask.{Ask}
 use Rattle.idx_query.specs.Blocks.{lacking}
-use Rattle.idx_query.specs.Rounds.{after_answer, missed, missed_in, with_bytes}
+use Rattle.idx_query.specs.Rounds.{missed, with_bytes}
 
 -- ---- keys that differ
 
@@ -73,6 +74,18 @@ drop-apart zero keys d = d
 drop-apart (suc n) [] d = d
 drop-apart (suc n) (key ∷ keys) d = drop-apart n keys (IsDistinct-tail key_eq key keys d)
 
+all_taken : (P : Key → Type 0) (n : ℕ) (keys : List Key) → AllByRecursion P keys → AllByRecursion P (take n keys)
+all_taken P zero keys a = tt
+all_taken P (suc n) [] a = tt
+all_taken P (suc n) (key ∷ keys) a = (a.0, all_taken P n keys a.1)
+
+-- so do the first n
+pub take-apart : (n : ℕ) (keys : List Key) → IsDistinct key_eq keys → IsDistinct key_eq (take n keys)
+take-apart zero keys d = none_apart
+take-apart (suc n) [] d = none_apart
+take-apart (suc n) (key ∷ keys) d =
+    IsDistinct-cons key_eq key (take n keys) (all_taken (λ y. key_eq key y ≡ false) n keys (IsDistinct-head key_eq key keys d)) (take-apart n keys (IsDistinct-tail key_eq key keys d))
+
 -- ---- what is said of each key
 
 -- what holds of each key holds of each of which nothing was found
@@ -113,25 +126,57 @@ own_bytes t (pair ∷ pairs) a = λ i. (pair.0, All-head (IsLoaded t) pair pairs
 pub loaded-are : (t : List (List (List ℕ))) (pairs : List (Key × List ℕ)) (keys : List Key) → map (λ pair. pair.0) pairs ≡ keys → All (λ (pair : Key × List ℕ). pair.1 ≡ bytes_at t pair.0.field pair.0.block) pairs → pairs ≡ with_bytes t keys
 loaded-are t pairs keys same a = own_bytes t pairs a ∙ ap (with_bytes t) same
 
--- of many pairs with keys that differ it is enough to put the last ones
-last_enough : (cap m : ℕ) (pairs old : List (Key × List ℕ)) → 0 < cap → m ≡ length pairs → IsDistinct key_eq (keys_of pairs) → put_all key_eq cap (drop (m - cap) pairs) old ≡ put_all key_eq cap pairs old
-last_enough cap m pairs old some many d = elim (cases_lt cap m) [
-  | inl more ↦
-      let enough : cap ≤ length (drop (m - cap) pairs) = omega (arith, length-drop (m - cap) pairs, more, many) in
-      let apart : IsDistinct key_eq (keys_of (drop (m - cap) pairs)) = subst (IsDistinct key_eq) (drop-map (λ pair. pair.0) (m - cap) pairs) (drop-apart (m - cap) (keys_of pairs) d) in
-      sym (put_all-only_last key_laws cap (take (m - cap) pairs) (drop (m - cap) pairs) old some enough apart)
-      ∙ ap (λ l. put_all key_eq cap l old) (take-append-drop (m - cap) pairs)
-  | inr few ↦ let none : m - cap ≡ 0 = omega (arith, few) in ap (λ n. put_all key_eq cap (drop n pairs) old) none
+-- ---- what is put
+
+no_names : IsDistinct name_eq []
+unfolding IsDistinct
+no_names = tt
+
+other_name : (number : ℕ) (a b : Key) → key_eq a b ≡ false → name_eq (name_of number a) (name_of number b) ≡ false
+other_name number a b other = elim (nat_eq number number) as (λ s. (s && key_eq a b) ≡ false) [
+  | true ↦ other
+  | false ↦ refl
 ]
 
--- the last of the missed blocks, as many as there may be, leave in a hall what the whole answer leaves
-pub filled : (h : HeaderValue) (ask : Ask) (t : List (List (List ℕ))) (hall : HallValue) (pairs : List (Key × List ℕ)) → 0 < hall.cache.cap → map (λ pair. pair.0) pairs ≡ missed_in (needed_keys h ask) hall →
-    All (λ (pair : Key × List ℕ). pair.1 ≡ bytes_at t pair.0.field pair.0.block) pairs →
-    after_fill (drop (length (missed_in (needed_keys h ask) hall) - hall.cache.cap) pairs) (after_look (needed_keys h ask) hall) ≡ after_answer h ask t hall
-filled h ask t hall pairs some same loaded =
-    let looked : HallValue = after_look (needed_keys h ask) hall in
-    let keys : List Key = missed_in (needed_keys h ask) hall in
-    let many : length keys ≡ length pairs = ap length (sym same) ∙ length-map pairs (λ pair. pair.0) in
-    let apart : IsDistinct key_eq (keys_of pairs) = subst (IsDistinct key_eq) (sym same) (missed-apart (needed_keys h ask) _ (needed-apart h ask)) in
-    ap (λ l. with_pairs looked l) (last_enough hall.cache.cap (length keys) pairs looked.cache.pairs some many apart)
-    ∙ ap (λ l. after_fill l looked) (loaded-are t pairs keys same loaded)
+pub other_names : (number : ℕ) (key : Key) (keys : List Key) → AllByRecursion (λ y. key_eq key y ≡ false) keys → AllByRecursion (λ y. name_eq (name_of number key) y ≡ false) (named number keys)
+other_names number key [] a = tt
+other_names number key (k ∷ keys) a = (other_name number key k a.0, other_names number key keys a.1)
+
+-- the names of keys that differ differ
+pub names-apart : (number : ℕ) (keys : List Key) → IsDistinct key_eq keys → IsDistinct name_eq (named number keys)
+names-apart number [] d = no_names
+names-apart number (key ∷ keys) d =
+    IsDistinct-cons name_eq (name_of number key) (named number keys) (other_names number key keys (IsDistinct-head key_eq key keys d)) (names-apart number keys (IsDistinct-tail key_eq key keys d))
+
+pub keys_named : (number : ℕ) (pairs : List (Key × List ℕ)) → keys_of (named_pairs number pairs) ≡ named number (map (λ pair. pair.0) pairs)
+keys_named number [] = refl
+keys_named number (pair ∷ pairs) = ap (λ names. name_of number pair.0 ∷ names) (keys_named number pairs)
+
+drop_names : (n : ℕ) (names : List BlockName) → IsDistinct name_eq names → IsDistinct name_eq (drop n names)
+drop_names zero names d = d
+drop_names (suc n) [] d = d
+drop_names (suc n) (name ∷ names) d = drop_names n names (IsDistinct-tail name_eq name names d)
+
+-- of many pairs with names that differ it is enough to put the last ones
+last_put : (cap : ℕ) (pairs old : List (BlockName × List ℕ)) → 0 < cap → IsDistinct name_eq (keys_of pairs) → put_all name_eq cap (drop (length pairs - cap) pairs) old ≡ put_all name_eq cap pairs old
+last_put cap pairs old some d = elim (cases_lt cap (length pairs)) [
+  | inl more ↦
+      let enough : cap ≤ length (drop (length pairs - cap) pairs) = omega (arith, length-drop (length pairs - cap) pairs, more) in
+      let apart : IsDistinct name_eq (keys_of (drop (length pairs - cap) pairs)) = subst (IsDistinct name_eq) (drop-map (λ pair. pair.0) (length pairs - cap) pairs) (drop_names (length pairs - cap) (keys_of pairs) d) in
+      sym (put_all-only_last name_laws cap (take (length pairs - cap) pairs) (drop (length pairs - cap) pairs) old some enough apart)
+      ∙ ap (λ l. put_all name_eq cap l old) (take-append-drop (length pairs - cap) pairs)
+  | inr few ↦ let none : length pairs - cap ≡ 0 = omega (arith, few) in ap (λ n. put_all name_eq cap (drop n pairs) old) none
+]
+
+-- of the missing blocks it is enough to fill with the last ones, as many as there may be
+pub last-enough : (number : ℕ) (pairs : List (Key × List ℕ)) (h : HallValue) → 0 < h.cache.cap → IsDistinct key_eq (map (λ pair. pair.0) pairs) →
+    after_fill number (drop (length pairs - h.cache.cap) pairs) h ≡ after_fill number pairs h
+last-enough number pairs h some d = elim (is_newest h.board number) as (λ b. cond b (with_pairs h (put_all name_eq h.cache.cap (named_pairs number (drop (length pairs - h.cache.cap) pairs)) h.cache.pairs)) h
+    ≡ cond b (with_pairs h (put_all name_eq h.cache.cap (named_pairs number pairs) h.cache.pairs)) h) [
+      | true ↦
+          let many : length (named_pairs number pairs) ≡ length pairs = length-map pairs (λ pair. (name_of number pair.0, pair.1)) in
+          let apart : IsDistinct name_eq (keys_of (named_pairs number pairs)) = subst (IsDistinct name_eq) (sym (keys_named number pairs)) (names-apart number (map (λ pair. pair.0) pairs) d) in
+          ap (λ l. with_pairs h (put_all name_eq h.cache.cap l h.cache.pairs)) (sym (drop-map (λ pair. (name_of number pair.0, pair.1)) (length pairs - h.cache.cap) pairs) ∙ ap (λ n. drop (n - h.cache.cap) (named_pairs number pairs)) (sym many))
+          ∙ ap (with_pairs h) (last_put h.cache.cap (named_pairs number pairs) h.cache.pairs some apart)
+      | false ↦ refl
+    ]

@@ -6,4 +6,8 @@ pub mod MissLemmas
 pub mod PostLemmas
 pub mod FillLemmas
 pub mod RoundLemmas
+pub mod RoundsLemmas
+pub mod AnsweredLemmas
 pub mod ReadsLemmas
+pub mod FreshLemmas
+pub mod SoFarLemmas

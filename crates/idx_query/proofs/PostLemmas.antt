@@ -11,7 +11,7 @@ use Rattle.idx_hz.specs.Answer.{answer}
 use Rattle.idx_hz.proofs.AddressLaws.{hz_address-lt}
 use Rattle.idx_header.specs.Header.{HeaderValue, block_count}
 use Rattle.idx_layout.specs.Content.{sample_in}
-use Rattle.idx_layout.specs.OfHeader.{layout_of}
+use Rattle.idx_layout.specs.OfHeader.{placing_of}
 use Rattle.idx_layout.specs.Shape.{shape_of}
 use Rattle.idx_hall.specs.declared.key.Key.{Key}
 use Rattle.idx_hall.specs.Posts.{Post, bytes_at, entry_at, has_at, table_of}
@@ -37,9 +37,9 @@ pub same_answer : (h : HeaderValue) (ask : Ask) (these those : ℕ → ℕ → L
 same_answer h ask these those within same =
     ap (λ samples. answer h.mask h.box samples ask.region ask.lo ask.hi) (λ i. map (λ p. at p i) (points h.box))
   where
-    at : (p : List ℕ) → sample_in (layout_of h) these ask.field p ≡ sample_in (layout_of h) those ask.field p
+    at : (p : List ℕ) → sample_in (placing_of h) these ask.field p ≡ sample_in (placing_of h) those ask.field p
     at p =
-        let size : ℕ = slice_index (layout_of h).sizes ask.field in
+        let size : ℕ = slice_index (placing_of h).sizes ask.field in
         ap (λ (bytes : List ℕ). take size (drop (size * (hz_address h.mask p % 2 ^ h.block_bits)) bytes))
         (same (hz_address h.mask p / 2 ^ h.block_bits) (exists h p within))
 

@@ -1,6 +1,7 @@
 -- Reads of the blocks of an answer, where it is refused.
-use Rattle.std.proofs.Common.{◌≡◌, inl, inr, ℕ, ◌+◌, ◌%◌, ◌^◌, ◌<◌, Bool, List, length, refl, ap, subst, ◌∙◌, arith}
-use Rattle.std.specs.Prelude.{Option, Result, Ok, Err, OnErr}
+use Rattle.std.proofs.Common.{◌≡◌, inl, inr, ℕ, ◌+◌, ◌%◌, ◌^◌, ◌<◌, Bool, List, length, refl, sym, ap, subst, ◌∙◌, arith}
+use Rattle.std.specs.Prelude.{Option, Result, Ok, Err, IfErr, OnErr}
+use Rattle.std.specs.Result.{IsErrAnd}
 use Rattle.std.proofs.lemmas.List.{length-map}
 use Rattle.idx_outside.specs.declared.blocks.Fetched.{Fetched}
 use Rattle.idx_outside.specs.declared.blocks.Fetched.TheVariants as ways
@@ -18,6 +19,11 @@ pub on_err : {T E : Type 0} (result : Result T E) (P : Type 0) → P → OnErr r
 on_err (Ok x) P holds = tt
 on_err (Err fault) P holds = holds
 
+-- what holds of the error that is answered
+pub err_is : {T E : Type 0} (r : Result T E) (x : E) (P : E → Type 0) → IsErrAnd r (λ y. y ≡ x) → P x → IfErr r P
+err_is (Ok v) x P gives holds = absurd gives
+err_is (Err y) x P gives holds = subst P (sym gives) holds
+
 -- none was made
 pub no_reads : (count most : ℕ) → ReadsAtMost count count most
 no_reads count most = record { reads = 0; few = omega arith; made = omega arith }
@@ -28,11 +34,11 @@ fetched_once before after ways.Absent none one = inl (none refl)
 fetched_once before after ways.Read none one = inr (one refl)
 
 -- behind the first keys at most one read more was made
-pub reads_till : (plan : PlanValue) (field : ℕ) (has : ℕ → Bool) (stored : Option (ℕ → ℕ → List ℕ)) (found : List (Option (List ℕ))) (i before mid after : ℕ) (old new : LoadingValue) (report : Report) (out : List ℕ) →
-    AreDone plan field has stored found i before mid old new report out → i < length plan.keys → ReadsOnce mid after → ReadsAtMost before after (length plan.keys)
-reads_till plan field has stored found i before mid after old new report out done within (inl same) =
+pub reads_till : (plan : PlanValue) (field : ℕ) (has : ℕ → Bool) (stored : Option (ℕ → ℕ → List ℕ)) (found : List (Option (List ℕ))) (i before mid after : ℕ) (old new : LoadingValue) (report : Report) (start out : List ℕ) →
+    AreDone plan field has stored found i before mid old new report start out → i < length plan.keys → ReadsOnce mid after → ReadsAtMost before after (length plan.keys)
+reads_till plan field has stored found i before mid after old new report start out done within (inl same) =
     record { reads = report.reads; few = omega (arith, done.hits, done.all, within); made = ap (λ n. n % 2 ^ 64) same ∙ done.reads }
-reads_till plan field has stored found i before mid after old new report out done within (inr one) =
+reads_till plan field has stored found i before mid after old new report start out done within (inr one) =
     record { reads = report.reads + 1; few = omega (arith, done.hits, done.all, within); made = omega (arith, one, done.reads) }
 
 -- there are as many keys as needed blocks

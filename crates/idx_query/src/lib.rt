@@ -5,6 +5,7 @@ mod answering;
 mod capacity;
 mod copying;
 mod loading;
+mod part;
 mod query_fault;
 mod report;
 mod rounds;

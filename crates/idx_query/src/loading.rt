@@ -8,13 +8,13 @@ use std::alloc::Global;
 use std::marker::Model;
 use std::sync::Arc;
 
-/// The blocks that a round loads, each in memory that is taken at the start. Those are kept which a cache of so many
-/// blocks still has behind the last of them; the others share a buffer.
+/// The blocks that a round loads, each in memory of its own. Those are kept which a cache of so many blocks still has
+/// behind the last of them; the others share a buffer.
 #[derive(Drop)]
 pub(crate) struct Loading {
     alloc: Global,
     bytes: usize,
-    spare: Vec<Vec<u8>>,
+    spare: Option<Vec<u8>>,
     skip: u64,
     loaded: Vec<(Key, Arc<Bytes>)>,
 }
@@ -29,26 +29,16 @@ impl Model for Loading {
 }
 
 impl Loading {
-    /// No block yet, with memory for so many blocks of so many bytes, but for no more than a cache has room for.
-    pub(crate) fn new(
-        alloc: Global,
-        blocks: u64,
-        room: u64,
-        bytes: usize,
-    ) -> Result<Loading, NoMemory>
+    /// No block yet, of so many bytes each, with room in the list for so many blocks.
+    pub(crate) fn new(alloc: Global, blocks: u64, bytes: usize) -> Result<Loading, NoMemory>
         ensures { IfOk result (λ l. l ≡ load_state 0 [] bytes) }
     {
-        let blocks = blocks.min(room) as usize;
-        let mut spare = Vec::with_capacity(alloc, blocks)?;
-        for _ in 0..blocks {
-            spare.push(Vec::with_capacity(alloc, bytes)?)?;
-        }
         Ok(Loading {
             alloc,
             bytes,
-            spare,
+            spare: None,
             skip: 0,
-            loaded: Vec::with_capacity(alloc, blocks)?,
+            loaded: Vec::with_capacity(alloc, blocks as usize)?,
         })
     }
 
@@ -64,7 +54,7 @@ impl Loading {
         ensures many { IfOk result (λ buffer. length buffer.items ≡ self.old.bytes) }
         ensures same { self.new ≡ self.old }
     {
-        let mut buffer = self.spare.pop().unwrap_or(Vec::new(self.alloc));
+        let mut buffer = self.spare.take().unwrap_or(Vec::new(self.alloc));
         buffer.resize(self.bytes, 0)?;
         Ok(buffer)
     }
@@ -75,7 +65,7 @@ impl Loading {
     {
         if self.skip > 0 {
             self.skip -= 1;
-            self.spare.push(buffer)?;
+            self.spare = Some(buffer);
             return Ok(());
         }
         let bytes = Arc::new(self.alloc, Bytes::from_vec(buffer))?;

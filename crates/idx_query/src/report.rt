@@ -60,4 +60,24 @@ impl Report {
             },
         }
     }
+
+    /// With the blocks of another round.
+    pub(crate) fn with_round(self, round: &Report) -> Report
+        requires hits { self.hits < 2 ^ 63 × round.now.hits < 2 ^ 63 }
+        requires reads { self.reads < 2 ^ 63 × round.now.reads < 2 ^ 63 }
+        requires absent { self.absent < 2 ^ 63 × round.now.absent < 2 ^ 63 }
+        ensures { result ≡ record {
+          post = self.post;
+          hits = self.hits + round.now.hits;
+          reads = self.reads + round.now.reads;
+          absent = self.absent + round.now.absent;
+        } }
+    {
+        Report {
+            post: self.post,
+            hits: self.hits + round.hits,
+            reads: self.reads + round.reads,
+            absent: self.absent + round.absent,
+        }
+    }
 }

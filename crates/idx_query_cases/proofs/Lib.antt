@@ -1,1 +1,2 @@
+pub mod LateLemmas
 pub mod ShapeLemmas

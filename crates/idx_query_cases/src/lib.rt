@@ -2,4 +2,10 @@
 #![tactic(auto)]
 
 #[cfg(test)]
+mod late;
+#[cfg(test)]
 mod query;
+#[cfg(test)]
+mod rounds;
+#[cfg(test)]
+mod wide;

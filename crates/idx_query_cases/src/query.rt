@@ -123,7 +123,7 @@ fn publish(
 {
     let leaf = MemLeaf::new(Bytes::from_slice(alloc, &STORED)?);
     let step = Arc::new(alloc, Step { time, leaf, lacks })?;
-    assert!(rt; hall.publish(step).is_ok());
+    assert!(rt; hall.publish(step, None).is_ok());
     Ok(())
 }
 
@@ -425,5 +425,53 @@ fn the_step_of_the_time_answers(rt: HostRuntime) -> Result<(), Fail> {
     let other = ask_at(rt.alloc(), &rt, 1, NONE)?;
     assert_eq!(rt; other.answer.ok().map(|report| report.post), Some(1));
     assert_eq!(rt; other.out.as_slice(), WHOLE);
+    Ok(())
+}
+
+/// Whether a question for the whole box, of a hall of one step, is answered behind the bytes that were there, or leaves
+/// them as they were for want of memory.
+fn answers_or_leaves(alloc: Global, rt: &impl Abort) -> Result<bool, Fail> {
+    let ask = question(rt, 0, BOX.ends, BOX.levels);
+    let header = header_of(alloc, rt);
+    let mut solo = Solo::new(hall_of(alloc, rt, &BOX)?);
+    let mut reader = MemReader::new(Vec::new(alloc));
+    let mut out = Bytes::from_slice(alloc, &[7])?;
+    let answer = answer(alloc, &header, &ask, &mut solo, &mut reader, &mut out);
+    let bytes = out.as_slice();
+    Ok(match answer {
+        Ok(_) => bytes.first() == Some(&7) && bytes.get(1..) == Some(WHOLE),
+        Err(fault) => fault == QueryFault::NoMemory && bytes == [7].as_slice(),
+    })
+}
+
+/// To be tried with each allocation failing in turn.
+#[test]
+fn want_of_memory_leaves_the_bytes(rt: HostRuntime) -> Result<(), Fail> {
+    assert!(rt; answers_or_leaves(rt.alloc(), &rt)?);
+    Ok(())
+}
+
+/// Whether a question whose only block is the least recently used of four cached ones finds it there, or ends for want of
+/// memory before it has looked: then that block is still the first to go.
+fn finds_or_has_not_looked(alloc: Global, rt: &impl Abort) -> Result<bool, Fail> {
+    let ask = question(rt, 0, BOX.ends, BOX.levels);
+    let warm = ask_hall(alloc, rt, hall_of(alloc, rt, &BOX)?, &ask, NONE)?;
+    if warm.answer.is_err() {
+        return Ok(warm.answer == Err(QueryFault::NoMemory));
+    }
+    let origin = question(rt, 0, ([0, 0], [0, 0]), (0, 0));
+    let mut outcome = ask_hall(alloc, rt, warm.hall, &origin, 1)?;
+    if let Ok(report) = outcome.answer {
+        return Ok(report.hits == 1 && outcome.out.as_slice() == [0].as_slice());
+    }
+    let gone = outcome.hall.evict(1);
+    let again = ask_hall(alloc, rt, outcome.hall, &origin, NONE)?;
+    Ok(gone == 1 && outcome.answer == Err(QueryFault::NoMemory) && again.reads == 1)
+}
+
+/// To be tried with each allocation failing in turn.
+#[test]
+fn want_of_memory_comes_before_the_look(rt: HostRuntime) -> Result<(), Fail> {
+    assert!(rt; finds_or_has_not_looked(rt.alloc(), &rt)?);
     Ok(())
 }

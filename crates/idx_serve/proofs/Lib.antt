@@ -1,4 +1,5 @@
 pub mod FindLemmas
+pub mod NewestLemmas
 pub mod AskLemmas
 pub mod TextLemmas
 pub mod DoorLemmas

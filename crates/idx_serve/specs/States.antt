@@ -1,16 +1,19 @@
 -- What a head does to the turn and to the reader, by what these tell before and afterwards. `tells` says whether the turn tells its
 -- hall.
-use Rattle.std.specs.Prelude.{◌≡◌, ◌≢◌, ◌⊎◌, ℕ, ◌-◌, ◌/◌, Bool, true, false, List, [], length, Option, Some, None, IfSome, Err}
+use Rattle.std.specs.Prelude.{◌≡◌, ◌≢◌, ◌⊎◌, ℕ, ◌-◌, ◌*◌, ◌/◌, ◌≤◌, Bool, true, false, List, [], length, Option, Some, None, IfSome, Err}
 use Rattle.idx_outside.specs.Cause.{MadeReads, Rose}
 use Rattle.idx_header.specs.Header.{HeaderValue}
 use Rattle.idx_hall.specs.Hall.{HallValue, after_evict}
 use Rattle.idx_hall.specs.Posts.{Lacks}
+use Rattle.idx_turn.specs.Stands.{MadeHolds}
 use Rattle.idx_plan.specs.Needed.{needed, plan_fault}
+use Rattle.idx_plan.specs.Rounds.{rounds}
 use Rattle.idx_plan.specs.declared.ask.Ask.{Ask}
 use Rattle.idx_plan.specs.declared.plan_fault.PlanFault.TheVariants as P
-use Rattle.idx_query.specs.Answered.{IsAnswered, IsDone, only_looked}
+use Rattle.idx_query.specs.Answered.{IsAnswered, IsDone, IsHeld, IsLeft, IsLookedAt}
 use Rattle.idx_query.specs.Fault.{HasPost}
 use Rattle.idx_query.specs.Reads.{ReadsAtMost}
+use Rattle.idx_query.specs.declared.query_fault.QueryFault.TheVariants as Q
 use Rattle.idx_query.specs.declared.report.Report.{Report}
 use Rattle.idx_request.specs.Faults.{IsRead}
 use Rattle.idx_request.specs.declared.target_fault.TargetFault.TheVariants as T
@@ -27,14 +30,21 @@ use Rattle.idx_serve.specs.declared.site.Site.{Site}
 abbrev pub OnHall : Bool → State → (HallValue → Type 0) → Type 0
 OnHall tells state P = tells ≡ true → IfSome state.hall P
 
--- an answer was made out of a post that was seen
+-- the hall was held at most twice in each round of an answer
+pub record HeldAtMost (h : HeaderValue) (ask : Ask) (before after : ℕ) : Type 0 where
+  pub holds : ℕ
+  pub few : holds ≤ 2 * length (rounds h ask)
+  pub made : MadeHolds before after holds
+
+-- an answer was made out of the newest post of its time on a board that was taken
 pub record IsFound (tells : Bool) (h : HeaderValue) (ask : Ask) (before after : State) (samples : List ℕ) (report : Report) : Type 0 where
   pub plan : plan_fault h ask ≡ None
   pub grew : Grew before after
-  pub answer : IsAnswered h ask after.posts [] samples report
+  pub answer : IsAnswered h ask before.posts after.posts [] samples report
   pub faults : after.faults ≡ before.faults
   pub reads : MadeReads before.reads after.reads report.reads
-  pub hall : OnHall tells before (λ hall. IsDone h ask hall after.hall report)
+  pub held : IsHeld h ask before.holds after.holds report
+  pub hall : OnHall tells before (λ hall. IsDone h ask hall after.hall before.holds after.holds report)
 
 -- no step of the time was seen, in a board of so many that was taken
 pub record IsUnpublished (tells : Bool) (h : HeaderValue) (many : ℕ) (before after : State) (ask : Ask) : Type 0 where
@@ -44,6 +54,7 @@ pub record IsUnpublished (tells : Bool) (h : HeaderValue) (many : ℕ) (before a
   pub board : many ≡ length after.posts
   pub faults : after.faults ≡ before.faults
   pub reads : after.reads ≡ before.reads
+  pub held : MadeHolds before.holds after.holds 1
   pub hall : OnHall tells before (λ hall. after.hall ≡ Some hall)
 
 -- a read of a block failed
@@ -53,19 +64,21 @@ pub record IsStoreFault (tells : Bool) (h : HeaderValue) (before after : State) 
   pub post : HasPost after.posts ask.time
   pub faults : Rose before.faults after.faults
   pub reads : ReadsAtMost before.reads after.reads (length (needed h ask))
-  pub hall : OnHall tells before (λ hall. after.hall ≡ Some (only_looked h ask hall))
+  pub held : HeldAtMost h ask before.holds after.holds
+  pub hall : OnHall tells before (λ hall. IsLookedAt h ask hall after.hall before.holds after.holds)
 
--- what want of memory may leave of a hall: as it was, after the look alone, or after the whole answer
-abbrev pub MayLeave : HeaderValue → Ask → HallValue → Option HallValue → Type 0
-MayLeave h ask before after =
-    (after ≡ Some before) ⊎ ((after ≡ Some (only_looked h ask before)) ⊎ ((report : Report) × IsDone h ask before after report))
+-- what want of memory may leave of a hall: what it leaves within an answer, or the whole answer
+abbrev pub MayLeave : HeaderValue → Ask → HallValue → Option HallValue → ℕ → ℕ → Type 0
+MayLeave h ask before after held_before held_after =
+    IsLeft h ask before after held_before held_after Q.NoMemory ⊎ ((report : Report) × IsDone h ask before after held_before held_after report)
 
 -- there was no memory for an answer
 pub record IsMemoryless (tells : Bool) (h : HeaderValue) (before after : State) (ask : Ask) : Type 0 where
   pub grew : Grew before after
   pub faults : after.faults ≡ before.faults
   pub reads : ReadsAtMost before.reads after.reads (length (needed h ask))
-  pub hall : OnHall tells before (λ hall. MayLeave h ask hall after.hall)
+  pub held : HeldAtMost h ask before.holds after.holds
+  pub hall : OnHall tells before (λ hall. MayLeave h ask hall after.hall before.holds after.holds)
 
 -- why what was asked is refused before it is a question
 abbrev pub IsAskRefused : Site → Asked → Refusal → Type 0
@@ -100,11 +113,12 @@ half_up n = n - n / 2
 abbrev pub halved : HallValue → HallValue
 halved hall = after_evict (half_up (length hall.cache.pairs)) hall
 
--- half of the cached blocks were dropped, and nothing else happened
+-- half of the cached blocks were dropped, in one hold of the hall, and nothing else happened
 pub record IsHalved (tells : Bool) (before after : State) : Type 0 where
   pub grew : Grew before after
   pub faults : after.faults ≡ before.faults
   pub reads : after.reads ≡ before.reads
+  pub held : MadeHolds before.holds after.holds 1
   pub hall : OnHall tells before (λ hall. after.hall ≡ Some (halved hall))
 
 -- what follows a refusal that was answered: half of the cached blocks are dropped for want of memory, and else nothing happens

@@ -49,11 +49,14 @@ impl<E: Blocks + Drop, T: Turn<Hall<E>>, R: Reader<E::Leaf>> Responder<Site, T, 
     ghost lost = { λ site. IsLost T.tells site };
 
     ghost mark = { λ s turn reader. mark_of
-        (state_of (T.seen turn) (T.may_add turn) (R.faults reader) (R.reads reader) (T.kept turn)) s.seen };
+        (state_of (T.seen turn) (T.may_add turn) (R.faults reader) (R.reads reader)
+        (T.kept turn) (T.holds turn)) s.seen };
 
     ghost grew = { λ turn reader turn_2 reader_2. IsLater
-        (state_of (T.seen turn) (T.may_add turn) (R.faults reader) (R.reads reader) (T.kept turn))
-        (state_of (T.seen turn_2) (T.may_add turn_2) (R.faults reader_2) (R.reads reader_2) (T.kept turn_2))
+        (state_of (T.seen turn) (T.may_add turn) (R.faults reader) (R.reads reader)
+        (T.kept turn) (T.holds turn))
+        (state_of (T.seen turn_2) (T.may_add turn_2) (R.faults reader_2) (R.reads reader_2)
+        (T.kept turn_2) (T.holds turn_2))
         (T.shape turn) (T.shape turn_2) (T.lock turn) (T.lock turn_2) };
 
     ghost grew_same = { λ turn reader. later_same _ _ _ };
@@ -112,11 +115,15 @@ fn seen_after(refusal: Refusal, seen: u64) -> u64
 fn ease<E: Blocks + Drop, T: Turn<Hall<E>>>(turn: &mut T, refusal: Refusal)
     requires given { T.given turn.old ≡ None }
     ensures eased { (faults reads : ℕ) → IsEased T.tells refusal
-        (state_of (T.seen turn.old) (T.may_add turn.old) faults reads (T.kept turn.old))
-        (state_of (T.seen turn.new) (T.may_add turn.new) faults reads (T.kept turn.new)) }
+        (state_of (T.seen turn.old) (T.may_add turn.old) faults reads
+        (T.kept turn.old) (T.holds turn.old))
+        (state_of (T.seen turn.new) (T.may_add turn.new) faults reads
+        (T.kept turn.new) (T.holds turn.new)) }
     ensures later { (faults reads : ℕ) → IsLater
-        (state_of (T.seen turn.old) (T.may_add turn.old) faults reads (T.kept turn.old))
-        (state_of (T.seen turn.new) (T.may_add turn.new) faults reads (T.kept turn.new))
+        (state_of (T.seen turn.old) (T.may_add turn.old) faults reads
+        (T.kept turn.old) (T.holds turn.old))
+        (state_of (T.seen turn.new) (T.may_add turn.new) faults reads
+        (T.kept turn.new) (T.holds turn.new))
         (T.shape turn.old) (T.shape turn.new) (T.lock turn.old) (T.lock turn.new) }
     ensures given { T.given turn.new ≡ None }
 {
@@ -130,8 +137,10 @@ fn ease<E: Blocks + Drop, T: Turn<Hall<E>>>(turn: &mut T, refusal: Refusal)
 fn evict_half<E: Blocks + Drop, T: Turn<Hall<E>>>(turn: &mut T)
     requires given { T.given turn.old ≡ None }
     ensures halved { (faults reads : ℕ) → IsHalved T.tells
-        (state_of (T.seen turn.old) (T.may_add turn.old) faults reads (T.kept turn.old))
-        (state_of (T.seen turn.new) (T.may_add turn.new) faults reads (T.kept turn.new)) }
+        (state_of (T.seen turn.old) (T.may_add turn.old) faults reads
+        (T.kept turn.old) (T.holds turn.old))
+        (state_of (T.seen turn.new) (T.may_add turn.new) faults reads
+        (T.kept turn.new) (T.holds turn.new)) }
     ensures shape { T.shape turn.new ≡ T.shape turn.old }
     ensures lock { T.lock turn.new ≡ T.lock turn.old }
     ensures given { T.given turn.new ≡ None }

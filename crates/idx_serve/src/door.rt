@@ -43,13 +43,17 @@ pub fn serve_door<E: Blocks + Drop, T: Turn<Hall<E>>, R: Reader<E::Leaf>, D: Doo
     requires shape { T.shape turn.old ≡ shape_of site.now.header }
     requires given { T.given turn.old ≡ None }
     ensures served { (starved : Bool) × AtDoor (link_tells D.Link.incoming D.Link.written D.Link.faults) T.tells site.now
-        (state_of (T.seen turn.old) (T.may_add turn.old) (R.faults reader.old) (R.reads reader.old) (T.kept turn.old))
-        (state_of (T.seen turn.new) (T.may_add turn.new) (R.faults reader.new) (R.reads reader.new) (T.kept turn.new))
+        (state_of (T.seen turn.old) (T.may_add turn.old) (R.faults reader.old) (R.reads reader.old)
+        (T.kept turn.old) (T.holds turn.old))
+        (state_of (T.seen turn.new) (T.may_add turn.new) (R.faults reader.new) (R.reads reader.new)
+        (T.kept turn.new) (T.holds turn.new))
         (D.told door.old) (D.told door.new) result.links result.replies starved
         × IsEnd (D.told door.new) (D.faults door.old) (D.faults door.new) result.links starved result.end }
     ensures later { IsLater
-        (state_of (T.seen turn.old) (T.may_add turn.old) (R.faults reader.old) (R.reads reader.old) (T.kept turn.old))
-        (state_of (T.seen turn.new) (T.may_add turn.new) (R.faults reader.new) (R.reads reader.new) (T.kept turn.new))
+        (state_of (T.seen turn.old) (T.may_add turn.old) (R.faults reader.old) (R.reads reader.old)
+        (T.kept turn.old) (T.holds turn.old))
+        (state_of (T.seen turn.new) (T.may_add turn.new) (R.faults reader.new) (R.reads reader.new)
+        (T.kept turn.new) (T.holds turn.new))
         (T.shape turn.old) (T.shape turn.new) (T.lock turn.old) (T.lock turn.new) }
     ensures given { T.given turn.new ≡ None }
 {

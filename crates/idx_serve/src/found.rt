@@ -37,13 +37,17 @@ pub(crate) fn find<E: Blocks + Drop, T: Turn<Hall<E>>, R: Reader<E::Leaf>>(
     requires shape { T.shape turn.old ≡ shape_of header.now }
     requires given { T.given turn.old ≡ None }
     ensures found { IfOk result (λ found. IsFound T.tells header.now ask.now
-        (state_of (T.seen turn.old) (T.may_add turn.old) (R.faults reader.old) (R.reads reader.old) (T.kept turn.old))
-        (state_of (T.seen turn.new) (T.may_add turn.new) (R.faults reader.new) (R.reads reader.new) (T.kept turn.new))
+        (state_of (T.seen turn.old) (T.may_add turn.old) (R.faults reader.old) (R.reads reader.old)
+        (T.kept turn.old) (T.holds turn.old))
+        (state_of (T.seen turn.new) (T.may_add turn.new) (R.faults reader.new) (R.reads reader.new)
+        (T.kept turn.new) (T.holds turn.new))
         (drop HEAD_ROOM found.samples) found.report) }
     ensures many { IfOk result (λ found. length found.samples ≡ HEAD_ROOM + answer_bytes header.now ask.now) }
     ensures refused { IfErr result (λ refusal. IsAnswerRefused T.tells header.now
-        (state_of (T.seen turn.old) (T.may_add turn.old) (R.faults reader.old) (R.reads reader.old) (T.kept turn.old))
-        (state_of (T.seen turn.new) (T.may_add turn.new) (R.faults reader.new) (R.reads reader.new) (T.kept turn.new))
+        (state_of (T.seen turn.old) (T.may_add turn.old) (R.faults reader.old) (R.reads reader.old)
+        (T.kept turn.old) (T.holds turn.old))
+        (state_of (T.seen turn.new) (T.may_add turn.new) (R.faults reader.new) (R.reads reader.new)
+        (T.kept turn.new) (T.holds turn.new))
         refusal ask.now) }
     ensures begins { Begins (T.seen turn.old) (T.seen turn.new) }
     ensures same { T.may_add turn.old ≡ true → T.seen turn.new ≡ T.seen turn.old }

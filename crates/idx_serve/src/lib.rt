@@ -4,6 +4,7 @@
 mod answering;
 mod door;
 mod found;
+mod laws;
 mod link;
 mod making;
 mod question;
@@ -12,6 +13,7 @@ mod site;
 mod texts;
 
 pub use door::{ServeEnd, Summary, serve_door};
+pub use laws::answers_are_of_the_newest_post;
 pub use link::serve_link;
 pub use refusal::Refusal;
 pub use site::Site;

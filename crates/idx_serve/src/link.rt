@@ -28,12 +28,16 @@ pub fn serve_link<E: Blocks + Drop, T: Turn<Hall<E>>, R: Reader<E::Leaf>, L: Lin
     requires shape { T.shape turn.old ≡ shape_of site.now.header }
     requires given { T.given turn.old ≡ None }
     ensures session { IsServed T.tells site.now
-        (state_of (T.seen turn.old) (T.may_add turn.old) (R.faults reader.old) (R.reads reader.old) (T.kept turn.old))
-        (state_of (T.seen turn.new) (T.may_add turn.new) (R.faults reader.new) (R.reads reader.new) (T.kept turn.new))
+        (state_of (T.seen turn.old) (T.may_add turn.old) (R.faults reader.old) (R.reads reader.old)
+        (T.kept turn.old) (T.holds turn.old))
+        (state_of (T.seen turn.new) (T.may_add turn.new) (R.faults reader.new) (R.reads reader.new)
+        (T.kept turn.new) (T.holds turn.new))
         (L.incoming link.old) (L.written link.old) (L.written link.new) served.old.items served.new.items result }
     ensures later { IsLater
-        (state_of (T.seen turn.old) (T.may_add turn.old) (R.faults reader.old) (R.reads reader.old) (T.kept turn.old))
-        (state_of (T.seen turn.new) (T.may_add turn.new) (R.faults reader.new) (R.reads reader.new) (T.kept turn.new))
+        (state_of (T.seen turn.old) (T.may_add turn.old) (R.faults reader.old) (R.reads reader.old)
+        (T.kept turn.old) (T.holds turn.old))
+        (state_of (T.seen turn.new) (T.may_add turn.new) (R.faults reader.new) (R.reads reader.new)
+        (T.kept turn.new) (T.holds turn.new))
         (T.shape turn.old) (T.shape turn.new) (T.lock turn.old) (T.lock turn.new) }
     ensures given { T.given turn.new ≡ None }
     ensures count { NeverFalls (L.faults link.old) (L.faults link.new) }

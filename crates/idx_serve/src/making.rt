@@ -35,15 +35,21 @@ pub(crate) fn make<E: Blocks + Drop, T: Turn<Hall<E>>, R: Reader<E::Leaf>>(
     requires shape { T.shape turn.old ≡ shape_of site.now.header }
     requires given { T.given turn.old ≡ None }
     ensures made { IfOk result (λ made. IsMade T.tells site.now
-        (state_of (T.seen turn.old) (T.may_add turn.old) (R.faults reader.old) (R.reads reader.old) (T.kept turn.old))
-        (state_of (T.seen turn.new) (T.may_add turn.new) (R.faults reader.new) (R.reads reader.new) (T.kept turn.new))
+        (state_of (T.seen turn.old) (T.may_add turn.old) (R.faults reader.old) (R.reads reader.old)
+        (T.kept turn.old) (T.holds turn.old))
+        (state_of (T.seen turn.new) (T.may_add turn.new) (R.faults reader.new) (R.reads reader.new)
+        (T.kept turn.new) (T.holds turn.new))
         asked.now closes made.text made.post) }
     ensures refused { IfErr result (IsRefused T.tells site.now asked.now
-        (state_of (T.seen turn.old) (T.may_add turn.old) (R.faults reader.old) (R.reads reader.old) (T.kept turn.old))
-        (state_of (T.seen turn.new) (T.may_add turn.new) (R.faults reader.new) (R.reads reader.new) (T.kept turn.new))) }
+        (state_of (T.seen turn.old) (T.may_add turn.old) (R.faults reader.old) (R.reads reader.old)
+        (T.kept turn.old) (T.holds turn.old))
+        (state_of (T.seen turn.new) (T.may_add turn.new) (R.faults reader.new) (R.reads reader.new)
+        (T.kept turn.new) (T.holds turn.new))) }
     ensures later { IsLater
-        (state_of (T.seen turn.old) (T.may_add turn.old) (R.faults reader.old) (R.reads reader.old) (T.kept turn.old))
-        (state_of (T.seen turn.new) (T.may_add turn.new) (R.faults reader.new) (R.reads reader.new) (T.kept turn.new))
+        (state_of (T.seen turn.old) (T.may_add turn.old) (R.faults reader.old) (R.reads reader.old)
+        (T.kept turn.old) (T.holds turn.old))
+        (state_of (T.seen turn.new) (T.may_add turn.new) (R.faults reader.new) (R.reads reader.new)
+        (T.kept turn.new) (T.holds turn.new))
         (T.shape turn.old) (T.shape turn.new) (T.lock turn.old) (T.lock turn.new) }
     ensures given { T.given turn.new ≡ None }
 {

@@ -1,13 +1,14 @@
 //! Datasets in memory, with halls of their steps.
 ghost use Rattle.std.specs.Prelude.{◌≡◌, ◌≤◌};
 ghost use Rattle.idx_layout.specs.Shape.{shape_of};
+ghost use Rattle.idx_hall.specs.Calls.{IsAfter};
 
 use idx_board::hall_of;
 use idx_edition::Edition;
 use idx_hall::Hall;
 use idx_header::Header;
 use idx_memory::{MemBay, MemLeaf, MemReader};
-use idx_outside::{Bytes, MemFile, NoMemory};
+use idx_outside::{Blocks, Bytes, MemFile, NoMemory};
 use idx_serve::Site;
 use std::alloc::Global;
 use std::process::Abort;
@@ -57,6 +58,14 @@ pub const SECOND_OF_0: Stored = Stored {
     folder: b"time0000",
     path: b"time0000/2.bin",
     blocks: SECOND,
+    kept: 128,
+};
+
+/// The first file of the step 0 once more, whose samples are all the letter n.
+pub const NEWER_OF_0: Stored = Stored {
+    folder: b"time0000",
+    path: b"time0000/0.bin",
+    blocks: b"nnnnnnnn",
     kept: 128,
 };
 
@@ -144,7 +153,14 @@ pub fn stage_of(
     })
 }
 
-/// The same once the step of this time is published, out of these files.
+/// The number of the newest post of this time, if there is one.
+fn newest_in(hall: &Hall<Edition<MemLeaf>>, time: u64) -> Option<u64>
+    ensures { IsAfter hall.now.board time result }
+{
+    hall.newest(time)
+}
+
+/// The same once a step of this time is published, out of these files, behind those of the time that are there.
 pub fn with_step(
     alloc: Global,
     rt: &impl Abort,
@@ -158,6 +174,7 @@ pub fn with_step(
     let loaded = Edition::load(alloc, &site.header, time, &mut bay, &mut reader);
     let edition = loaded.ok().expect(rt, "an answer").expect(rt, "a step");
     let edition = Arc::new(alloc, edition)?;
-    assert!(rt; hall.publish(edition).is_ok());
+    let after = newest_in(&hall, edition.time());
+    assert!(rt; hall.publish(edition, after).is_ok());
     Ok(Stage { site, hall })
 }

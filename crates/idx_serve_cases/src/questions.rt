@@ -1,6 +1,7 @@
 //! Questions that are answered on a link.
 use crate::dataset::{
-    BASE, FIRST_OF_9, SECOND_OF_9, STEP, STEPS, Stage, Stored, UNTIMED, stage_of, with_step,
+    BASE, FIRST_OF_9, NEWER_OF_0, SECOND_OF_0, SECOND_OF_9, STEP, STEPS, Stage, Stored, UNTIMED,
+    stage_of, with_step,
 };
 use crate::serving::{Noted, Outcome, are_noted, link_of, serve};
 use idx_session::LinkEnd;
@@ -16,6 +17,10 @@ pub const TWO: &[u8] =
 /// The second of them.
 const SECOND: &[u8] =
     b"GET /mod_visus?action=boxquery&dataset=v&box=0+3+0+3&toh=2&time=9 HTTP/1.1\r\n\r\n";
+
+/// The first of them.
+const FIRST: &[u8] =
+    b"GET /mod_visus?action=boxquery&dataset=v&box=0+3+0+3&toh=2&time=0 HTTP/1.1\r\n\r\n";
 
 /// The reply to the first of them, and to the second where no step 9 stands.
 pub const REPLIES: &[u8] = b"HTTP/1.1 200 OK\r\n\
@@ -42,6 +47,17 @@ static OF_NINE: &[u8] = b"HTTP/1.1 200 OK\r\n\
     visus-post: 1\r\n\
     \r\n\
     \x00\x02\x08\x0a";
+
+/// The reply to the first where the step 0 was published once more, as the second post.
+static OF_NEWER: &[u8] = b"HTTP/1.1 200 OK\r\n\
+    Content-Type: application/octet-stream\r\n\
+    Content-Length: 4\r\n\
+    visus-compression: raw\r\n\
+    visus-dtype: uint8\r\n\
+    visus-samples: 4\r\n\
+    visus-post: 1\r\n\
+    \r\n\
+    nnnn";
 
 /// A link that is served out of a hall of a dataset.
 #[derive(Clone, Copy)]
@@ -118,6 +134,22 @@ fn a_step_is_served_once_it_is_published(rt: HostRuntime) -> Result<(), Fail> {
     let outcome = after_publishing(rt.alloc(), &rt)?;
     assert_eq!(rt; outcome.link.written().as_slice(), OF_NINE);
     assert!(rt; are_noted(&outcome.served, &[(200, 2, 0)]));
+    Ok(())
+}
+
+/// The first head once the step 0 is published again in the hall that both were answered out of.
+fn after_publishing_again(alloc: Global, rt: &impl Abort) -> Result<Outcome, Fail> {
+    let before = outcome_of(alloc, rt, &BOTH, 1)?;
+    let stage = with_step(alloc, rt, before.stage, 0, &[NEWER_OF_0, SECOND_OF_0])?;
+    Ok(serve(alloc, stage, link_of(alloc, FIRST, 1, &[])?, &[])?)
+}
+
+#[test]
+fn the_newest_step_of_a_time_is_served(rt: HostRuntime) -> Result<(), Fail> {
+    let outcome = after_publishing_again(rt.alloc(), &rt)?;
+    assert_eq!(rt; outcome.link.written().as_slice(), OF_NEWER);
+    assert!(rt; are_noted(&outcome.served, &[(200, 2, 0)]));
+    assert_eq!(rt; outcome.reads, 1);
     Ok(())
 }
 

@@ -10,18 +10,19 @@ use Rattle.idx_session.specs.declared.asked.Asked.{Asked}
 use Rattle.idx_session.specs.declared.asked.Asked.TheVariants as A
 
 -- What a turn and a reader tell: the published steps that were seen, whether more may be added meanwhile, the reader's
--- counts of faults and of reads, and the hall, where it is told.
+-- counts of faults and of reads, the hall, where it is told, and how many times it was taken, modulo 2^64.
 pub record State : Type 0 where
   pub posts : List Post
   pub may_add : Bool
   pub faults : ℕ
   pub reads : ℕ
   pub hall : Option HallValue
+  pub holds : ℕ
 
 -- the same of its parts
-abbrev pub state_of : List Post → Bool → ℕ → ℕ → Option HallValue → State
-state_of posts may_add faults reads hall =
-    record { posts = posts; may_add = may_add; faults = faults; reads = reads; hall = hall }
+abbrev pub state_of : List Post → Bool → ℕ → ℕ → Option HallValue → ℕ → State
+state_of posts may_add faults reads hall holds =
+    record { posts = posts; may_add = may_add; faults = faults; reads = reads; hall = hall; holds = holds }
 
 -- what is known after a reply, and the length of the board that the last reply which names one was made from
 pub record Mark : Type 0 where

@@ -1,1 +1,2 @@
 pub mod BeginsLemmas
+pub mod HoldsLemmas

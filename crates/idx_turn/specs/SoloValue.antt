@@ -1,15 +1,17 @@
 -- A value with one owner, as the owner sees it.
-use Rattle.std.specs.Prelude.{Option, Some, None}
+use Rattle.std.specs.Prelude.{ℕ, Option, Some, None}
 use Rattle.idx_turn.specs.Stands.{Stand}
 
--- the value, unless it is taken, and the value as it was when it was last taken, or made into a Solo
+-- the value, unless it is taken, the value as it was when it was last taken, or made into a Solo, and how many times it was
+-- taken, modulo 2^64
 pub record SoloValue (S : Type 0) : Type 0 where
   pub kept : Option S
   pub taken : S
+  pub holds : ℕ
 
--- the two together
-abbrev pub solo : {S : Type 0} → Option S → S → SoloValue S
-solo kept taken = record { kept = kept; taken = taken }
+-- the three together
+abbrev pub solo : {S : Type 0} → Option S → S → ℕ → SoloValue S
+solo kept taken holds = record { kept = kept; taken = taken; holds = holds }
 
 -- the value that is kept, or else the one that was taken
 abbrev pub latest : {S : Type 0} → Option S → S → S

@@ -1,6 +1,7 @@
 -- What a value that is taken in turn stands for, and what may be given back in its place.
-use Rattle.std.specs.Prelude.{◌≡◌, Bool, false, List, ◌++◌, Option, Some, None}
+use Rattle.std.specs.Prelude.{◌≡◌, ℕ, Bool, false, List, ◌++◌, Option, Some, None}
 use Rattle.idx_outside.specs.Shape.{Shape}
+use Rattle.idx_outside.specs.Cause.{MadeReads}
 use Rattle.idx_hall.specs.Posts.{Post}
 
 -- the second list is the first with more behind it, or with nothing
@@ -28,3 +29,7 @@ pub record MayReturn (was : Stand) (may_add : Bool) (back : Stand) : Type 0 wher
 abbrev pub MayGive : Option Stand → Bool → Stand → Type 0
 MayGive None may_add back = ⊥
 MayGive (Some was) may_add back = MayReturn was may_add back
+
+-- the value was taken so many times, where the times are counted modulo 2^64, as reads are
+abbrev pub MadeHolds : ℕ → ℕ → ℕ → Type 0
+MadeHolds before after holds = MadeReads before after holds

@@ -8,9 +8,9 @@ mod solo;
 mod steps;
 mod turn;
 
-pub use examples::{alone, count, one_and_other, publish, take_and_give};
+pub use examples::{alone, count, one_and_other, publish, publish_again, take_and_give};
 pub use held::Held;
-pub use laws::beginnings;
+pub use laws::{beginnings, holds_made};
 pub use solo::Solo;
 pub use steps::{Step, Steps};
 pub use turn::Turn;

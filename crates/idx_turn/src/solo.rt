@@ -12,6 +12,7 @@ use std::snapshot::Snapshot;
 pub struct Solo<S> {
     kept: Option<S>,
     taken: Snapshot<S>,
+    holds: u64,
 }
 
 impl<S> Model for Solo<S> {
@@ -19,18 +20,20 @@ impl<S> Model for Solo<S> {
 
     ghost Value = { SoloValue S };
 
-    ghost view = { λ s. solo s.kept s.taken.value };
+    ghost view = { λ s. solo s.kept s.taken.value s.holds };
 }
 
 impl<S: Standing> Solo<S> {
     /// The owner of this value. Takes no memory.
     pub fn new(state: S) -> Solo<S>
-        ensures { result.kept ≡ Some state }
+        ensures kept { result.kept ≡ Some state }
+        ensures holds { result.holds ≡ 0 }
     {
         let taken = Snapshot::of(&state);
         Solo {
             kept: Some(state),
             taken,
+            holds: 0,
         }
     }
 
@@ -39,7 +42,7 @@ impl<S: Standing> Solo<S> {
         requires { self.kept ≢ None }
         ensures { self.kept ≡ Some result }
     {
-        let Solo { kept, taken: _ } = self;
+        let Solo { kept, .. } = self;
         match kept {
             Some(state) => state,
             None => unreachable!(),
@@ -62,10 +65,13 @@ impl<S: Standing + Drop> Turn<S> for Solo<S> {
 
     ghost lock = { λ _. None };
 
+    ghost holds = { λ s. s.holds };
+
     fn take(&mut self) -> Held<S> {
         match self.kept.take() {
             Some(value) => {
                 self.taken = Snapshot::of(&value);
+                self.holds = self.holds.wrapping_add(1);
                 Held { value }
             }
             None => unreachable!(),
@@ -75,7 +81,8 @@ impl<S: Standing + Drop> Turn<S> for Solo<S> {
     fn give(&mut self, held: Held<S>)
         requires { MayGive (given_unless self.old.kept (stand (S.shape self.old.taken) (S.posts self.old.taken))) true
             (stand (S.shape held) (S.posts held)) }
-        ensures { self.new.kept ≡ Some held }
+        ensures kept { self.new.kept ≡ Some held }
+        ensures holds { self.new.holds ≡ self.old.holds }
     {
         let Held { value } = held;
         self.kept = Some(value);

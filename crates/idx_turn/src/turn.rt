@@ -1,8 +1,8 @@
-ghost use Rattle.std.specs.Prelude.{◌≡◌, Bool, true, List, Option, Some, None};
+ghost use Rattle.std.specs.Prelude.{◌≡◌, ℕ, Bool, true, List, Option, Some, None};
 ghost use Rattle.idx_outside.specs.Shape.{Shape};
 ghost use Rattle.idx_hall.specs.Posts.{Post};
 ghost use Rattle.idx_turn.specs.LockId.{LockId};
-ghost use Rattle.idx_turn.specs.Stands.{Begins, MayGive, Stand, stand};
+ghost use Rattle.idx_turn.specs.Stands.{Begins, MadeHolds, MayGive, Stand, stand};
 
 use crate::Held;
 use idx_hall::Standing;
@@ -30,6 +30,9 @@ pub trait Turn<S: Standing> {
     /// The lock that it takes the value from. One owner alone has none.
     ghost lock: { Self → Option LockId };
 
+    /// How many times the value was taken, modulo 2^64.
+    ghost holds: { Self → ℕ };
+
     /// Takes the value.
     fn take(&mut self) -> Held<S>
         requires { given self.old ≡ None }
@@ -41,6 +44,7 @@ pub trait Turn<S: Standing> {
         ensures seen { seen self.new ≡ S.posts result }
         ensures may_add { may_add self.new ≡ may_add self.old }
         ensures lock { lock self.new ≡ lock self.old }
+        ensures held { MadeHolds (holds self.old) (holds self.new) 1 }
         ensures given { given self.new ≡ Some (stand (S.shape result) (S.posts result)) };
 
     /// Takes the value back.
@@ -51,5 +55,6 @@ pub trait Turn<S: Standing> {
         ensures seen { seen self.new ≡ S.posts held }
         ensures may_add { may_add self.new ≡ may_add self.old }
         ensures lock { lock self.new ≡ lock self.old }
+        ensures holds { holds self.new ≡ holds self.old }
         ensures given { given self.new ≡ None };
 }

@@ -82,6 +82,14 @@ fn folder_of(alloc: Global, header: &Header) -> Option<Bytes> {
     header.step_folder(alloc, 7).ok()?
 }
 
+/// The name of the file at revision 2.
+fn revised_name_of(alloc: Global, header: &Header) -> Option<Bytes> {
+    if header.steps().is_none() {
+        return None;
+    }
+    name_of(alloc, &header.at_revision(alloc, 2).ok()?)
+}
+
 /// The type of the second field.
 fn type_of(alloc: Global, header: &Header) -> Option<Bytes> {
     if header.field_count() < 2 {
@@ -99,6 +107,12 @@ fn names_and_types_are_made(rt: HostRuntime) {
         are(
             name_of(rt.alloc(), &header),
             b"out/time000000007/00/1204.bin"
+        )
+    );
+    assert!(rt;
+        are(
+            revised_name_of(rt.alloc(), &header),
+            b"out/time000000007.r2/00/1204.bin"
         )
     );
     assert!(rt; are(folder_of(rt.alloc(), &header), b"out/time000000007"));

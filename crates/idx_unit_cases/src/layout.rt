@@ -1,5 +1,5 @@
 use idx_header::Header;
-use idx_layout::{file_rows, files, present_in_file};
+use idx_layout::{Layout, file_rows, files, present_in_file};
 use idx_table::Row;
 use std::alloc::Global;
 
@@ -16,7 +16,7 @@ fn last_row(header: &Header) -> Option<Row> {
     if header.block_count() == 0 {
         return None;
     }
-    file_rows(header, 0).last()
+    file_rows(header, Layout::Hz, 0).last()
 }
 
 /// The last row of the first file of the dataset with this header text.

@@ -49,28 +49,38 @@ fn path(alloc: Global) -> Option<Bytes> {
     file_path(alloc, &template(alloc, b"./d/%02x/%02x.bin")?, 0x1_abcd).ok()
 }
 
-/// The path of a file of a step.
-fn path_of_step(alloc: Global) -> Option<Bytes> {
+/// The path of a file of a step at a revision.
+fn path_of_step(alloc: Global, revision: u32) -> Option<Bytes> {
     let template = template(alloc, b"./d/%02x/%02x.bin")?;
     file_path_of_step(
         alloc,
         &template,
         &time_template(alloc, b"time%04d/")?,
         3,
+        revision,
         0x1204,
     )
     .ok()
 }
 
-/// The path of a step's folder.
-fn folder(alloc: Global) -> Option<Bytes> {
+/// The path of the folder of a step at a revision.
+fn folder(alloc: Global, revision: u32) -> Option<Bytes> {
     let template = template(alloc, b"./d/%02x/%02x.bin")?;
-    step_folder(alloc, &template, &time_template(alloc, b"time%04d/")?, 3).ok()
+    step_folder(
+        alloc,
+        &template,
+        &time_template(alloc, b"time%04d/")?,
+        3,
+        revision,
+    )
+    .ok()
 }
 
 #[test]
 fn paths_are_made(rt: HostRuntime) {
     assert!(rt; are(path(rt.alloc()), b"d/1ab/cd.bin"));
-    assert!(rt; are(path_of_step(rt.alloc()), b"d/time0003/12/04.bin"));
-    assert!(rt; are(folder(rt.alloc()), b"d/time0003"));
+    assert!(rt; are(path_of_step(rt.alloc(), 0), b"d/time0003/12/04.bin"));
+    assert!(rt; are(path_of_step(rt.alloc(), 2), b"d/time0003.r2/12/04.bin"));
+    assert!(rt; are(folder(rt.alloc(), 0), b"d/time0003"));
+    assert!(rt; are(folder(rt.alloc(), 2), b"d/time0003.r2"));
 }

@@ -91,7 +91,9 @@ fn print_help<W: Write>(
 fn help_of(cause: Cause) -> Option<Help> {
     match cause {
         Cause::RawWrongSize { .. } => Some(Help::OfRaw("not the bytes that these samples take")),
-        Cause::AlreadyPublished { .. } => Some(Help::OfDataset("the step stands there already")),
+        Cause::AlreadyPublished { .. } => Some(Help::OfDataset(
+            "all 256 revisions of the step stand; remove the folder of the last one",
+        )),
         Cause::OtherHeader => Some(Help::OfDataset(
             "the header there has other values than these words",
         )),

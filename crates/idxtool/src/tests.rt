@@ -89,6 +89,13 @@ fn a_message_says_what_helps(rt: HostRuntime) -> Result<(), Fail> {
             "idxtool: raw size want 16 found 15\n  r.raw: not the bytes that these samples take\n",
         ),
         (
+            convert,
+            Cause::AlreadyPublished { time: 0 },
+            None,
+            "idxtool: published 0\n  \
+             v.idx: all 256 revisions of the step stand; remove the folder of the last one\n",
+        ),
+        (
             "query|v.idx|0|a|0|3|0|3|0|2",
             Cause::Usage { at: 4 },
             None,

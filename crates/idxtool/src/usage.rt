@@ -35,7 +35,8 @@ idxtool: samples, headers and files of ViSUS IDX data, with proved answers
                   [--ranks RANKS]
       writes a step of a dataset out of a raw volume: the files of the step, all
       at once, and the header where none stands. A header that stands has to
-      agree, and the step must not stand yet. Nothing else is changed
+      agree. A step that stands is written again as a new revision, of 256 at
+      most, and the newest one is read. Nothing else is changed
 
       DATASET   the header file, as run.idx; the files are written beside it
       RAW       the file: for each field the samples of BOX in row-major order,
@@ -93,10 +94,10 @@ idxtool: samples, headers and files of ViSUS IDX data, with proved answers
 
 Exit statuses: 0 all was written, 1 wrong words, 2 a header is refused, 3 RAW
 has another size, 4 RAW could not be read, 5 DATASET could not be read or
-written, 6 the step stands already or another header stands, 7 the step does not
-stand, 8 no such field, region, levels or step, or too many bytes, 9 standard
-output did not take all, 10 a file of DATASET is damaged, 11 not enough memory,
-12 ADDRESS cannot be listened at, or no further link comes.
+written, 6 all 256 revisions of the step stand or another header stands, 7 the
+step does not stand, 8 no such field, region, levels or step, or too many bytes,
+9 standard output did not take all, 10 a file of DATASET is damaged, 11 not
+enough memory, 12 ADDRESS cannot be listened at, or no further link comes.
 ";
 
 /// The text that a list of words asks for, if it is `--help` or `--version` alone.

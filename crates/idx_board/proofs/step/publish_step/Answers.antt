@@ -10,8 +10,7 @@ returns-clause-added g c =
     let h = c.args.header.now in
     let loaded = c.in_ok-edition.ensures in
     let time : e.time ≡ c.args.time = rw c.in-Some.is at loaded.time in
-    let there : c.in_ok-edition.field-0 ≢ None = λ none. (let some : Some e ≡ None = sym c.in-Some.is ∙ none in cc) in
     published (λ (x : _). x.time) (λ x. has_in_tables x.tables) (λ x. stored_in x.tables (shown g.B.Leaf.Leaf.contents x.leaves.items)) h c.args.time (g.B.Bay.files c.args.bay.now) c.args.hall.now.board c.add.new.hall.board
     c.add.result c.args.hall.now.shape _ e c.in-Ok.ensures.ok time c.requires.shape
-    (facts h c.args.time e.time (g.B.Bay.files c.args.bay.now) (shape_in e.tables) (has_in_tables e.tables) (stored_in e.tables (shown g.B.Leaf.Leaf.contents e.leaves.items)) (shown g.B.Leaf.Leaf.contents e.leaves.items)
-    time (rw c.in-Some.is at loaded.shape) (loaded.stands there) (rw c.in-Some.is at loaded.holds)) c.add.ensures.added
+    (facts h e.tables.header c.args.time e.time (g.B.Bay.files c.args.bay.now) (shape_in e.tables) (has_in_tables e.tables) (stored_in e.tables (shown g.B.Leaf.Leaf.contents e.leaves.items)) (shown g.B.Leaf.Leaf.contents e.leaves.items)
+    time (rw c.in-Some.is at loaded.shape) (rw c.in-Some.is at loaded.newest) (rw c.in-Some.is at loaded.holds)) c.add.ensures.added

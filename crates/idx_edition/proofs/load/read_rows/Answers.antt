@@ -7,9 +7,9 @@ use Rattle.std.proofs.lemmas.List.FromFn.{length-map-range_with_len}
 use Rattle.idx_fields.specs.Field.{sample_bytes}
 use Rattle.idx_table.specs.Table.{rows_of}
 use Rattle.idx_table.specs.declared.row.Row.{Row}
-use Rattle.idx_layout.specs.Layout.{block_bytes}
+use Rattle.idx_layout.specs.Placing.{block_bytes}
 use Rattle.idx_layout.specs.Files.{row_count}
-use Rattle.idx_layout.specs.OfHeader.{layout_of}
+use Rattle.idx_layout.specs.OfHeader.{placing_of}
 use Rattle.idx_edition.specs.Stored.{fault_of_bytes}
 use Rattle.idx_edition.specs.Tables.{EndWithin, IsTable}
 use Rattle.idx_edition.proofs.LoadLemmas.{IsFront, front_of, cause-table, front-rows, front-sound, front-bad, front-table, front-ends}
@@ -18,14 +18,14 @@ use Rattle.idx_edition.proofs.load.read_rows.Goals as goal
 pub read-requires-clause-whole : goal.read-requires-clause-whole
 read-requires-clause-whole g c =
     let h = c.args.header.now in
-    let l = layout_of h in
+    let l = placing_of h in
     let count : length c.args.lengths.now.items ≡ length h.fields = ap length c.requires ∙ length-map-range_with_len (block_bytes l) 0 (length l.sizes) ∙ length-map h.fields sample_bytes in
     ap (λ n. n % length c.args.lengths.now.items) (c.row_count.ensures.value ∙ ap (λ n. n * h.blocks_per_file) (sym count))
     ∙ mul-mod_right (length c.args.lengths.now.items) h.blocks_per_file
 
 pub returns-in_ok-of_table-in-Ok-clause-rows : goal.returns-in_ok-of_table-in-Ok-clause-rows
 returns-in_ok-of_table-in-Ok-clause-rows g c =
-    let l = layout_of c.args.header.now in
+    let l = placing_of c.args.header.now in
     let is : IsFront (g.L.Leaf.contents c.args.leaf.now) c.deref.result.now l c.row_count.result c.len-len.result c.min.result c.args.lengths.now.items =
     front_of c.args.header.now (g.L.Leaf.contents c.args.leaf.now) c.deref.result.now c.read_front.new.front.items c.row_count.result c.len-len.result c.min.result c.table_len.result c.args.lengths.now.items
     c.row_count.ensures.value c.row_count.ensures.fields c.row_count.ensures.places c.requires c.table_len.ensures.value c.min.ensures c.len-len.ensures c.in_ok-read_front.ensures.bytes c.deref.ensures.value in
@@ -34,7 +34,7 @@ returns-in_ok-of_table-in-Ok-clause-rows g c =
 
 pub returns-in_ok-of_table-in-Ok-clause-sound : goal.returns-in_ok-of_table-in-Ok-clause-sound
 returns-in_ok-of_table-in-Ok-clause-sound g c =
-    let l = layout_of c.args.header.now in
+    let l = placing_of c.args.header.now in
     let is : IsFront (g.L.Leaf.contents c.args.leaf.now) c.deref.result.now l c.row_count.result c.len-len.result c.min.result c.args.lengths.now.items =
     front_of c.args.header.now (g.L.Leaf.contents c.args.leaf.now) c.deref.result.now c.read_front.new.front.items c.row_count.result c.len-len.result c.min.result c.table_len.result c.args.lengths.now.items
     c.row_count.ensures.value c.row_count.ensures.fields c.row_count.ensures.places c.requires c.table_len.ensures.value c.min.ensures c.len-len.ensures c.in_ok-read_front.ensures.bytes c.deref.ensures.value in
@@ -42,7 +42,7 @@ returns-in_ok-of_table-in-Ok-clause-sound g c =
 
 pub returns-in_ok-of_table-in-Ok-clause-table : goal.returns-in_ok-of_table-in-Ok-clause-table
 returns-in_ok-of_table-in-Ok-clause-table g c =
-    let l = layout_of c.args.header.now in
+    let l = placing_of c.args.header.now in
     let is : IsFront (g.L.Leaf.contents c.args.leaf.now) c.deref.result.now l c.row_count.result c.len-len.result c.min.result c.args.lengths.now.items =
     front_of c.args.header.now (g.L.Leaf.contents c.args.leaf.now) c.deref.result.now c.read_front.new.front.items c.row_count.result c.len-len.result c.min.result c.table_len.result c.args.lengths.now.items
     c.row_count.ensures.value c.row_count.ensures.fields c.row_count.ensures.places c.requires c.table_len.ensures.value c.min.ensures c.len-len.ensures c.in_ok-read_front.ensures.bytes c.deref.ensures.value in
@@ -51,7 +51,7 @@ returns-in_ok-of_table-in-Ok-clause-table g c =
 
 pub returns-in_ok-of_table-in-Ok-clause-ends : goal.returns-in_ok-of_table-in-Ok-clause-ends
 returns-in_ok-of_table-in-Ok-clause-ends g c =
-    let l = layout_of c.args.header.now in
+    let l = placing_of c.args.header.now in
     let is : IsFront (g.L.Leaf.contents c.args.leaf.now) c.deref.result.now l c.row_count.result c.len-len.result c.min.result c.args.lengths.now.items =
     front_of c.args.header.now (g.L.Leaf.contents c.args.leaf.now) c.deref.result.now c.read_front.new.front.items c.row_count.result c.len-len.result c.min.result c.table_len.result c.args.lengths.now.items
     c.row_count.ensures.value c.row_count.ensures.fields c.row_count.ensures.places c.requires c.table_len.ensures.value c.min.ensures c.len-len.ensures c.in_ok-read_front.ensures.bytes c.deref.ensures.value in
@@ -60,7 +60,7 @@ returns-in_ok-of_table-in-Ok-clause-ends g c =
 
 pub returns-in-Err-clause-cause : goal.returns-in-Err-clause-cause
 returns-in-Err-clause-cause g c =
-    let l = layout_of c.args.header.now in
+    let l = placing_of c.args.header.now in
     let is : IsFront (g.L.Leaf.contents c.args.leaf.now) c.deref.result.now l c.row_count.result c.len-len.result c.min.result c.args.lengths.now.items =
     front_of c.args.header.now (g.L.Leaf.contents c.args.leaf.now) c.deref.result.now c.read_front.new.front.items c.row_count.result c.len-len.result c.min.result c.table_len.result c.args.lengths.now.items
     c.row_count.ensures.value c.row_count.ensures.fields c.row_count.ensures.places c.requires c.table_len.ensures.value c.min.ensures c.len-len.ensures c.in_ok-read_front.ensures.bytes c.deref.ensures.value in

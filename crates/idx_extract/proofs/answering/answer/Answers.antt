@@ -52,9 +52,9 @@ returns-in_err-answer_alone-clause-few_reads g c =
     let opened = c.in_ok-edition.ensures in
     let k = known bay.header bay.files bay.faults bay.failed g.R.Reader.faults g.R.Reader.reads c.args.bay.now c.open_step.new.bay c.args.reader.now c.answer_alone.new.reader in
     on_err c.from_residual-in_err-answer_alone.result (ReadsFewUnder c.args.header.now c.args.question.now k)
-    (few_of_blocks c.args.header.now c.args.question.now k c.in_ok-ask.ask c.in_ok-ask.ensures.asked c.in_ok-ask.ensures.sound c.question.inside.time
+    (few_of_blocks c.args.header.now c.args.question.now k c.in_ok-ask.ask c.in_ok-ask.ensures.asked c.in_ok-ask.ensures.sound c.in_ok-edition.edition.tables.header c.question.inside.time
     (g.R.Reader.reads c.open_step.new.reader) (length c.in_ok-edition.edition.leaves.items)
-    (ap (λ (q : QuestionValue). q.time) c.question.view_is) opened.few opened.reads c.in_err-answer_alone.ensures.few_reads)
+    (ap (λ (q : QuestionValue). q.time) c.question.view_is) opened.newest opened.few opened.reads c.in_err-answer_alone.ensures.few_reads)
 
 pub returns-clause-extracted : goal.returns-clause-extracted
 returns-clause-extracted g c =
@@ -72,10 +72,10 @@ returns-clause-extracted g c =
       sound = c.in_ok-ask.ensures.sound;
       many = omega (arith, done.length, ap length c.new-bytes.ensures);
       stored =
-          is_answer_known (bay.files c.args.bay.now) c.args.header.now ask c.question.inside.time (shape_in edition.tables) (has_in_tables edition.tables)
+          is_answer_known (bay.files c.args.bay.now) c.args.header.now edition.tables.header ask c.question.inside.time (shape_in edition.tables) (has_in_tables edition.tables)
           (stored_in edition.tables leaves) leaves (length edition.leaves.items) c.in_ok-answer_alone.field-0
           (g.R.Reader.reads c.args.reader.now) (g.R.Reader.reads c.open_step.new.reader) (g.R.Reader.reads c.answer_alone.new.reader) c.new-bytes.result c.answer_alone.new.out
-          time opened.holds opened.stands opened.shape asked.field c.in_ok-ask.ensures.valid.bits_within
+          time opened.holds opened.newest opened.shape asked.field c.in_ok-ask.ensures.valid.bits_within
           (sym (length-map edition.leaves.items (entry_shown g.B.Leaf.Leaf.contents)))
           opened.reads done.reads done.once done.absent c.new-bytes.ensures done.answer;
     }

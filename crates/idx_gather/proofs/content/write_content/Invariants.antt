@@ -1,8 +1,8 @@
 use Rattle.std.proofs.Common.{◌≡◌}
 use Rattle.idx_outside.specs.Contents.{appended}
-use Rattle.idx_layout.specs.Layout.{present_blocks}
+use Rattle.idx_layout.specs.Placing.{present_blocks}
 use Rattle.idx_layout.specs.Files.{file_bytes}
-use Rattle.idx_layout.specs.OfHeader.{layout_of}
+use Rattle.idx_layout.specs.OfHeader.{placing_of}
 use Rattle.idx_layout.specs.Step.{volume_of_raw}
 use Rattle.idx_gather.proofs.ContentLemmas.{IsLeft}
 use Rattle.idx_gather.proofs.content.write_content.Given as goal
@@ -11,9 +11,9 @@ use Rattle.idx_gather.proofs.content.write_content.Given as goal
 abbrev pub invariant-loop-field : goal.invariant-loop-field
 invariant-loop-field g l =
     let draft = g.D.Draft in
-    let layout = layout_of l.header in
+    let placing = placing_of l.header in
     record {
-      left : IsLeft l.header (present_blocks layout l.file) l.field l.rest (appended (draft.contents l.draft) l.buffer.items)
-          (appended (draft.contents l.fn.draft) (file_bytes layout (volume_of_raw l.header l.raw) l.file));
+      left : IsLeft l.layout l.header (present_blocks placing l.file) l.field l.rest (appended (draft.contents l.draft) l.buffer.items)
+          (appended (draft.contents l.fn.draft) (file_bytes l.layout placing (volume_of_raw l.header l.raw) l.file));
       quiet : draft.faults l.draft ≡ draft.faults l.fn.draft;
     }

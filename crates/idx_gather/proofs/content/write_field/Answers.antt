@@ -5,8 +5,8 @@ use Rattle.idx_outside.proofs.ContentsLemmas.{appended-appended}
 use Rattle.idx_geom.specs.Region.{points}
 use Rattle.idx_geom.specs.Volume.{samples_of}
 use Rattle.idx_header.specs.Header.{block_count, sample_bytes_of}
-use Rattle.idx_layout.specs.Layout.{block_of_samples}
-use Rattle.idx_layout.specs.OfHeader.{layout_of}
+use Rattle.idx_layout.specs.Files.{block_in_file}
+use Rattle.idx_layout.specs.OfHeader.{placing_of}
 use Rattle.idx_gather.proofs.ContentLemmas.{blocks_exist, block_more}
 use Rattle.idx_gather.proofs.content.write_field.Goals as goal
 
@@ -14,7 +14,7 @@ pub loop-block-init : goal.loop-block-init
 loop-block-init g c =
     let h = c.args.header.now in
     let all = c.into_iter-block-iterator.ensures.into_iter_gives ∙ c.file_blocks-block-items.ensures.value in
-    let block : ℕ → List ℕ = block_of_samples (layout_of h) (sample_bytes_of h c.args.field) (samples_of (sample_bytes_of h c.args.field) (length (points h.box)) c.args.samples.now) in
+    let block : ℕ → List ℕ = block_in_file c.args.layout (placing_of h) (sample_bytes_of h c.args.field) (samples_of (sample_bytes_of h c.args.field) (length (points h.box)) c.args.samples.now) in
     record {
       written = ap (λ blocks. appended (appended (g.D.Draft.contents c.args.draft.now) c.args.buffer.now.items) (flat_map block blocks)) all;
       exist = subst (AllByRecursion (λ block. block < block_count h)) (sym all) (blocks_exist h c.args.file h.blocks_per_file c.requires.valid);
@@ -25,7 +25,7 @@ pub loop-block-preserved : goal.loop-block-preserved
 loop-block-preserved g c =
     let h = c.args.header.now in
     let draft = g.D.Draft in
-    let block : ℕ → List ℕ = block_of_samples (layout_of h) (sample_bytes_of h c.args.field) (samples_of (sample_bytes_of h c.args.field) (length (points h.box)) c.args.samples.now) in
+    let block : ℕ → List ℕ = block_in_file c.args.layout (placing_of h) (sample_bytes_of h c.args.field) (samples_of (sample_bytes_of h c.args.field) (length (points h.box)) c.args.samples.now) in
     let before = appended (draft.contents c.loop-block.draft) c.loop-block.buffer.items in
     let pushed = c.in_ok-push_block.ensures in
     let first = c.in-Some.ensures.steps in

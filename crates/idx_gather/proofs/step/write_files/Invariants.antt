@@ -12,8 +12,8 @@ invariant-loop-file g l =
     let bay = g.B.Bay in
     let volume = volume_of_raw l.header l.raw in
     record {
-      all : shown g.B.Leaf.Leaf.contents l.leaves.items ++ known_files (bay.files l.fn.bay) (map (step_file l.header volume l.step) l.file-iterator)
-          ≡ known_files (bay.files l.fn.bay) (step_files l.header volume l.step);
+      all : shown g.B.Leaf.Leaf.contents l.leaves.items ++ known_files (bay.files l.fn.bay) (map (step_file l.layout l.header volume l.step) l.file-iterator)
+          ≡ known_files (bay.files l.fn.bay) (step_files l.layout l.header volume l.step);
       exist : AllByRecursion (λ file. file < block_count l.header) l.file-iterator;
       admits : (file : ℕ) → bay.admits l.bay (file_name l.header l.step file);
       files : bay.files l.bay ≡ bay.files l.fn.bay;

@@ -4,7 +4,7 @@ use Rattle.idx_header.specs.Names.{file_name}
 use Rattle.idx_layout.specs.Step.{step_files, volume_of_raw}
 use Rattle.idx_edition.specs.Tables.{TablesValue, has_in_tables, shape_in, stored_in}
 use Rattle.idx_edition.proofs.StoredLemmas.{known_written}
-use Rattle.idx_gather.proofs.EditionLemmas.{HoldsAny, holds_added, is_volume}
+use Rattle.idx_gather.proofs.EditionLemmas.{HoldsAny, files_hz, has_hz, holds_added, is_volume, written_hz}
 use Rattle.idx_gather.proofs.SomeFileLemmas.{some_leaf, some_step_file}
 use Rattle.idx_gather.proofs.StepLemmas.{folder_exists, files_lie, name_lies}
 use Rattle.idx_gather.proofs.step.write_step.Goals as goal
@@ -25,7 +25,7 @@ of_leaves-requires g c =
     record {
       written = (
         volume_of_raw h raw,
-        known_written h c.args.step (volume_of_raw h raw) (g.B.Bay.files c.args.bay.now) (shown g.B.Leaf.Leaf.contents c.in_ok-leaves.leaves.items) (is_volume h raw c.requires.raw) c.in_ok-leaves.ensures.leaves.same,
+        written_hz c.args.layout h c.args.step (volume_of_raw h raw) (shown g.B.Leaf.Leaf.contents c.in_ok-leaves.leaves.items) (known_written c.args.layout h c.args.step (volume_of_raw h raw) (g.B.Bay.files c.args.bay.now) (shown g.B.Leaf.Leaf.contents c.in_ok-leaves.leaves.items) (is_volume h raw c.requires.raw) c.in_ok-leaves.ensures.leaves.same),
       );
     }
 
@@ -35,8 +35,8 @@ commit-requires-clause-some g c =
     let volume = volume_of_raw h c.args.raw.now in
     let some : 0 < length c.leaves.result.now.items =
     subst (λ leaves. 0 < length leaves) (sym (c.leaves.ensures ∙ c.in_ok-edition.ensures.leaves))
-    (some_leaf g.B.Leaf.Leaf.contents (g.B.Bay.files c.args.bay.now) c.in_ok-leaves.leaves.items (step_files h volume c.args.step)
-    c.in_ok-leaves.ensures.leaves.same (some_step_file h volume c.args.step c.in_ok-edition.ensures.valid)) in
+    (some_leaf g.B.Leaf.Leaf.contents (g.B.Bay.files c.args.bay.now) c.in_ok-leaves.leaves.items (step_files c.args.layout h volume c.args.step)
+    c.in_ok-leaves.ensures.leaves.same (some_step_file c.args.layout h volume c.args.step c.in_ok-edition.ensures.valid)) in
     omega (arith, some, c.leaves.result.now.ok)
 
 pub commit-requires-clause-within : goal.commit-requires-clause-within
@@ -45,14 +45,14 @@ commit-requires-clause-within g c = λ files known.
     let stands = sym c.in_ok-folder.ensures ∙ c.in-Some.is in
     subst (λ leaves. AllLieIn c.as_slice.result.now leaves) (sym (c.leaves.ensures ∙ c.in_ok-edition.ensures.leaves))
     (subst (λ (f : List ℕ). AllLieIn f c.in_ok-leaves.leaves.items) (sym c.as_slice.ensures)
-    (c.in_ok-leaves.ensures.leaves.lie c.in-Some.folder (files_lie h (volume_of_raw h c.args.raw.now) c.args.step c.in-Some.folder stands)))
+    (c.in_ok-leaves.ensures.leaves.lie c.in-Some.folder (files_lie c.args.layout h (volume_of_raw h c.args.raw.now) c.args.step c.in-Some.folder stands)))
 
 pub returns-clause-volume : goal.returns-clause-volume
 returns-clause-volume g c =
     let h = c.args.header.now in
     let raw = c.args.raw.now in
     c.in_ok-edition.ensures.stored (volume_of_raw h raw)
-    (known_written h c.args.step (volume_of_raw h raw) (g.B.Bay.files c.args.bay.now) (shown g.B.Leaf.Leaf.contents c.in_ok-leaves.leaves.items) (is_volume h raw c.requires.raw) c.in_ok-leaves.ensures.leaves.same)
+    (written_hz c.args.layout h c.args.step (volume_of_raw h raw) (shown g.B.Leaf.Leaf.contents c.in_ok-leaves.leaves.items) (known_written c.args.layout h c.args.step (volume_of_raw h raw) (g.B.Bay.files c.args.bay.now) (shown g.B.Leaf.Leaf.contents c.in_ok-leaves.leaves.items) (is_volume h raw c.requires.raw) c.in_ok-leaves.ensures.leaves.same))
 
 pub returns-clause-holds : goal.returns-clause-holds
 returns-clause-holds g c =
@@ -65,11 +65,12 @@ returns-clause-holds g c =
     let edition = c.in_ok-edition.edition in
     let leaves = shown contents edition.leaves.items in
     let tables : TablesValue = edition.tables in
-    let held : HoldsAny h step volume (shape_in tables) (has_in_tables tables) (stored_in tables leaves) leaves = record {
+    let held : HoldsAny c.args.layout h step volume (shape_in tables) (has_in_tables tables) (stored_in tables leaves) leaves = record {
       any = λ files has same.
-          c.in_ok-edition.ensures.holds volume files (is_volume h c.args.raw.now c.requires.raw) has (ap (shown contents) (sym c.in_ok-edition.ensures.leaves) ∙ same);
+          c.in_ok-edition.ensures.holds volume files (is_volume h c.args.raw.now c.requires.raw) (has_hz c.args.layout h step volume files has)
+          (ap (shown contents) (sym c.in_ok-edition.ensures.leaves) ∙ same ∙ files_hz c.args.layout h step volume files);
     } in
-    holds_added h step c.in_ok-edition.ensures.valid c.requires.folder.has volume folder (shape_in tables) (has_in_tables tables) (stored_in tables leaves) leaves held
+    holds_added c.args.layout h step c.in_ok-edition.ensures.valid c.requires.folder.has volume folder (shape_in tables) (has_in_tables tables) (stored_in tables leaves) leaves held
     old (g.B.Bay.files c.commit.new.self)
     (ap (shown contents) c.in_ok-edition.ensures.leaves ∙ c.in_ok-leaves.ensures.leaves.same)
     (c.in_ok-commit.ensures.stands

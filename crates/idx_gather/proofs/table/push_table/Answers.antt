@@ -1,13 +1,13 @@
 use Rattle.std.proofs.Common.{◌++◌, replicate, sym, ap, ◌∙◌, append_assoc, append-nil}
 use Rattle.std.specs.List.{flat_map}
 use Rattle.idx_layout.specs.Files.{rows_of_file}
-use Rattle.idx_layout.specs.OfHeader.{layout_of}
+use Rattle.idx_layout.specs.OfHeader.{placing_of}
 use Rattle.idx_table.specs.Row.{row_bytes}
 use Rattle.idx_gather.proofs.table.push_table.Goals as goal
 
 pub loop-row-init : goal.loop-row-init
 loop-row-init c =
-    let rows = rows_of_file (layout_of c.args.header.now) c.args.file in
+    let rows = rows_of_file c.args.layout (placing_of c.args.header.now) c.args.file in
     ap (λ bytes. bytes ++ flat_map row_bytes c.into_iter-row-iterator.result) c.in_ok-extend_from_slice.ensures.items
     ∙ ap (λ left. (c.args.into.now.items ++ replicate 40 0) ++ flat_map row_bytes left)
     (c.into_iter-row-iterator.ensures.into_iter_gives ∙ c.file_rows-row-items.ensures.rows)

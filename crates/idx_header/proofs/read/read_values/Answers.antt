@@ -1,4 +1,4 @@
-use Rattle.std.proofs.Common.{◌≡◌, ◌++◌, List, None, ap, ◌∙◌, subst}
+use Rattle.std.proofs.Common.{◌≡◌, ◌++◌, List, None, arith, refl, ap, ◌∙◌, subst}
 use Rattle.idx_text.specs.declared.section.Section.{Section}
 use Rattle.idx_names.specs.Template.{Fits}
 use Rattle.idx_header.specs.Faults.{first_of, last_file_number}
@@ -77,6 +77,8 @@ invariant_of-result c =
           c.in_ok-template.ensures.ok.2;
       steps = c.in_ok-steps.ensures.valid;
       unknown = c.in_ok-unknown.ensures.valid;
+      revision_few = omega arith;
+      unrevised = λ e. refl;
     }
 
 pub returns-clause-ok : goal.returns-clause-ok
@@ -94,6 +96,7 @@ returns-clause-ok c =
         template = c.in_ok-template.ensures.ok.1 i;
         steps = c.in_ok-steps.ensures.ok.1 i;
         unknown = c.in_ok-unknown.ensures.value i;
+        revision = 0;
       },
     )
 

@@ -26,6 +26,7 @@ returns c =
       template = kept.template;
       steps = kept.steps;
       unknown = kept.unknown.items;
+      revision = kept.revision;
     } in
     let text = c.write_unknowns.new.out in
     let written : text ≡ text_of header =

@@ -1,5 +1,5 @@
 use Rattle.std.proofs.Common.{◌-◌, ◌^◌, length, sym, arith}
-use Rattle.idx_layout.specs.Layout.{has_point_in}
+use Rattle.idx_layout.specs.Placing.{has_point_in}
 use Rattle.idx_layout.specs.Runs.{first_of_run}
 use Rattle.idx_layout.proofs.FindLemmas.{find-at, find-none}
 use Rattle.idx_layout.proofs.RunLemmas.{none_joined}

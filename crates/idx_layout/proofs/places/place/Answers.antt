@@ -1,8 +1,8 @@
 use Rattle.std.proofs.Common.{ℕ, ◌*◌, ◌/◌, ◌+◌, ◌-◌, ◌∙◌, sym, ap, arith, length}
 use Rattle.std.specs.Prelude.{filter}
 use Rattle.std.specs.List.{range_with_len}
-use Rattle.idx_layout.specs.Layout.{is_present}
-use Rattle.idx_layout.specs.OfHeader.{layout_of}
+use Rattle.idx_layout.specs.Placing.{is_present}
+use Rattle.idx_layout.specs.OfHeader.{placing_of}
 use Rattle.idx_layout.proofs.HeaderLemmas.{placed}
 use Rattle.idx_layout.proofs.places.place.Goals as goal
 
@@ -19,7 +19,7 @@ returns c =
       from = c.file_of-file.ensures.from;
       to = omega (arith, c.file_of-file.ensures.to, per_file);
       earlier = c.present_between-earlier.ensures.value;
-      later = c.present_between-later.ensures.value ∙ ap (λ (n : ℕ). length (filter (is_present (layout_of h)) (range_with_len block (c.file_of-file.result + n - block)))) per_file;
+      later = c.present_between-later.ensures.value ∙ ap (λ (n : ℕ). length (filter (is_present (placing_of h)) (range_with_len block (c.file_of-file.result + n - block)))) per_file;
       offset = c.offset_at.ensures;
       len = c.block_bytes.ensures.value;
     })

@@ -1,5 +1,5 @@
 use Rattle.std.proofs.Common.{◌-◌, arith}
-use Rattle.idx_layout.specs.Layout.{has_point_in}
+use Rattle.idx_layout.specs.Placing.{has_point_in}
 use Rattle.idx_layout.proofs.ListLemmas.{count-le}
 use Rattle.idx_layout.proofs.places.present_between.Goals as goal
 

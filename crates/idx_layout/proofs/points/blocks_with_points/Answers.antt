@@ -1,7 +1,7 @@
 use Rattle.std.proofs.Common.{◌≡◌, ◌-◌, length, ap, arith, inl}
 use Rattle.std.specs.Prelude.{filter}
 use Rattle.std.specs.List.{range_with_len}
-use Rattle.idx_layout.specs.Layout.{has_point_in}
+use Rattle.idx_layout.specs.Placing.{has_point_in}
 use Rattle.idx_layout.proofs.ListLemmas.{count-le}
 use Rattle.idx_layout.proofs.points.blocks_with_points.Goals as goal
 

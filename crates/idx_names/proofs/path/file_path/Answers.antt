@@ -6,4 +6,4 @@ pub returns : goal.returns
 unfolding file_path
 returns c =
     c.in_ok-append_numbered.ensures
-    ∙ ap (λ above. above ++ numbered c.args.template.now.pieces c.args.file) (c.in_ok-path.ensures ∙ c.above.ensures)
+    ∙ ap (λ above. above ++ numbered c.args.template.now.pieces c.args.file) (c.in_ok-name.ensures ∙ c.above.ensures)

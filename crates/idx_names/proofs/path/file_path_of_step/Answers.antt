@@ -7,4 +7,4 @@ unfolding file_path
 returns c =
     c.in_ok-append_numbered.ensures
     ∙ ap (λ path. path ++ numbered c.args.template.now.pieces c.args.file) (c.in_ok-push.ensures.ok ∙ ap (λ path. path ++ 47 ∷ []) c.in_ok-path.ensures)
-    ∙ append_assoc (step_folder c.args.template.now c.args.time.now c.args.step) (47 ∷ []) (numbered c.args.template.now.pieces c.args.file)
+    ∙ append_assoc (step_folder c.args.template.now c.args.time.now c.args.step c.args.revision) (47 ∷ []) (numbered c.args.template.now.pieces c.args.file)

@@ -14,13 +14,13 @@ loop-i-init g c =
       room = refl;
       post = ap (λ (r : Report). r.post) report;
       quiet = refl;
-      done = done-first c.args.plan.now c.args.field (g.E.Blocks.has c.args.edition.now c.args.field) (g.E.Blocks.stored c.args.edition.now) c.args.looked.now.found (g.R.Reader.reads c.args.reader.now)
+      done = done-first c.args.part.now c.args.field (g.E.Blocks.has c.args.edition.now c.args.field) (g.E.Blocks.stored c.args.edition.now) c.args.looked.now.found (g.R.Reader.reads c.args.reader.now)
           c.args.loading.now c.args.post c.new-report.result c.args.out.now report;
     }
 
 pub copy_key-requires-clause-found : goal.copy_key-requires-clause-found
 copy_key-requires-clause-found g c =
-    subst (λ n. AreFound n c.args.field (g.E.Blocks.stored c.args.edition.now) c.args.plan.now.keys c.args.looked.now.found) (sym (done-bytes c.loop-i.invariant.done)) c.requires.found
+    subst (λ n. AreFound n c.args.field (g.E.Blocks.stored c.args.edition.now) c.args.part.now.keys c.args.looked.now.found) (sym (done-bytes c.loop-i.invariant.done)) c.requires.found
 
 pub loop-i-preserved : goal.loop-i-preserved
 loop-i-preserved g c =
@@ -31,9 +31,9 @@ loop-i-preserved g c =
       room = search rules;
       post = came-post came.came ∙ before.post;
       quiet = came.quiet ∙ before.quiet;
-      done = done-more c.args.plan.now c.args.field (g.E.Blocks.has c.args.edition.now c.args.field) (g.E.Blocks.stored c.args.edition.now) c.args.looked.now.found c.loop-i.i
+      done = done-more c.args.part.now c.args.field (g.E.Blocks.has c.args.edition.now c.args.field) (g.E.Blocks.stored c.args.edition.now) c.args.looked.now.found c.loop-i.i
           (g.R.Reader.reads c.args.reader.now) (g.R.Reader.reads c.loop-i.reader) (g.R.Reader.reads c.copy_key.new.reader) c.args.loading.now c.loop-i.loading c.copy_key.new.loading
-          c.loop-i.report c.in_ok-report.report c.loop-i.out c.copy_key.new.out before.done came.came;
+          c.loop-i.report c.in_ok-report.report c.args.out.now c.loop-i.out c.copy_key.new.out before.done came.came;
     }
 
 pub returns-in_err-report-clause-few_reads : goal.returns-in_err-report-clause-few_reads
@@ -41,6 +41,6 @@ returns-in_err-report-clause-few_reads g c =
     let start = g.R.Reader.reads c.args.reader.now in
     let now = g.R.Reader.reads c.loop-i.reader in
     let after = g.R.Reader.reads c.copy_key.new.reader in
-    on_err c.from_residual.result (ReadsAtMost start after (length c.args.plan.now.keys))
-    (reads_till c.args.plan.now c.args.field (g.E.Blocks.has c.args.edition.now c.args.field) (g.E.Blocks.stored c.args.edition.now) c.args.looked.now.found c.loop-i.i
-    start now after c.args.loading.now c.loop-i.loading c.loop-i.report c.loop-i.out c.loop-i.invariant.done (search rules) c.in_err-report.ensures.few_reads)
+    on_err c.from_residual.result (ReadsAtMost start after (length c.args.part.now.keys))
+    (reads_till c.args.part.now c.args.field (g.E.Blocks.has c.args.edition.now c.args.field) (g.E.Blocks.stored c.args.edition.now) c.args.looked.now.found c.loop-i.i
+    start now after c.args.loading.now c.loop-i.loading c.loop-i.report c.args.out.now c.loop-i.out c.loop-i.invariant.done (search rules) c.in_err-report.ensures.few_reads)

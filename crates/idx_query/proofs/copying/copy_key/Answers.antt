@@ -5,14 +5,14 @@ use Rattle.idx_query.proofs.copying.copy_key.Goals as goal
 
 pub copy-requires-clause-block : goal.copy-requires-clause-block
 copy-requires-clause-block g c =
-    let keys = c.args.plan.now.keys in
+    let keys = c.args.part.now.keys in
     let bytes = c.as_slice.result.now in
     let found : slice_get c.args.looked.now.found c.args.i ≡ Some (Some bytes) = found_bytes _ _ _ _ c.in-Some.ensures c.deref.ensures c.as_slice.ensures in
     (c.requires.found c.args.i (key_at keys c.args.i) bytes (key-stands keys c.args.i c.requires.key) found).many ∙ c.requires.block
 
 pub returns-in-Some-clause-came : goal.returns-in-Some-clause-came
 returns-in-Some-clause-came g c =
-    let keys = c.args.plan.now.keys in
+    let keys = c.args.part.now.keys in
     let at = key-stands keys c.args.i c.requires.key in
     let bytes = c.as_slice.result.now in
     let found : slice_get c.args.looked.now.found c.args.i ≡ Some (Some bytes) = found_bytes _ _ _ _ c.in-Some.ensures c.deref.ensures c.as_slice.ensures in
@@ -27,7 +27,7 @@ returns-in-Some-clause-came g c =
 
 pub returns-clause-came : goal.returns-clause-came
 returns-clause-came g c =
-    let keys = c.args.plan.now.keys in
+    let keys = c.args.part.now.keys in
     let key = key_at keys c.args.i in
     let at = key-stands keys c.args.i c.requires.key in
     let came = c.in_ok-fetched.ensures in

@@ -12,5 +12,5 @@ copy_blocks-requires-clause-found g c =
     same_Some c.requires.step.0 (arc_value c.in-Some.edition.now)
     (sym c.requires.step.1 ∙ sym c.edition.ensures ∙ ap (λ o. option_map (λ e. arc_value e) (option_copied o)) c.in-Some.is) ∙ sym c.deref.ensures in
     let bytes : c.args.loading.now.bytes ≡ c.keep_last.new.self.bytes = sym (ap (λ (l : LoadingValue). l.bytes) c.keep_last.ensures) in
-    subst (λ (e : g.row.E.Denot). AreFound c.keep_last.new.self.bytes c.args.field (g.E.Blocks.stored e) c.args.plan.now.keys c.args.looked.now.found) edition
-    (subst (λ (n : ℕ). AreFound n c.args.field (g.E.Blocks.stored c.requires.step.0) c.args.plan.now.keys c.args.looked.now.found) bytes c.requires.step.2.found)
+    subst (λ (e : g.row.E.Denot). AreFound c.keep_last.new.self.bytes c.args.field (g.E.Blocks.stored e) c.args.part.now.keys c.args.looked.now.found) edition
+    (subst (λ (n : ℕ). AreFound n c.args.field (g.E.Blocks.stored c.requires.step.0) c.args.part.now.keys c.args.looked.now.found) bytes c.requires.step.2.found)

@@ -2,14 +2,14 @@ use Rattle.std.proofs.Common.{◌≡◌, sym, ap, ◌∙◌, subst, Some}
 use Rattle.std.specs.Prelude.{All, slice_get}
 use Rattle.idx_outside.specs.Shape.{Shape}
 use Rattle.idx_hall.specs.Posts.{Post}
-use Rattle.idx_hall.specs.Hall.{HallValue, IsBlockOf, after_fill}
+use Rattle.idx_hall.specs.Hall.{HallValue, IsBlockOf}
 use Rattle.idx_hall.specs.Calls.{pairs_of}
 use Rattle.idx_turn.proofs.BeginsLemmas.{begins_at}
-use Rattle.idx_query.proofs.TakeLemmas.{given-back}
+use Rattle.idx_query.proofs.TakeLemmas.{filled-board, filled-shape, given-back}
 use Rattle.idx_query.proofs.taking.fill_cache.Goals as goal
 
-pub fill-requires : goal.fill-requires
-fill-requires g c =
+pub fill-stale-requires : goal.fill-stale-requires
+fill-stale-requires g c =
     let post : Post = c.requires.blocks.0 in
     subst (λ (h : HallValue). record { blocks : (x : Post) × ((slice_get h.board c.args.post ≡ Some x) × All (IsBlockOf h.shape x) (pairs_of c.args.loaded.items)) }) (sym c.get_mut.ensures.value)
     (record {
@@ -24,6 +24,7 @@ fill-requires g c =
 
 pub give-requires : goal.give-requires
 give-requires g c =
-    given-back _ _ c.take-held.result.shape c.fill.new.self.shape c.take-held.result.board c.fill.new.self.board c.take-held.ensures.given
-    (ap (λ (h : HallValue). h.shape) (c.fill.ensures ∙ ap (after_fill (pairs_of c.args.loaded.items)) c.get_mut.ensures.value))
-    (ap (λ (h : HallValue). h.board) (c.fill.ensures ∙ ap (after_fill (pairs_of c.args.loaded.items)) c.get_mut.ensures.value))
+    let pairs = pairs_of c.args.loaded.items in
+    given-back _ _ c.take-held.result.shape c.fill-stale.new.self.shape c.take-held.result.board c.fill-stale.new.self.board c.take-held.ensures.given
+    (ap (λ (h : HallValue). h.shape) c.fill-stale.ensures.filled ∙ filled-shape c.args.post pairs c.get_mut.result.now ∙ ap (λ (h : HallValue). h.shape) c.get_mut.ensures.value)
+    (ap (λ (h : HallValue). h.board) c.fill-stale.ensures.filled ∙ filled-board c.args.post pairs c.get_mut.result.now ∙ ap (λ (h : HallValue). h.board) c.get_mut.ensures.value)

@@ -1,11 +1,11 @@
 use Rattle.std.proofs.Common.{◌≡◌, List, length, sym, ap, ◌∙◌, subst, Some}
-use Rattle.std.specs.Prelude.{IfSome, Option}
+use Rattle.std.specs.Prelude.{IfSome, Option, slice_get}
 use Rattle.idx_outside.specs.Shape.{Shape}
-use Rattle.idx_hall.specs.Posts.{IsPostOf, Post}
+use Rattle.idx_hall.specs.Posts.{IsNewestOf, Post}
 use Rattle.idx_hall.specs.Hall.{HallValue}
 use Rattle.idx_hall.specs.Looked.{LookedValue}
 use Rattle.idx_hall.specs.Calls.{AreBlocksOf, IsStepOf}
-use Rattle.idx_hall.proofs.HallLemmas.{length-noted}
+use Rattle.idx_hall.proofs.HallLemmas.{length-noted_keys}
 use Rattle.idx_query.specs.Steps.{IsEditionOf}
 use Rattle.idx_query.proofs.TakeLemmas.{edition-of, given-back, holding}
 use Rattle.idx_query.proofs.taking.look_up.Goals as goal
@@ -16,8 +16,17 @@ give-requires g c =
     (c.look-found.ensures.shape ∙ ap (λ (h : HallValue). h.shape) c.get_mut.ensures.value)
     (c.look-found.ensures.board ∙ ap (λ (h : HallValue). h.board) c.get_mut.ensures.value)
 
-pub returns-in-Some-clause-post : goal.returns-in-Some-clause-post
-returns-in-Some-clause-post g c =
+pub returns-in-Some-clause-newest : goal.returns-in-Some-clause-newest
+returns-in-Some-clause-newest g c =
+    let h : HallValue = c.get_mut.result.now in
+    let there = holding _ c.in_ok-post.field-0 c.in-Some.post c.in_ok-post.ensures.post c.in-Some.is in
+    let seen : h.board ≡ g.T.Turn.seen c.give.new.self = sym c.look-found.ensures.board ∙ sym c.give.ensures.seen in (
+      there.0,
+      subst (λ (b : List Post). IsNewestOf b c.args.time c.in-Some.post there.0) seen there.1,
+    )
+
+pub returns-in-Some-clause-looked : goal.returns-in-Some-clause-looked
+returns-in-Some-clause-looked g c =
     let h : HallValue = c.get_mut.result.now in
     let there = holding _ c.in_ok-post.field-0 c.in-Some.post c.in_ok-post.ensures.post c.in-Some.is in
     let noted_is = holding _ c.in_ok-post.field-0 c.in-Some.post c.in_ok-post.ensures.noted c.in-Some.is in
@@ -25,16 +34,14 @@ returns-in-Some-clause-post g c =
     let seen : h.board ≡ g.T.Turn.seen c.give.new.self = sym c.look-found.ensures.board ∙ sym c.give.ensures.seen in
     let shape : h.shape ≡ g.T.Turn.shape c.args.turn.now = ap (λ (x : HallValue). x.shape) c.get_mut.ensures.value ∙ c.take-held.ensures.value_shape in
     let step : IsStepOf g.E.Blocks.time g.E.Blocks.shape g.E.Blocks.has g.E.Blocks.stored h c.in-Some.post noted_is.0 =
-    subst (λ (o : Option g.row.E.Denot). IfSome o (IsStepOf g.E.Blocks.time g.E.Blocks.shape g.E.Blocks.has g.E.Blocks.stored h c.in-Some.post)) edition (holding _ c.in_ok-post.field-0 c.in-Some.post c.in_ok-post.ensures.step c.in-Some.is) in (
-      there.0,
-      subst (λ (b : List Post). IsPostOf b c.args.time c.in-Some.post there.0) seen there.1,
-      subst (λ (s : Shape). AreBlocksOf s there.0 c.args.keys.now c.look-found.new.looked.found) shape there.2,
-      noted_is.0,
-      edition,
-      subst (λ (s : Shape). IsEditionOf g.E.Blocks.time g.E.Blocks.shape g.E.Blocks.has g.E.Blocks.stored s there.0 noted_is.0) shape
-          (edition-of g.E.Blocks.time g.E.Blocks.shape g.E.Blocks.has g.E.Blocks.stored h c.args.time c.in-Some.post there.0 noted_is.0 there.1 step),
-    )
-
-pub returns-in-Some-clause-many : goal.returns-in-Some-clause-many
-returns-in-Some-clause-many g c =
-    ap (λ (l : LookedValue g.row.E.Denot). length l.found) (holding _ c.in_ok-post.field-0 c.in-Some.post c.in_ok-post.ensures.noted c.in-Some.is).1 ∙ length-noted c.args.keys.now c.get_mut.result.now.cache.pairs
+    subst (λ (o : Option g.row.E.Denot). IfSome o (IsStepOf g.E.Blocks.time g.E.Blocks.shape g.E.Blocks.has g.E.Blocks.stored h c.in-Some.post)) edition (holding _ c.in_ok-post.field-0 c.in-Some.post c.in_ok-post.ensures.step c.in-Some.is) in
+    record {
+      post = there.0;
+      at = record { at = subst (λ (b : List Post). slice_get b c.in-Some.post ≡ Some there.0) seen there.1.at; time = there.1.time };
+      blocks = subst (λ (s : Shape). AreBlocksOf s there.0 c.args.keys.now c.look-found.new.looked.found) shape there.2;
+      many = ap (λ (l : LookedValue g.row.E.Denot). length l.found) noted_is.1 ∙ length-noted_keys c.in-Some.post c.args.keys.now h.cache.pairs;
+      edition = noted_is.0;
+      here = edition;
+      is = subst (λ (s : Shape). IsEditionOf g.E.Blocks.time g.E.Blocks.shape g.E.Blocks.has g.E.Blocks.stored s there.0 noted_is.0) shape
+          (edition-of g.E.Blocks.time g.E.Blocks.shape g.E.Blocks.has g.E.Blocks.stored h c.in-Some.post there.0 noted_is.0 there.1.at step);
+    }

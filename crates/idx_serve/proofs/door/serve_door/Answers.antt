@@ -1,9 +1,17 @@
-use Rattle.std.proofs.Common.{◌≡◌, ◌∙◌, ◌||◌, ap, arith}
+use Rattle.std.proofs.Common.{◌≡◌, ◌∙◌, ◌||◌, refl, ap, arith}
 use Rattle.std.proofs.lemmas.Grind.{common_steps}
-use Rattle.idx_serve.specs.Later.{later_on}
+use Rattle.idx_serve.specs.Later.{later_on, later_same}
 use Rattle.idx_serve.specs.Visits.{Visit}
 use Rattle.idx_serve.proofs.DoorLemmas.{at_door_none, at_door_next, visit_of}
 use Rattle.idx_serve.proofs.door.serve_door.Goals as goal
+
+pub loop-links-init : goal.loop-links-init
+loop-links-init g c = record {
+  served = at_door_none _ _ _ _ _;
+  later = later_same _ _ _;
+  given = c.requires.given;
+  quiet = refl;
+}
 
 pub loop-links-preserved : goal.loop-links-preserved
 loop-links-preserved g c =

@@ -1,8 +1,9 @@
 use Rattle.std.proofs.Common.{◌≡◌, sym, subst}
 use Rattle.std.specs.Option.{ForSome}
 use Rattle.idx_outside.specs.Files.{shown}
-use Rattle.idx_layout.specs.Layout.{is_present}
-use Rattle.idx_layout.specs.OfHeader.{layout_of}
+use Rattle.idx_layout.specs.declared.layout.Layout.TheVariants.{Hz}
+use Rattle.idx_layout.specs.Placing.{is_present}
+use Rattle.idx_layout.specs.OfHeader.{placing_of}
 use Rattle.idx_layout.specs.Shape.{shape_of}
 use Rattle.idx_edition.specs.Tables.{AreTablesOf, TablesValue, has_in_tables, shape_in, stored_in}
 use Rattle.idx_edition.specs.Loaded.{HoldsStored, IsWrittenBlock, OfBlocks}
@@ -17,25 +18,25 @@ invariant_of-result g c =
     let written = c.requires.written in
     record {
       fits = subst (λ (t : TablesValue). AreTablesOf t.tables leaves) (sym c.in_ok-tables.ensures.tables)
-          (leaves_fit h c.args.time c.in_ok-tables.ensures.valid written.0 leaves written.1);
+          (leaves_fit Hz h c.args.time c.in_ok-tables.ensures.valid written.0 leaves written.1);
     }
 
 pub returns-clause-has : goal.returns-clause-has
 returns-clause-has g c =
     let h = c.args.header.now in
-    subst (λ (t : TablesValue). OfBlocks (shape_of h) (λ field block. has_in_tables t field block ≡ is_present (layout_of h) block)) (sym c.in_ok-tables.ensures.tables)
-    (leaves_have h c.in_ok-tables.ensures.valid)
+    subst (λ (t : TablesValue). OfBlocks (shape_of h) (λ field block. has_in_tables t field block ≡ is_present (placing_of h) block)) (sym c.in_ok-tables.ensures.tables)
+    (leaves_have Hz h c.in_ok-tables.ensures.valid)
 
 pub returns-clause-stored : goal.returns-clause-stored
 returns-clause-stored g c = λ volume written.
     let h = c.args.header.now in
     let leaves = shown g.L.Leaf.contents c.args.leaves.items in
     subst (λ (t : TablesValue). ForSome (stored_in t leaves) (λ stored. OfBlocks (shape_of h) (λ field block. IsWrittenBlock h volume field block (stored field block)))) (sym c.in_ok-tables.ensures.tables)
-    (leaves_stored h c.args.time c.in_ok-tables.ensures.valid volume leaves written)
+    (leaves_stored Hz h c.args.time c.in_ok-tables.ensures.valid volume leaves written)
 
 pub returns-clause-holds : goal.returns-clause-holds
 returns-clause-holds g c = λ volume files fills has same.
     let h = c.args.header.now in
     let leaves = shown g.L.Leaf.contents c.args.leaves.items in
     subst (λ (t : TablesValue). HoldsStored h c.args.time files (shape_in t) (has_in_tables t) (stored_in t leaves) leaves) (sym c.in_ok-tables.ensures.tables)
-    (written_held h c.args.time volume files leaves c.in_ok-tables.ensures.valid fills has same)
+    (written_held Hz h c.args.time volume files leaves c.in_ok-tables.ensures.valid fills has same)

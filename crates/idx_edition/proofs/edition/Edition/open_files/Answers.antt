@@ -5,10 +5,12 @@ use Rattle.std.proofs.lemmas.List.{map-append}
 use Rattle.idx_outside.specs.Files.{entry_shown, shown}
 use Rattle.idx_table.specs.declared.row.Row.{Row}
 use Rattle.idx_table.specs.Table.{table_bytes}
+use Rattle.idx_header.specs.Header.{HeaderValue, IsHeader}
 use Rattle.idx_layout.specs.Files.{row_count}
-use Rattle.idx_layout.specs.OfHeader.{layout_of}
+use Rattle.idx_layout.specs.OfHeader.{placing_of}
+use Rattle.idx_layout.specs.Shape.{block_lengths}
 use Rattle.idx_edition.specs.Asked.{AskedAtMost}
-use Rattle.idx_edition.specs.Tables.{AreTablesOf, EndWithin, IsTable, RiseFrom, TablesValue, has_in_tables, shape_in, stored_in}
+use Rattle.idx_edition.specs.Tables.{AreTablesOf, EndWithin, IsTable, RiseFrom, TablesValue, has_in_tables, shape_in, stored_in, tables_of}
 use Rattle.idx_edition.specs.Loaded.{HoldsStored}
 use Rattle.idx_edition.specs.Reads.{ReadsFiles, ReadsOne, count_there, most_reads}
 use Rattle.idx_edition.proofs.AskedLemmas.{asked_more, asked_none}
@@ -23,7 +25,7 @@ loop-file-init g c =
     let contents = g.L.Leaf.contents in
     let all = c.into_iter-file-iterator.ensures.into_iter_gives ∙ c.files-file-items.ensures.value in
     record {
-      rising = subst (RiseFrom 0) (sym (ap (λ xs. xs ++ c.into_iter-file-iterator.result) c.new-numbers.ensures.items ∙ all)) (files_rise (layout_of h));
+      rising = subst (RiseFrom 0) (sym (ap (λ xs. xs ++ c.into_iter-file-iterator.result) c.new-numbers.ensures.items ∙ all)) (files_rise (placing_of h));
       same = ap length c.new-tables.ensures.items ∙ sym (ap length c.new-numbers.ensures.items);
       each = no_tables c.new-tables.result.items c.in_ok-lengths.lengths.items h.blocks_per_file c.new-tables.ensures.items;
       fits = no_leaves contents c.new-tables.result.items c.new-leaves.result.items c.new-tables.ensures.items c.new-leaves.ensures.items;
@@ -39,7 +41,7 @@ loop-file-init g c =
       reader_quiet = refl;
       few = few_none h c.args.time (g.B.Bay.files c.args.bay.now) c.into_iter-file-iterator.result (length c.new-leaves.result.items) all (ap length c.new-leaves.ensures.items);
       reads = omega (arith, ap length c.new-leaves.ensures.items);
-      asked = subst (λ (n : ℕ). AskedAtMost (g.R.Reader.asked c.args.reader.now) (g.R.Reader.asked c.args.reader.now) (n * table_bytes (row_count (layout_of h)))) (sym (ap length c.new-leaves.ensures.items)) (asked_none (g.R.Reader.asked c.args.reader.now) (table_bytes (row_count (layout_of h))));
+      asked = subst (λ (n : ℕ). AskedAtMost (g.R.Reader.asked c.args.reader.now) (g.R.Reader.asked c.args.reader.now) (n * table_bytes (row_count (placing_of h)))) (sym (ap length c.new-leaves.ensures.items)) (asked_none (g.R.Reader.asked c.args.reader.now) (table_bytes (row_count (placing_of h))));
     }
 
 pub loop-file-preserved-in_default : goal.loop-file-preserved-in_default
@@ -71,7 +73,7 @@ loop-file-preserved-in_default g c =
       reader_quiet = opened.reader_quiet ∙ before.reader_quiet;
       few = few_skip h c.args.time since c.loop-file.file-iterator c.next.new.self file (length c.loop-file.leaves.items) first before.few;
       reads = ap (λ r. g.R.Reader.reads r % 2 ^ 64) read ∙ before.reads;
-      asked = subst (λ r. AskedAtMost (g.R.Reader.asked c.args.reader.now) (g.R.Reader.asked r) (length c.loop-file.leaves.items * table_bytes (row_count (layout_of h)))) (sym read) before.asked;
+      asked = subst (λ r. AskedAtMost (g.R.Reader.asked c.args.reader.now) (g.R.Reader.asked r) (length c.loop-file.leaves.items * table_bytes (row_count (placing_of h)))) (sym read) before.asked;
     }
 
 pub loop-file-preserved : goal.loop-file-preserved
@@ -124,17 +126,22 @@ loop-file-preserved g c =
       reads = reads_more (g.R.Reader.reads c.args.reader.now) (g.R.Reader.reads c.loop-file.reader) (g.R.Reader.reads c.open_file.new.reader) (length c.loop-file.leaves.items) before.reads
           (found (λ _. g.R.Reader.reads c.open_file.new.reader ≡ (g.R.Reader.reads c.loop-file.reader + 1) % 2 ^ 64) opened.one_read)
           ∙ ap (λ n. (g.R.Reader.reads c.args.reader.now + n) % 2 ^ 64) (sym (ap length leaves ∙ length-append c.loop-file.leaves.items (leaf ∷ [])));
-      asked = subst (λ (n : ℕ). AskedAtMost (g.R.Reader.asked c.args.reader.now) (g.R.Reader.asked c.open_file.new.reader) (n * table_bytes (row_count (layout_of h)))) (sym (ap length leaves ∙ length-append c.loop-file.leaves.items (leaf ∷ [])))
-          (asked_more (g.R.Reader.asked c.args.reader.now) (g.R.Reader.asked c.loop-file.reader) (g.R.Reader.asked c.open_file.new.reader) (length c.loop-file.leaves.items) (table_bytes (row_count (layout_of h))) before.asked
-          (found (λ _. AskedAtMost (g.R.Reader.asked c.loop-file.reader) (g.R.Reader.asked c.open_file.new.reader) (table_bytes (row_count (layout_of h)))) opened.asked));
+      asked = subst (λ (n : ℕ). AskedAtMost (g.R.Reader.asked c.args.reader.now) (g.R.Reader.asked c.open_file.new.reader) (n * table_bytes (row_count (placing_of h)))) (sym (ap length leaves ∙ length-append c.loop-file.leaves.items (leaf ∷ [])))
+          (asked_more (g.R.Reader.asked c.args.reader.now) (g.R.Reader.asked c.loop-file.reader) (g.R.Reader.asked c.open_file.new.reader) (length c.loop-file.leaves.items) (table_bytes (row_count (placing_of h))) before.asked
+          (found (λ _. AskedAtMost (g.R.Reader.asked c.loop-file.reader) (g.R.Reader.asked c.open_file.new.reader) (table_bytes (row_count (placing_of h)))) opened.asked));
     }
+
+pub of_files-requires-clause-each : goal.of_files-requires-clause-each
+of_files-requires-clause-each g c = λ i rows at.
+    subst (λ (k : HeaderValue). IsTable (block_lengths (placing_of k)) k.blocks_per_file rows) (sym c.in_ok-copy.ensures)
+    (subst (λ (ns : List ℕ). IsTable ns c.args.header.now.blocks_per_file rows) c.in_ok-lengths.ensures (c.loop-file.invariant.each i rows at))
 
 pub returns-clause-holds : goal.returns-clause-holds
 returns-clause-holds g c =
     let h = c.args.header.now in
     let contents = g.L.Leaf.contents in
-    subst (λ (t : TablesValue). IfSome (g.B.Bay.files c.args.bay.now) (λ files. HoldsStored h c.args.time files (shape_in t) (has_in_tables t) (stored_in t (shown contents c.loop-file.leaves.items)) (shown contents c.loop-file.leaves.items))) (sym c.of_files.ensures.tables)
-    (holds_stored h c.args.time c.of_files.ensures.valid (g.B.Bay.files c.args.bay.now) c.loop-file.file-iterator c.loop-file.numbers.items c.loop-file.tables.items (shown contents c.loop-file.leaves.items)
+    subst (λ (t : TablesValue). IfSome (g.B.Bay.files c.args.bay.now) (λ files. HoldsStored h c.args.time files (shape_in t) (has_in_tables t) (stored_in t (shown contents c.loop-file.leaves.items)) (shown contents c.loop-file.leaves.items))) (sym (c.of_files.ensures.tables ∙ ap (λ (k : HeaderValue). tables_of k c.loop-file.numbers.items c.loop-file.tables.items) c.in_ok-copy.ensures))
+    (holds_stored h c.args.time (subst IsHeader c.in_ok-copy.ensures c.of_files.ensures.valid) (g.B.Bay.files c.args.bay.now) c.loop-file.file-iterator c.loop-file.numbers.items c.loop-file.tables.items (shown contents c.loop-file.leaves.items)
     c.in-None.ensures.steps.0 c.loop-file.invariant.holds)
 
 pub returns-in_err-push-3-clause-admits : goal.returns-in_err-push-3-clause-admits
@@ -216,3 +223,15 @@ returns-in_err-push-3-clause-few_reads g c =
     (is_there h c.args.time since file (rows, entry_shown contents leaf)
     (found_some h c.args.time file shows c.in_ok-found.found (rows, leaf) (g.B.Bay.files c.loop-file.bay) since is before.files opened.found))
     (subst (λ o. IfSome o (λ _. after ≡ (now + 1) % 2 ^ 64)) is opened.one_read))
+
+pub returns-in_err-copy-clause-few_reads : goal.returns-in_err-copy-clause-few_reads
+returns-in_err-copy-clause-few_reads g c =
+    let before = c.loop-file.invariant in
+    on_err c.from_residual-in_err-copy.result (ReadsFiles c.args.header.now c.args.time (g.B.Bay.files c.args.bay.now) (g.R.Reader.reads c.args.reader.now) (g.R.Reader.reads c.loop-file.reader)) (record {
+      reads = length c.loop-file.leaves.items;
+      few = omega (arith, before.few);
+      made = before.reads;
+    })
+
+pub returns-in_err-copy-clause-admits : goal.returns-in_err-copy-clause-admits
+returns-in_err-copy-clause-admits g c = c.loop-file.invariant.admits

@@ -5,7 +5,7 @@ use Rattle.idx_table.specs.declared.row.Row.{Row}
 use Rattle.idx_outside.specs.Cause.{MadeReads}
 use Rattle.idx_table.specs.Table.{table_bytes}
 use Rattle.idx_layout.specs.Files.{row_count}
-use Rattle.idx_layout.specs.OfHeader.{layout_of}
+use Rattle.idx_layout.specs.OfHeader.{placing_of}
 use Rattle.idx_edition.specs.Asked.{AskedAtMost}
 use Rattle.idx_edition.specs.Tables.{AreTablesOf, IsTable, RiseFrom}
 use Rattle.idx_edition.proofs.SoFarLemmas.{HoldSoFar}
@@ -33,5 +33,5 @@ invariant-loop-file g l =
       reader_quiet : g.R.Reader.faults l.reader ≡ g.R.Reader.faults l.fn.reader;
       few : length l.leaves.items + count_there l.header l.time (bay.files l.fn.bay) l.file-iterator ≤ most_reads l.header l.time (bay.files l.fn.bay);
       reads : MadeReads (g.R.Reader.reads l.fn.reader) (g.R.Reader.reads l.reader) (length l.leaves.items);
-      asked : AskedAtMost (g.R.Reader.asked l.fn.reader) (g.R.Reader.asked l.reader) (length l.leaves.items * table_bytes (row_count (layout_of l.header)));
+      asked : AskedAtMost (g.R.Reader.asked l.fn.reader) (g.R.Reader.asked l.reader) (length l.leaves.items * table_bytes (row_count (placing_of l.header)));
     }

@@ -1,50 +1,28 @@
-use Rattle.std.proofs.Common.{◌≡◌, ℕ, List, map, sym, ap, ◌∙◌, subst, Some}
-use Rattle.std.specs.Prelude.{IfSome, Option, slice_get}
-use Rattle.idx_cache.specs.Cached.{found}
-use Rattle.std.proofs.lemmas.Option.{get_or_from_slice_get}
-use Rattle.idx_outside.specs.Shape.{Shape}
-use Rattle.idx_hall.specs.Posts.{Post, IsPostOf, post_of}
-use Rattle.idx_hall.specs.Hall.{HallOk, HallValue, key_eq, noted}
-use Rattle.idx_hall.specs.Looked.{LookedValue, looked_up}
-use Rattle.idx_hall.specs.Calls.{AreBlocksOf, IsStepOf}
-use Rattle.idx_hall.proofs.HallLemmas.{found-blocks, lacks-not, look-holds, noted-map, step-holds, step_at}
+use Rattle.std.proofs.Common.{◌≡◌, ℕ, sym, subst}
+use Rattle.std.specs.Prelude.{All}
+use Rattle.idx_hall.specs.Posts.{Post, IsNewestOf}
+use Rattle.idx_hall.proofs.NewestLemmas.{lacks-not, newest-lacks, newest-post}
 use Rattle.idx_hall.proofs.hall.Hall.look.Goals as goal
 
-pub invariant_of-self : goal.invariant_of-self
-invariant_of-self g c = (look-holds _ _ _ _ c.self.invariant.0 c.args.keys.now c.touch_all.ensures, c.self.invariant.1)
+pub returns-in_default-clause-lacks : goal.returns-in_default-clause-lacks
+returns-in_default-clause-lacks g c = newest-lacks c.args.self.now.board c.args.time (sym c.in_default.ensures)
+
+pub look_at-requires-clause-post : goal.look_at-requires-clause-post
+look_at-requires-clause-post g c =
+    let there : (post : Post) × IsNewestOf c.args.self.now.board c.args.time c.in-Some.number post = newest-post c.args.self.now.board c.args.time c.in-Some.number (sym c.in-Some.ensures) in
+    (there.0, there.1.at, subst (λ (t : ℕ). All (λ key. key.time ≡ t) c.args.keys.now) (sym there.1.time) c.requires.keys)
+
+pub returns-in_err-look_at-clause-none : goal.returns-in_err-look_at-clause-none
+returns-in_err-look_at-clause-none g c = λ lacks.
+    let there : (post : Post) × IsNewestOf c.args.self.now.board c.args.time c.in-Some.number post = newest-post c.args.self.now.board c.args.time c.in-Some.number (sym c.in-Some.ensures) in
+    absurd (lacks-not c.args.self.now.board c.args.time c.in-Some.number (there.0, record { at = there.1.at; time = there.1.time }) lacks)
 
 pub returns-clause-post : goal.returns-clause-post
 returns-clause-post g c =
-    let post : Post = c.in-Some.ensures.some.0 in
-    let is : IsPostOf c.args.self.now.board c.args.time c.in-Some.number post = c.in-Some.ensures.some.1 in
-    let ok : HallOk c.args.self.now = subst HallOk c.self.view_is c.self.invariant.0 in (
-      post,
-      is,
-      subst (λ (f : List (Option (List ℕ))). AreBlocksOf c.args.self.now.shape post c.args.keys.now f)
-          (sym (ap (λ (l : LookedValue g.row.E.Denot). l.found) c.in_ok-note.ensures.found
-          ∙ ap (λ (h : HallValue). map (λ key. found key_eq key h.cache.pairs) c.args.keys.now) c.self.view_is))
-          (found-blocks c.args.self.now ok c.args.time c.in-Some.number post is c.args.keys.now c.requires.keys),
-    )
-
-pub returns-clause-step : goal.returns-clause-step
-returns-clause-step g c =
-    let shape : Shape = record { blocks = c.self.inside.blocks; lengths = c.self.inside.lengths.items } in
-    let n : ℕ = c.in-Some.number in
-    let now : g.row.E.Denot = c.index.result.now in
-    let step = step_at (λ e. post_of shape (g.E.Blocks.time e) (g.E.Blocks.has e) (g.E.Blocks.stored e)) c.self.inside.board.items n c.in-Some.ensures.some.0
-    (subst (λ (h : HallValue). slice_get h.board n ≡ Some c.in-Some.ensures.some.0) (sym c.self.view_is) c.in-Some.ensures.some.1.at) in
-    let at : slice_get c.self.inside.board.items n ≡ Some now =
-    step.1.0 ∙ ap Some (sym (c.index.ensures ∙ get_or_from_slice_get c.self.inside.board.items n step.0 now step.1.0)) in
-    subst (λ (l : LookedValue g.row.E.Denot). IfSome l.edition (IsStepOf g.E.Blocks.time g.E.Blocks.shape g.E.Blocks.has g.E.Blocks.stored c.args.self.now n)) (sym c.in_ok-note.ensures.found)
-    (step-holds g.E.Blocks.time g.E.Blocks.shape g.E.Blocks.has g.E.Blocks.stored shape c.self.inside.board.items c.self.inside.cache c.args.self.now c.self.view_is c.self.invariant.1 n now at)
-
-pub returns-clause-noted : goal.returns-clause-noted
-returns-clause-noted g c = (
-  c.index.result.now,
-  c.in_ok-note.ensures.found
-      ∙ ap (λ (f : List (Option (List ℕ))). looked_up c.index.result.now f c.args.looked.now.room)
-      (sym (noted-map c.args.keys.now c.self.inside.cache.pairs) ∙ ap (λ (h : HallValue). noted c.args.keys.now h.cache.pairs) c.self.view_is),
-)
+    let there : (post : Post) × IsNewestOf c.args.self.now.board c.args.time c.in-Some.number post = newest-post c.args.self.now.board c.args.time c.in-Some.number (sym c.in-Some.ensures) in
+    (there.0, there.1, c.in_ok-look_at.ensures.blocks there.0 there.1.at)
 
 pub returns-clause-none : goal.returns-clause-none
-returns-clause-none g c = λ lacks. absurd (lacks-not c.args.self.now.board c.args.time c.in-Some.number c.in-Some.ensures.some lacks)
+returns-clause-none g c = λ lacks.
+    let there : (post : Post) × IsNewestOf c.args.self.now.board c.args.time c.in-Some.number post = newest-post c.args.self.now.board c.args.time c.in-Some.number (sym c.in-Some.ensures) in
+    absurd (lacks-not c.args.self.now.board c.args.time c.in-Some.number (there.0, record { at = there.1.at; time = there.1.time }) lacks)

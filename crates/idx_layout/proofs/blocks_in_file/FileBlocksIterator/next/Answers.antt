@@ -1,7 +1,7 @@
 use Rattle.std.proofs.Common.{◌≡◌, ◌+◌, ◌-◌, ◌∷◌, length, sym, ap, ◌∙◌, arith, rules}
 use Rattle.std.specs.Prelude.{filter}
 use Rattle.std.specs.List.{range_with_len}
-use Rattle.idx_layout.specs.Layout.{has_point_in}
+use Rattle.idx_layout.specs.Placing.{has_point_in}
 use Rattle.idx_layout.proofs.FilesLemmas.{blocks_end, blocks_past, blocks_step}
 use Rattle.idx_layout.proofs.blocks_in_file.FileBlocksIterator.next.Goals as goal
 

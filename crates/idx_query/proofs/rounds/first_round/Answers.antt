@@ -1,0 +1,76 @@
+use Rattle.std.proofs.Common.{◌≡◌, List, take, refl, sym, ap, ◌∙◌, subst, Some}
+use Rattle.std.specs.Prelude.{All, IfSome}
+use Rattle.idx_hall.specs.declared.key.Key.{Key}
+use Rattle.idx_hall.specs.Posts.{IsNewestOf, IsPostOf, Post}
+use Rattle.idx_hall.specs.Hall.{HallValue}
+use Rattle.idx_plan.specs.Plan.{PlanValue}
+use Rattle.idx_query.specs.Fault.{IsCaused}
+use Rattle.idx_query.specs.Steps.{DidRound, IsPartOf, IsSeen, MadeRound}
+use Rattle.idx_query.proofs.ReadsLemmas.{err_is}
+use Rattle.idx_query.proofs.RoundLemmas.{first-refused, following, look-caused, look-left, part-apart, part-times, store-caused}
+use Rattle.idx_query.proofs.RoundsLemmas.{did-round}
+use Rattle.idx_query.proofs.rounds.first_round.Goals as goal
+
+pub look_up-requires-clause-keys : goal.look_up-requires-clause-keys
+look_up-requires-clause-keys g c =
+    subst (λ (ks : List Key). All (λ (key : Key). key.time ≡ c.args.ask.now.time) ks) (sym c.keys.ensures)
+    (part-times c.args.header.now c.args.ask.now c.args.plan.now c.new-part.result c.requires.plan (record { first = 0; many = c.args.many; is = c.new-part.ensures }))
+
+pub returns-in-Ok-clause-did : goal.returns-in-Ok-clause-did
+returns-in-Ok-clause-did g c =
+    let keys : List Key = take c.args.many c.args.plan.now.keys in
+    let part_is : c.new-part.result.keys ≡ keys = ap (λ (p : PlanValue). p.keys) c.new-part.ensures in
+    let keys_is : c.keys.result.now ≡ keys = c.keys.ensures ∙ part_is in
+    let posts = g.T.Turn.seen c.look_up.new.turn in
+    let post : Post = c.in_ok-seen.ensures.newest.0 in
+    let newest : IsNewestOf posts c.args.ask.now.time c.in_ok-seen.seen.post post = c.in_ok-seen.ensures.newest.1 in (
+      posts,
+      c.in_ok-seen.ensures.begins,
+      c.in-Ok.ensures.begins,
+      (λ yes. following (λ (hall : HallValue). IsSeen hall c.in_ok-seen.seen.post (g.T.Turn.shape c.args.turn.now) c.keys.result.now (g.T.Turn.kept c.look_up.new.turn) posts c.look_up.new.looked.found c.in_ok-seen.seen.room) (λ hall. hall.board ≡ posts)
+          (g.T.Turn.kept c.args.turn.now) (c.in_ok-seen.ensures.told yes) (λ hall seen. seen.board)),
+      post,
+      subst (λ n. IsNewestOf posts c.args.ask.now.time n post) (sym c.in-Ok.ensures.post) newest,
+      subst (λ n. DidRound c.args.ask.now c.args.plan.now keys post n g.T.Turn.tells (g.T.Turn.kept c.args.turn.now) (g.T.Turn.kept c.make_round.new.turn) (g.T.Turn.holds c.args.turn.now) (g.T.Turn.holds c.make_round.new.turn)
+          (g.R.Reader.reads c.args.reader.now) (g.R.Reader.reads c.make_round.new.reader) c.in-Ok.report c.args.out.now c.make_round.new.out) (sym c.in-Ok.ensures.post)
+          (did-round c.args.ask.now c.args.plan.now keys c.look_up.new.looked.found (g.T.Turn.shape c.args.turn.now) post c.in_ok-seen.seen.post c.in_ok-seen.seen.room g.T.Turn.tells
+          (g.T.Turn.kept c.args.turn.now) (g.T.Turn.kept c.look_up.new.turn) (g.T.Turn.kept c.make_round.new.turn) (g.T.Turn.holds c.args.turn.now) (g.T.Turn.holds c.look_up.new.turn) (g.T.Turn.holds c.make_round.new.turn)
+          (g.R.Reader.reads c.args.reader.now) (g.R.Reader.reads c.make_round.new.reader) c.in-Ok.report c.args.out.now c.make_round.new.out posts
+          (part-apart c.args.header.now c.args.ask.now c.args.plan.now 0 c.args.many c.requires.plan) c.in_ok-seen.ensures.room c.in_ok-seen.ensures.held
+          (λ yes. subst (λ (ks : List Key). IfSome (g.T.Turn.kept c.args.turn.now) (λ hall. IsSeen hall c.in_ok-seen.seen.post (g.T.Turn.shape c.args.turn.now) ks (g.T.Turn.kept c.look_up.new.turn) posts c.look_up.new.looked.found c.in_ok-seen.seen.room)) keys_is (c.in_ok-seen.ensures.told yes))
+          (subst (λ s. MadeRound c.args.ask.now c.args.plan.now keys c.look_up.new.looked.found s post c.in_ok-seen.seen.post c.in_ok-seen.seen.room g.T.Turn.tells (g.T.Turn.kept c.look_up.new.turn) (g.T.Turn.kept c.make_round.new.turn)
+          (g.T.Turn.holds c.look_up.new.turn) (g.T.Turn.holds c.make_round.new.turn) (g.R.Reader.reads c.args.reader.now) (g.R.Reader.reads c.make_round.new.reader) c.in-Ok.report c.args.out.now c.make_round.new.out) c.in_ok-seen.ensures.shape
+          (subst (λ (ks : List Key). MadeRound c.args.ask.now c.args.plan.now ks c.look_up.new.looked.found (g.T.Turn.shape c.look_up.new.turn) post c.in_ok-seen.seen.post c.in_ok-seen.seen.room g.T.Turn.tells (g.T.Turn.kept c.look_up.new.turn) (g.T.Turn.kept c.make_round.new.turn)
+          (g.T.Turn.holds c.look_up.new.turn) (g.T.Turn.holds c.make_round.new.turn) (g.R.Reader.reads c.args.reader.now) (g.R.Reader.reads c.make_round.new.reader) c.in-Ok.report c.args.out.now c.make_round.new.out) part_is
+          (c.in-Ok.ensures.made post newest.at)))),
+    )
+
+pub returns-clause-left : goal.returns-clause-left
+returns-clause-left g c =
+    let keys : List Key = take c.args.many c.args.plan.now.keys in
+    let keys_is : c.keys.result.now ≡ keys = c.keys.ensures ∙ ap (λ (p : PlanValue). p.keys) c.new-part.ensures in
+    let posts = g.T.Turn.seen c.look_up.new.turn in
+    let post : Post = c.in_ok-seen.ensures.newest.0 in
+    let same = c.in-Err.ensures.kept in
+    first-refused c.args.ask.now.time keys (g.T.Turn.seen c.make_round.new.turn) g.T.Turn.tells (g.T.Turn.kept c.args.turn.now) (g.T.Turn.kept c.make_round.new.turn) (g.T.Turn.holds c.args.turn.now) (g.T.Turn.holds c.make_round.new.turn)
+    (g.R.Reader.faults c.args.reader.now) (g.R.Reader.faults c.make_round.new.reader) (
+      c.in_ok-seen.seen.post,
+      post,
+      subst (λ t. IsNewestOf (g.T.Turn.seen t) c.args.ask.now.time c.in_ok-seen.seen.post post) (sym same) c.in_ok-seen.ensures.newest.1,
+      look-left c.in_ok-seen.seen.post (g.T.Turn.shape c.args.turn.now) keys posts (g.T.Turn.seen c.make_round.new.turn) c.look_up.new.looked.found c.in_ok-seen.seen.room g.T.Turn.tells
+          (g.T.Turn.kept c.args.turn.now) (g.T.Turn.kept c.look_up.new.turn) (g.T.Turn.kept c.make_round.new.turn) (g.T.Turn.holds c.args.turn.now) (g.T.Turn.holds c.look_up.new.turn) (g.T.Turn.holds c.make_round.new.turn)
+          (λ yes. subst (λ (ks : List Key). IfSome (g.T.Turn.kept c.args.turn.now) (λ hall. IsSeen hall c.in_ok-seen.seen.post (g.T.Turn.shape c.args.turn.now) ks (g.T.Turn.kept c.look_up.new.turn) posts c.look_up.new.looked.found c.in_ok-seen.seen.room)) keys_is (c.in_ok-seen.ensures.told yes))
+          c.in_ok-seen.ensures.held (ap g.T.Turn.kept same) (ap g.T.Turn.holds same) (ap g.T.Turn.seen same),
+    ) c.in-Err.fault c.in-Err.ensures.cause
+
+pub returns-clause-cause : goal.returns-clause-cause
+returns-clause-cause g c =
+    let post : Post = c.in_ok-seen.ensures.newest.0 in
+    let newest = c.in_ok-seen.ensures.newest.1 in
+    store-caused c.args.header.now c.args.ask.now (g.T.Turn.seen c.make_round.new.turn) (g.R.Reader.faults c.args.reader.now) (g.R.Reader.faults c.make_round.new.reader) c.requires.sound
+    (c.in_ok-seen.seen.post, post, subst (λ t. IsPostOf (g.T.Turn.seen t) c.args.ask.now.time c.in_ok-seen.seen.post post) (sym c.in-Err.ensures.kept) (record { at = newest.at; time = newest.time })) c.in-Err.fault c.in-Err.ensures.cause
+
+pub returns-in_err-seen-clause-cause : goal.returns-in_err-seen-clause-cause
+returns-in_err-seen-clause-cause g c =
+    err_is c.from_residual-in_err-seen.result c.in_err-seen.field-0.0 (IsCaused c.args.header.now c.args.ask.now (g.T.Turn.seen c.look_up.new.turn) (g.R.Reader.faults c.args.reader.now) (g.R.Reader.faults c.args.reader.now)) c.from_residual-in_err-seen.ensures.1
+    (look-caused c.args.header.now c.args.ask.now (g.T.Turn.seen c.look_up.new.turn) (g.R.Reader.faults c.args.reader.now) c.requires.sound c.in_err-seen.field-0.0 c.in_err-seen.ensures.refused)

@@ -1,0 +1,51 @@
+use Rattle.std.proofs.Common.{◌≡◌, List, take, drop, sym, ap, ◌∙◌, subst, Some}
+use Rattle.std.specs.Prelude.{All, IfSome, slice_get}
+use Rattle.std.proofs.lemmas.Option.{same_Some}
+use Rattle.idx_hall.specs.declared.key.Key.{Key}
+use Rattle.idx_hall.specs.Posts.{Post}
+use Rattle.idx_hall.specs.Hall.{HallValue}
+use Rattle.idx_turn.proofs.BeginsLemmas.{begins_at}
+use Rattle.idx_plan.specs.Plan.{PlanValue}
+use Rattle.idx_query.specs.Steps.{HasLooked, IsPartOf, IsSeen, MadeRound}
+use Rattle.idx_query.proofs.RoundLemmas.{later-refused, look-left, part-apart, part-times}
+use Rattle.idx_query.proofs.RoundsLemmas.{did-round}
+use Rattle.idx_query.proofs.rounds.next_round.Goals as goal
+
+pub look_again-requires-clause-keys : goal.look_again-requires-clause-keys
+look_again-requires-clause-keys g c =
+    subst (λ (ks : List Key). All (λ (key : Key). key.time ≡ c.args.ask.now.time) ks) (sym c.keys.ensures)
+    (part-times c.args.header.now c.args.ask.now c.args.plan.now c.new-part.result c.requires.plan (record { first = c.args.first; many = c.args.many; is = c.new-part.ensures }))
+
+pub returns-in-Ok-clause-did : goal.returns-in-Ok-clause-did
+returns-in-Ok-clause-did g c = λ post at.
+    let keys : List Key = take c.args.many (drop c.args.first c.args.plan.now.keys) in
+    let part_is : c.new-part.result.keys ≡ keys = ap (λ (p : PlanValue). p.keys) c.new-part.ensures in
+    let keys_is : c.keys.result.now ≡ keys = c.keys.ensures ∙ part_is in
+    let posts = g.T.Turn.seen c.look_again.new.turn in
+    let on : slice_get posts c.args.post ≡ Some post = begins_at c.args.post post at c.in_ok-seen.ensures.begins in
+    did-round c.args.ask.now c.args.plan.now keys c.look_again.new.looked.found (g.T.Turn.shape c.args.turn.now) post c.args.post c.in_ok-seen.seen.room g.T.Turn.tells
+    (g.T.Turn.kept c.args.turn.now) (g.T.Turn.kept c.look_again.new.turn) (g.T.Turn.kept c.make_round.new.turn) (g.T.Turn.holds c.args.turn.now) (g.T.Turn.holds c.look_again.new.turn) (g.T.Turn.holds c.make_round.new.turn)
+    (g.R.Reader.reads c.args.reader.now) (g.R.Reader.reads c.make_round.new.reader) c.in-Ok.report c.args.out.now c.make_round.new.out posts
+    (part-apart c.args.header.now c.args.ask.now c.args.plan.now c.args.first c.args.many c.requires.plan) c.in_ok-seen.ensures.room c.in_ok-seen.ensures.held
+    (λ said. subst (λ (ks : List Key). IfSome (g.T.Turn.kept c.args.turn.now) (λ hall. IsSeen hall c.args.post (g.T.Turn.shape c.args.turn.now) ks (g.T.Turn.kept c.look_again.new.turn) posts c.look_again.new.looked.found c.in_ok-seen.seen.room)) keys_is (c.in_ok-seen.ensures.told said))
+    (subst (λ s. MadeRound c.args.ask.now c.args.plan.now keys c.look_again.new.looked.found s post c.args.post c.in_ok-seen.seen.room g.T.Turn.tells (g.T.Turn.kept c.look_again.new.turn) (g.T.Turn.kept c.make_round.new.turn)
+    (g.T.Turn.holds c.look_again.new.turn) (g.T.Turn.holds c.make_round.new.turn) (g.R.Reader.reads c.args.reader.now) (g.R.Reader.reads c.make_round.new.reader) c.in-Ok.report c.args.out.now c.make_round.new.out) c.in_ok-seen.ensures.shape
+    (subst (λ (ks : List Key). MadeRound c.args.ask.now c.args.plan.now ks c.look_again.new.looked.found (g.T.Turn.shape c.look_again.new.turn) post c.args.post c.in_ok-seen.seen.room g.T.Turn.tells (g.T.Turn.kept c.look_again.new.turn) (g.T.Turn.kept c.make_round.new.turn)
+    (g.T.Turn.holds c.look_again.new.turn) (g.T.Turn.holds c.make_round.new.turn) (g.R.Reader.reads c.args.reader.now) (g.R.Reader.reads c.make_round.new.reader) c.in-Ok.report c.args.out.now c.make_round.new.out) part_is
+    (subst (λ n. MadeRound c.args.ask.now c.args.plan.now c.new-part.result.keys c.look_again.new.looked.found (g.T.Turn.shape c.look_again.new.turn) post n c.in_ok-seen.seen.room g.T.Turn.tells (g.T.Turn.kept c.look_again.new.turn) (g.T.Turn.kept c.make_round.new.turn)
+    (g.T.Turn.holds c.look_again.new.turn) (g.T.Turn.holds c.make_round.new.turn) (g.R.Reader.reads c.args.reader.now) (g.R.Reader.reads c.make_round.new.reader) c.in-Ok.report c.args.out.now c.make_round.new.out) c.in_ok-seen.ensures.post
+    (c.in-Ok.ensures.made post (subst (λ n. slice_get posts n ≡ Some post) (sym c.in_ok-seen.ensures.post) on)))))
+
+pub returns-clause-left : goal.returns-clause-left
+returns-clause-left g c =
+    let keys : List Key = take c.args.many (drop c.args.first c.args.plan.now.keys) in
+    let keys_is : c.keys.result.now ≡ keys = c.keys.ensures ∙ ap (λ (p : PlanValue). p.keys) c.new-part.ensures in
+    let posts = g.T.Turn.seen c.look_again.new.turn in
+    let same = c.in-Err.ensures.kept in
+    later-refused c.args.post keys (g.T.Turn.seen c.make_round.new.turn) g.T.Turn.tells (g.T.Turn.kept c.args.turn.now) (g.T.Turn.kept c.make_round.new.turn) (g.T.Turn.holds c.args.turn.now) (g.T.Turn.holds c.make_round.new.turn)
+    (g.R.Reader.faults c.args.reader.now) (g.R.Reader.faults c.make_round.new.reader)
+    (look-left c.args.post (g.T.Turn.shape c.args.turn.now) keys posts (g.T.Turn.seen c.make_round.new.turn) c.look_again.new.looked.found c.in_ok-seen.seen.room g.T.Turn.tells
+    (g.T.Turn.kept c.args.turn.now) (g.T.Turn.kept c.look_again.new.turn) (g.T.Turn.kept c.make_round.new.turn) (g.T.Turn.holds c.args.turn.now) (g.T.Turn.holds c.look_again.new.turn) (g.T.Turn.holds c.make_round.new.turn)
+    (λ said. subst (λ (ks : List Key). IfSome (g.T.Turn.kept c.args.turn.now) (λ hall. IsSeen hall c.args.post (g.T.Turn.shape c.args.turn.now) ks (g.T.Turn.kept c.look_again.new.turn) posts c.look_again.new.looked.found c.in_ok-seen.seen.room)) keys_is (c.in_ok-seen.ensures.told said))
+    c.in_ok-seen.ensures.held (ap g.T.Turn.kept same) (ap g.T.Turn.holds same) (ap g.T.Turn.seen same))
+    c.in-Err.fault c.in-Err.ensures.cause
