@@ -11,8 +11,10 @@ use idx_hz::Mask;
 use idx_lanes::BlockPart;
 
 /// Makes a block other than block 0, of 2^bits addresses, out of the raw samples of a box: along the lanes on which the
-/// samples of the block's points lie.
-pub(crate) fn fill_by_lanes(
+/// samples of the block's points lie. The box, `region`, is any whose points have addresses, the dataset's or a part of
+/// it. `samples` has a sample of `size` bytes for each of its points, in row-major order, axis 0 fastest. An address that
+/// no point of the box has holds zeros.
+pub fn fill_by_lanes(
     mask: &Mask,
     region: &Region,
     bits: u32,

@@ -11,4 +11,5 @@ mod rows;
 mod walk;
 
 pub use by_addresses::fill_by_addresses;
+pub use by_lanes::fill_by_lanes;
 pub use fill::fill_block;

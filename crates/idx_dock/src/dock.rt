@@ -1,0 +1,131 @@
+ghost use Rattle.std.specs.Prelude.{◌≡◌, [], All, Contains, IfErr, IfOk, MatchResult, None, OnErr, OnOk, Some};
+ghost use Rattle.idx_layout.specs.Placing.{file_numbers};
+ghost use Rattle.idx_layout.specs.OfHeader.{placing_of};
+ghost use Rattle.idx_pieces.specs.Runs.{IsRun};
+ghost use Rattle.std.specs.Option.{ForSome};
+ghost use Rattle.idx_outside.specs.Cause.{Rose};
+ghost use Rattle.idx_outside.specs.Files.{retold};
+ghost use Rattle.idx_dock.specs.Content.{dock_bytes};
+ghost use Rattle.idx_dock.specs.Dock.{FitsDock, IsDivision, IsDock, missing, new_dock, unwanted, with_shipment};
+
+use crate::awaiting::{await_pieces, deliver_to, first_missing};
+use crate::content::write_file;
+use crate::gathered::BUFFER;
+use crate::{Awaited, Unwanted};
+use idx_header::Header;
+use idx_outside::{Draft, NoMemory, Outage};
+use idx_pieces::{Piece, Shipment};
+use std::alloc::Global;
+use std::marker::Model;
+
+/// The aggregator of one file: the pieces with a point in it, by rising id, each with its samples once they were
+/// delivered. No sample is copied before the file is written. All memory is taken by `new`.
+#[derive(Debug, Drop)]
+pub struct Dock {
+    header: Header,
+    file: u64,
+    awaited: Vec<Awaited>,
+    passed: Vec<usize>,
+    buffer: Vec<u8>,
+}
+
+impl Model for Dock {
+    ghost use Rattle.std.specs.Prelude.{vec_capacity, vec_len};
+    ghost use Rattle.idx_dock.specs.Dock.{DockValue, IsDock, dock_of};
+    ghost use Rattle.idx_dock.specs.Room.{HasRoom};
+
+    ghost Value = { DockValue };
+
+    ghost view = { λ d. dock_of d.header d.file d.awaited.items };
+
+    ghost invariant = { λ d. IsDock (dock_of d.header d.file d.awaited.items)
+        × HasRoom (vec_len d.awaited) (vec_len d.passed) d.buffer.items (vec_capacity d.buffer) };
+}
+
+impl Dock {
+    /// The dock of a file of a dataset, which awaits those pieces of a division that have a point in the file. Nothing was
+    /// delivered to it.
+    pub fn new(
+        alloc: Global,
+        header: &Header,
+        pieces: &Vec<Piece>,
+        file: u64,
+    ) -> Result<Dock, NoMemory>
+        requires file { Contains (file_numbers (placing_of header.now)) file }
+        requires division { IsDivision header.now pieces.now.items }
+        ensures { IfOk result (λ dock. dock ≡ new_dock header.now pieces.now.items file) }
+    {
+        let end = file + header.blocks_per_file();
+        let awaited = await_pieces(alloc, header, pieces, file, end)?;
+        let passed = vec![in alloc; 0usize; awaited.len()]?;
+        Ok(Dock {
+            header: header.copy(alloc)?,
+            file,
+            awaited,
+            passed,
+            buffer: Vec::with_capacity(alloc, BUFFER)?,
+        })
+    }
+
+    /// The number of the file, which is that of its first block.
+    pub fn file(&self) -> u64
+        ensures value { result ≡ self.now.file }
+        ensures valid { IsDock self.now }
+    {
+        self.file
+    }
+
+    /// Keeps the samples of a piece, in whatever order pieces come. `Stranger` exactly where the shipment is for another
+    /// file or of a piece that is not awaited, `Double` exactly where the piece was delivered before. After a refusal the
+    /// dock is as it was, and the shipment comes back. Takes no memory: the runs are moved.
+    pub fn deliver(&mut self, shipment: Shipment) -> Result<(), (Shipment, Unwanted)>
+        requires runs { All (IsRun self.old.header shipment.file) shipment.runs }
+        requires piece { FitsDock self.old shipment }
+        ensures cases { MatchResult result (λ _. unwanted self.old shipment ≡ None)
+            (λ back. unwanted self.old shipment ≡ Some back.1) }
+        ensures kept { OnOk result (self.new ≡ with_shipment shipment self.old) }
+        ensures back { IfErr result (λ back. back.0 ≡ shipment) }
+        ensures same { OnErr result (self.new ≡ self.old) }
+    {
+        if shipment.file != self.file {
+            return Err((shipment, Unwanted::Stranger));
+        }
+        deliver_to(&mut self.awaited, shipment)
+    }
+
+    /// The least awaited piece of which nothing was delivered. Takes no memory.
+    pub fn missing(&self) -> Option<u64>
+        ensures { result ≡ missing self.now }
+    {
+        first_missing(&self.awaited)
+    }
+
+    /// Appends the file to a draft, and seals it: the table, and for each field the present blocks, with the delivered
+    /// samples at their addresses and zeros elsewhere. After `Outage` the draft comes back. Takes no memory.
+    pub fn write<D: Draft>(self, draft: D) -> Result<D::Leaf, (D, Outage)>
+        requires complete { missing self ≡ None }
+        requires empty { ForSome (D.contents draft) (λ bytes. bytes ≡ []) }
+        ensures contents { IfOk result (λ leaf. D.Leaf.contents leaf ≡ retold (D.contents draft) (dock_bytes self)) }
+        ensures outage { IfErr result (λ back. Rose (D.faults draft) (D.faults back.0)) }
+    {
+        let Dock {
+            header,
+            file,
+            awaited,
+            mut passed,
+            mut buffer,
+        } = self;
+        let mut draft = draft;
+        match write_file(
+            &header,
+            file,
+            &awaited,
+            &mut passed,
+            &mut buffer,
+            &mut draft,
+        ) {
+            Ok(()) => draft.seal(),
+            Err(outage) => Err((draft, outage)),
+        }
+    }
+}

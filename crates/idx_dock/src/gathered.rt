@@ -1,0 +1,175 @@
+//! Bytes that are gathered in a buffer before a draft takes them.
+ghost use Rattle.std.specs.Prelude.{◌≡◌, ◌+◌, ◌*◌, ◌^◌, ◌<◌, ◌≤◌, [], ◌++◌, OnErr, OnOk, length, replicate, vec_capacity, vec_len};
+ghost use Rattle.std.specs.List.{flat_map};
+ghost use Rattle.idx_outside.specs.Cause.{Rose};
+ghost use Rattle.idx_outside.specs.Contents.{appended};
+ghost use Rattle.idx_header.specs.Header.{block_count};
+ghost use Rattle.idx_layout.specs.declared.layout.Layout.{Layout};
+ghost use Rattle.idx_layout.specs.Files.{rows_of_file};
+ghost use Rattle.idx_layout.specs.OfHeader.{placing_of};
+ghost use Rattle.idx_table.specs.Row.{row_bytes};
+
+use idx_header::Header;
+use idx_layout::{Layout, file_rows};
+use idx_outside::{Draft, Outage};
+use idx_table::{ROW_BYTES, Row, write_row};
+
+/// The buffer is written before it has more bytes. They fit a processor's cache.
+pub(crate) const BUFFER: usize = 1 << 18;
+
+/// So many bytes are written as they are.
+const LARGE: usize = 1 << 16;
+
+/// So many zeros are written in one call.
+const ZEROS: usize = 1 << 10;
+
+/// Writes bytes behind what the draft and the buffer have so far: where they are few, they are gathered in the buffer.
+pub(crate) fn put<D: Draft>(bytes: &[u8], buffer: &mut Vec<u8>, draft: &mut D) -> Result<(), Outage>
+    requires room { BUFFER ≤ vec_capacity buffer.old }
+    ensures written { OnOk result (appended (D.contents draft.new) buffer.new.items ≡
+        appended (appended (D.contents draft.old) buffer.old.items) bytes.now) }
+    ensures room { BUFFER ≤ vec_capacity buffer.new }
+    ensures quiet { OnOk result (D.faults draft.new ≡ D.faults draft.old) }
+    ensures outage { OnErr result (Rose (D.faults draft.old) (D.faults draft.new)) }
+{
+    if bytes.len() < LARGE {
+        put_few(bytes, buffer, draft)
+    } else {
+        put_many(bytes, buffer, draft)
+    }
+}
+
+/// The same of few bytes, which are gathered.
+fn put_few<D: Draft>(bytes: &[u8], buffer: &mut Vec<u8>, draft: &mut D) -> Result<(), Outage>
+    requires room { BUFFER ≤ vec_capacity buffer.old }
+    requires few { length bytes.now < LARGE }
+    ensures written { OnOk result (appended (D.contents draft.new) buffer.new.items ≡
+        appended (appended (D.contents draft.old) buffer.old.items) bytes.now) }
+    ensures room { BUFFER ≤ vec_capacity buffer.new }
+    ensures quiet { OnOk result (D.faults draft.new ≡ D.faults draft.old) }
+    ensures outage { OnErr result (Rose (D.faults draft.old) (D.faults draft.new)) }
+{
+    if buffer.len() > BUFFER - LARGE {
+        flush(buffer, draft)?;
+    }
+    gather(bytes, buffer);
+    Ok(())
+}
+
+/// The same of many bytes, which are written as they are.
+fn put_many<D: Draft>(bytes: &[u8], buffer: &mut Vec<u8>, draft: &mut D) -> Result<(), Outage>
+    requires room { BUFFER ≤ vec_capacity buffer.old }
+    ensures written { OnOk result (appended (D.contents draft.new) buffer.new.items ≡
+        appended (appended (D.contents draft.old) buffer.old.items) bytes.now) }
+    ensures room { BUFFER ≤ vec_capacity buffer.new }
+    ensures quiet { OnOk result (D.faults draft.new ≡ D.faults draft.old) }
+    ensures outage { OnErr result (Rose (D.faults draft.old) (D.faults draft.new)) }
+{
+    flush(buffer, draft)?;
+    draft.append(bytes)
+}
+
+/// Writes what the buffer has.
+pub(crate) fn flush<D: Draft>(buffer: &mut Vec<u8>, draft: &mut D) -> Result<(), Outage>
+    requires room { BUFFER ≤ vec_capacity buffer.old }
+    ensures written { OnOk result (D.contents draft.new ≡ appended (D.contents draft.old) buffer.old.items) }
+    ensures empty { OnOk result (vec_len buffer.new ≡ 0) }
+    ensures nothing { OnOk result (buffer.new.items ≡ []) }
+    ensures room { BUFFER ≤ vec_capacity buffer.new }
+    ensures quiet { OnOk result (D.faults draft.new ≡ D.faults draft.old) }
+    ensures outage { OnErr result (Rose (D.faults draft.old) (D.faults draft.new)) }
+{
+    draft.append(buffer)?;
+    buffer.clear();
+    Ok(())
+}
+
+/// Appends bytes for which the buffer has room.
+fn gather(bytes: &[u8], buffer: &mut Vec<u8>)
+    requires { vec_len buffer.old + length bytes.now ≤ vec_capacity buffer.old }
+    ensures items { buffer.new.items ≡ buffer.old.items ++ bytes.now }
+    ensures room { vec_capacity buffer.old ≤ vec_capacity buffer.new }
+{
+    let Ok(()) = buffer.extend_from_slice(bytes) else {
+        unreachable!()
+    };
+}
+
+/// Writes so many zeros behind what the draft and the buffer have so far.
+pub(crate) fn put_zeros<D: Draft>(
+    count: u64,
+    buffer: &mut Vec<u8>,
+    draft: &mut D,
+) -> Result<(), Outage>
+    requires room { BUFFER ≤ vec_capacity buffer.old }
+    ensures written { OnOk result (appended (D.contents draft.new) buffer.new.items ≡
+        appended (appended (D.contents draft.old) buffer.old.items) (replicate count 0)) }
+    ensures room { BUFFER ≤ vec_capacity buffer.new }
+    ensures quiet { OnOk result (D.faults draft.new ≡ D.faults draft.old) }
+    ensures outage { OnErr result (Rose (D.faults draft.old) (D.faults draft.new)) }
+{
+    put_copies(&[0; ZEROS], count, buffer, draft)
+}
+
+/// The same, out of some zeros.
+fn put_copies<D: Draft>(
+    zeros: &[u8],
+    count: u64,
+    buffer: &mut Vec<u8>,
+    draft: &mut D,
+) -> Result<(), Outage>
+    requires zeros { zeros.now ≡ replicate (length zeros.now) 0 }
+    requires some { 0 < length zeros.now }
+    requires room { BUFFER ≤ vec_capacity buffer.old }
+    ensures written { OnOk result (appended (D.contents draft.new) buffer.new.items ≡
+        appended (appended (D.contents draft.old) buffer.old.items) (replicate count 0)) }
+    ensures room { BUFFER ≤ vec_capacity buffer.new }
+    ensures quiet { OnOk result (D.faults draft.new ≡ D.faults draft.old) }
+    ensures outage { OnErr result (Rose (D.faults draft.old) (D.faults draft.new)) }
+{
+    let mut left = count;
+    while left > 0 {
+        let some = left.min(zeros.len() as u64);
+        put(&zeros[..some as usize], buffer, draft)?;
+        left -= some;
+    }
+    Ok(())
+}
+
+/// Writes the table of a file behind what the draft and the buffer have so far: forty bytes of 0, and for each field a
+/// row for each of its block places.
+pub(crate) fn put_table<D: Draft>(
+    header: &Header,
+    file: u64,
+    buffer: &mut Vec<u8>,
+    draft: &mut D,
+) -> Result<(), Outage>
+    requires exists { file < block_count header.now }
+    requires room { BUFFER ≤ vec_capacity buffer.old }
+    ensures written { OnOk result (appended (D.contents draft.new) buffer.new.items ≡
+        appended (appended (D.contents draft.old) buffer.old.items)
+        (replicate 40 0 ++ flat_map row_bytes (rows_of_file Layout.Hz (placing_of header.now) file))) }
+    ensures room { BUFFER ≤ vec_capacity buffer.new }
+    ensures quiet { OnOk result (D.faults draft.new ≡ D.faults draft.old) }
+    ensures outage { OnErr result (Rose (D.faults draft.old) (D.faults draft.new)) }
+{
+    put(&[0; ROW_BYTES], buffer, draft)?;
+    for row in file_rows(header, Layout::Hz, file) {
+        put_row(&row, buffer, draft)?;
+    }
+    Ok(())
+}
+
+/// Writes the bytes of a row behind what the draft and the buffer have so far.
+fn put_row<D: Draft>(row: &Row, buffer: &mut Vec<u8>, draft: &mut D) -> Result<(), Outage>
+    requires room { BUFFER ≤ vec_capacity buffer.old }
+    ensures written { OnOk result (appended (D.contents draft.new) buffer.new.items ≡
+        appended (appended (D.contents draft.old) buffer.old.items) (row_bytes row.now)) }
+    ensures room { BUFFER ≤ vec_capacity buffer.new }
+    ensures quiet { OnOk result (D.faults draft.new ≡ D.faults draft.old) }
+    ensures outage { OnErr result (Rose (D.faults draft.old) (D.faults draft.new)) }
+{
+    let mut bytes = [0; ROW_BYTES];
+    write_row(row, &mut bytes);
+    put(&bytes, buffer, draft)
+}

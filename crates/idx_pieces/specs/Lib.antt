@@ -1,0 +1,15 @@
+pub mod Ranks
+pub mod Pieces
+pub mod Samples
+pub mod Runs
+pub mod Refusals
+pub mod Joined
+pub mod Cursor
+pub mod Filling
+pub mod Reading
+pub mod RawReads
+pub mod Parcels
+pub use Rattle.idx_geom.specs.Region
+pub use Rattle.idx_geom.specs.Volume
+pub use Rattle.idx_hz.specs.Address
+pub use Rattle.idx_header.specs.Header

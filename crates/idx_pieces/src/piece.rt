@@ -1,0 +1,15 @@
+use crate::Ranks;
+use idx_geom::Region;
+
+/// The points of a dataset's box whose Z addresses have the same first digits. They form a box.
+#[derive(Debug, Drop)]
+pub struct Piece {
+    /// The first digits, as a number: the Z address of each point, without so many of its last digits.
+    pub id: u64,
+    /// The points, at least one.
+    pub region: Region,
+    /// The ranks that have a part of it, rising.
+    pub ranks: Ranks,
+    /// Among how many ranks the box is divided.
+    pub of_ranks: u32,
+}
