@@ -3,7 +3,7 @@ use Rattle.std.proofs.Common.{◌≡◌, ℕ, ◌+◌, Bool, true, false, cond, 
 use Rattle.std.specs.Prelude.{◌==◌, ◌&&◌, ◌||◌, not, find, All, Contains}
 use Rattle.std.specs.List.{flat_map, list_any, position_from, range_with_len}
 use Rattle.std.specs.Option.{option_map, option_map_or, option_or}
-use Rattle.std.proofs.lemmas.List.Elements.{All-cons, All-contains}
+use Rattle.std.proofs.lemmas.List.Elements.{All-cons, All-contains, All-head}
 use Rattle.idx_geom.specs.Region.{IsRegion, points}
 use Rattle.idx_header.specs.Header.{HeaderValue, IsHeader, sample_bytes_of}
 use Rattle.idx_pieces.specs.Joined.{bytes_before, bytes_of, field_bytes, joined, joined_parcels, place_bytes, place_count, rank_bytes, row_bytes}
@@ -16,7 +16,7 @@ use Rattle.idx_pieces.specs.declared.why.Why.TheVariants.{Stranger, Double, Miss
 use Rattle.idx_pieces.proofs.JoinLists.{joined_agree, joined_within}
 use Rattle.idx_pieces.proofs.JoinSamples.{joined_holds}
 use Rattle.idx_pieces.proofs.JoinSteps.{found_has}
-use Rattle.idx_pieces.proofs.LawLemmas.{piece_is_region}
+use Rattle.idx_pieces.proofs.LawLemmas.{piece_is_region, whole_only}
 use Rattle.idx_pieces.proofs.MadeLemmas.{length-piece_region}
 use Rattle.idx_pieces.proofs.RefusalLemmas.{bounds_same}
 
@@ -97,15 +97,19 @@ own_region h piece parcel e =
     bounds_same parcel.region (part_of h piece parcel.rank)
     (both_true ((parcel.piece == piece.id) && list_any (λ rank. rank == parcel.rank) piece.ranks) (same_bounds parcel.region (part_of h piece parcel.rank)) e).1
 
+-- where nothing is wrong each parcel is of the piece
+all_own : (h : HeaderValue) (piece : Piece) (parcels : List Parcel) → why_not h piece parcels ≡ None → All (λ (parcel : Parcel). is_of_piece h piece parcel ≡ true) parcels
+all_own h piece parcels none =
+    all_pass (is_of_piece h piece) 0 parcels (unmapped (λ at. Stranger at) (stranger_at h piece parcels)
+    (first_none (option_map (λ at. Stranger at) (stranger_at h piece parcels)) (option_or (option_map (λ at. Double at) (double_at parcels)) (option_map (λ r. Missing r) (missing_rank piece parcels))) none))
+
 pub parcel_known : (h : HeaderValue) (piece : Piece) (parcels : List Parcel) (rank : ℕ) → why_not h piece parcels ≡ None → Contains piece.ranks rank →
     HasParcel h piece parcels rank
 parcel_known h piece parcels rank none among =
-    let strangers : stranger_at h piece parcels ≡ None = unmapped (λ at. Stranger at) (stranger_at h piece parcels)
-    (first_none (option_map (λ at. Stranger at) (stranger_at h piece parcels)) (option_or (option_map (λ at. Double at) (double_at parcels)) (option_map (λ r. Missing r) (missing_rank piece parcels))) none) in
     let rest = second_none (option_map (λ at. Stranger at) (stranger_at h piece parcels)) (option_or (option_map (λ at. Double at) (double_at parcels)) (option_map (λ r. Missing r) (missing_rank piece parcels))) none in
     let missing : missing_rank piece parcels ≡ None = unmapped (λ r. Missing r) (missing_rank piece parcels)
     (second_none (option_map (λ at. Double at) (double_at parcels)) (option_map (λ r. Missing r) (missing_rank piece parcels)) rest) in
-    let own : All (λ (parcel : Parcel). is_of_piece h piece parcel ≡ true) parcels = all_pass (is_of_piece h piece) 0 parcels strangers in
+    let own = all_own h piece parcels none in
     let has : has_parcel parcels rank ≡ true = All-contains (λ (r : ℕ). has_parcel parcels r ≡ true) piece.ranks rank (all_found (has_parcel parcels) piece.ranks missing) among in
     let found = found_one (λ (parcel : Parcel). parcel.rank == rank) parcels has in
     let same : found.it.rank ≡ rank = eqb-true found.it.rank rank found.passes in
@@ -154,3 +158,34 @@ parcels_hold h piece parcels sample valid is none are holds =
     ap (λ (o : Option Parcel). option_map_or (λ parcel. parcel.bytes) o []) has.is
     ∙ found_has (λ (parcel : Parcel). HoldsSamples h sample parcel.region parcel.bytes) (λ (parcel : Parcel). parcel.rank == rank) parcels has.it has.is holds
     ∙ ap (samples_in (length h.fields) sample) has.region)
+
+-- ---- one parcel alone
+
+one_item : {X : Type 0} → (xs : List X) → length xs ≡ 1 → (x : X) × (xs ≡ x ∷ [])
+one_item [] e = absurd (omega arith)
+one_item (x ∷ []) e = (x, refl)
+one_item (x ∷ y ∷ xs) e = absurd (omega arith)
+
+found_only : (parcel it : Parcel) (rank : ℕ) → find (λ (q : Parcel). q.rank == rank) (parcel ∷ []) ≡ Some it → rank ≡ parcel.rank
+found_only parcel it rank found = by_test (parcel.rank == rank) refl found
+  where
+    by_test : (b : Bool) → (parcel.rank == rank) ≡ b → cond b (Some parcel) None ≡ Some it → rank ≡ parcel.rank
+    by_test true is found = sym (eqb-true parcel.rank rank is)
+    by_test false is found = let wrong : None ≡ Some it = found in absurd (cc)
+
+-- it has the whole piece
+one_region : (h : HeaderValue) (piece : Piece) (parcel : Parcel) → IsHeader h → IsPiece h piece → why_not h piece (parcel ∷ []) ≡ None → parcel.region ≡ piece.region
+one_region h piece parcel valid is none =
+    own_region h piece parcel (All-head (λ (q : Parcel). is_of_piece h piece q ≡ true) parcel [] (all_own h piece (parcel ∷ []) none))
+    ∙ whole_only h piece parcel.rank valid is (λ other among. (let known = parcel_known h piece (parcel ∷ []) other none among in found_only parcel known.it other known.is))
+
+-- so its bytes hold the piece's samples
+pub one_holds : (h : HeaderValue) (piece : Piece) (parcels : List Parcel) (bytes : List ℕ) (sample : ℕ → List ℕ → List ℕ) → IsHeader h → IsPiece h piece → why_not h piece parcels ≡ None →
+    length parcels ≡ 1 → ((parcel : Parcel) → parcels ≡ parcel ∷ [] → bytes ≡ parcel.bytes) → All (λ parcel. HoldsSamples h sample parcel.region parcel.bytes) parcels →
+    HoldsSamples h sample piece.region bytes
+one_holds h piece parcels bytes sample valid is none one moved holds =
+    let only = one_item parcels one in
+    let parcel : Parcel = only.0 in
+    let all = subst (λ (xs : List Parcel). All (λ (q : Parcel). HoldsSamples h sample q.region q.bytes) xs) only.1 holds in
+    moved parcel only.1 ∙ All-head (λ (q : Parcel). HoldsSamples h sample q.region q.bytes) parcel [] all
+    ∙ ap (samples_in (length h.fields) sample) (one_region h piece parcel valid is (subst (λ (xs : List Parcel). why_not h piece xs ≡ None) only.1 none))

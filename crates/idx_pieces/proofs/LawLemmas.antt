@@ -258,8 +258,10 @@ in_single : (rank other : ℕ) → Contains (rank ∷ []) other → other ≡ ra
 in_single rank other (zero, h, e) = sym e
 in_single rank other (suc k, h, e) = absurd (omega (arith, h))
 
-pub whole_part : (h : HeaderValue) (piece : Piece) (rank : ℕ) → IsHeader h → IsPiece h piece → piece.ranks ≡ rank ∷ [] → part_of h piece rank ≡ piece.region
-whole_part h piece rank valid is alone =
+-- a piece that no other rank has a part of is whole that rank's part
+pub whole_only : (h : HeaderValue) (piece : Piece) (rank : ℕ) → IsHeader h → IsPiece h piece → ((other : ℕ) → Contains piece.ranks other → other ≡ rank) →
+    part_of h piece rank ≡ piece.region
+whole_only h piece rank valid is only =
     let region : piece.region ≡ piece_region h.mask h.box is.e piece.id = ap (λ (q : Piece). q.region) is.is in
     let ordered : IsOrdered piece.region = subst IsOrdered (sym region) (piece_is_region h is.e piece.id valid is.within is.some).ordered in
     let axes : length (rank_region h.box piece.of_ranks rank) ≡ length piece.region = same_axes h is.e piece.id piece.of_ranks rank ∙ ap length (sym region) in
@@ -271,7 +273,11 @@ whole_part h piece rank valid is alone =
           let box = ((piece_exact h is.e piece.id valid is.within is.some p).0 lies).0 in
           let some = rank_of_point h.box piece.of_ranks p valid.region is.ranks box in
           let among = (ranks_of_piece h piece some.0 is).1 (some.1.0, (p, (some.1.1, inside))) in
-          let same : some.0 ≡ rank = in_single rank some.0 (subst (λ (xs : List ℕ). Contains xs some.0) alone among) in
+          let same : some.0 ≡ rank = only some.0 among in
           LiesIn-common_bounds (rank_region h.box piece.of_ranks rank) piece.region p
           (subst (λ (r : ℕ). LiesIn (rank_region h.box piece.of_ranks r) p) same some.1.1) inside,
     ))
+
+pub whole_part : (h : HeaderValue) (piece : Piece) (rank : ℕ) → IsHeader h → IsPiece h piece → piece.ranks ≡ rank ∷ [] → part_of h piece rank ≡ piece.region
+whole_part h piece rank valid is alone =
+    whole_only h piece rank valid is (λ other among. in_single rank other (subst (λ (xs : List ℕ). Contains xs other) alone among))

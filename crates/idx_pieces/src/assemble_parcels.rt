@@ -1,12 +1,14 @@
-ghost use Rattle.std.specs.Prelude.{◌≡◌, All, IfErr, IfOk, None, length, unwrap_or};
+ghost use Rattle.std.specs.Prelude.{◌≡◌, [], ◌∷◌, All, IfErr, IfOk, None, length, unwrap_or};
 ghost use Rattle.idx_pieces.specs.Joined.{HoldsWhereAllDo};
 ghost use Rattle.idx_pieces.specs.Pieces.{IsPiece};
 ghost use Rattle.idx_pieces.specs.Refusals.{why_not};
 ghost use Rattle.idx_pieces.specs.Samples.{region_bytes};
+ghost use Rattle.idx_pieces.specs.declared.parcel.Parcel.{Parcel};
 
 use crate::joined::joined;
 use crate::{Filled, Parcel, Parcels, Piece, Refused, Why, why_not};
 use idx_header::Header;
+use idx_outside::Bytes;
 use std::alloc::Global;
 
 /// A piece with all of its samples, from the parcels of its ranks, one of each, in any order. Where they do not make
@@ -29,10 +31,27 @@ pub fn assemble(
     if let Some(why) = why_not(header, &piece, parcels.as_slice()) {
         return Err(refused(why, piece, parcels));
     }
+    if parcels.len() == 1 {
+        prove!(header.axes() >= 2);
+        let bytes = bytes_of_one(parcels);
+        return Ok(Filled { piece, bytes });
+    }
     match joined(alloc, header, &piece, parcels.as_slice()) {
         Ok(bytes) => Ok(Filled { piece, bytes }),
         Err(_) => Err(refused(Why::NoMemory, piece, parcels)),
     }
+}
+
+/// The bytes of the only parcel, moved out of it.
+fn bytes_of_one(parcels: Vec<Parcel>) -> Bytes
+    requires { length parcels.items ≡ 1 }
+    ensures { (parcel : Parcel) → parcels.items ≡ parcel ∷ [] → result ≡ parcel.bytes }
+{
+    let mut parcels = parcels;
+    let Some(parcel) = parcels.pop() else {
+        unreachable!()
+    };
+    parcel.bytes
 }
 
 /// A refusal that hands back the piece and the parcels.

@@ -28,10 +28,8 @@ fn begin(
     let extent = header.region();
     prove!(extent.axes() >= 2);
     prove!(region.axes() >= 2);
-    let room = region
-        .count()
-        .saturating_mul(header.volume_bytes() / extent.count());
-    let bytes = Bytes::with_capacity(alloc, room as usize)?;
+    prove!(region.count() >= 1);
+    let bytes = Bytes::with_capacity(alloc, room_of(header, &extent, &region))?;
     let cursor = Cursor::at(&extent, &region, 0);
     Ok(Filling {
         parcel: Parcel {
@@ -42,6 +40,14 @@ fn begin(
         },
         cursor,
     })
+}
+
+/// How many bytes the samples of a region of a box have, those of all fields together. It is asked for as room alone:
+/// no clause promises it.
+pub(crate) fn room_of(header: &Header, extent: &Region, region: &Region) -> usize {
+    region
+        .count()
+        .saturating_mul(header.volume_bytes() / extent.count()) as usize
 }
 
 /// The parcels of a rank with no samples yet: one for each piece that its region meets.

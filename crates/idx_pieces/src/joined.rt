@@ -5,6 +5,7 @@ ghost use Rattle.idx_header.specs.Header.{IsHeader};
 ghost use Rattle.idx_pieces.specs.Joined.{field_bytes, joined_parcels, place_bytes, place_count, rank_bytes, row_bytes};
 ghost use Rattle.idx_pieces.specs.Samples.{region_bytes};
 
+use crate::begun::room_of;
 use crate::regions::cut_of;
 use crate::{Parcel, Piece};
 use idx_header::Header;
@@ -37,7 +38,8 @@ pub(crate) fn joined(
     ensures valid { IsHeader header.now }
 {
     let places = place_count(header, piece);
-    let mut bytes = Bytes::new(alloc);
+    let room = room_of(header, &header.region(), &piece.region);
+    let mut bytes = Bytes::with_capacity(alloc, room)?;
     let mut before = 0;
     for field in 0..header.field_count() {
         let size = header.sample_bytes(field);
