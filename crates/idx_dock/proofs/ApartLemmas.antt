@@ -395,20 +395,50 @@ All-by : {X : Type 0} (P Q : X → Type 0) → ((x : X) → P x → Q x) → (xs
 All-by P Q f [] all = All-nil Q
 All-by P Q f (x ∷ xs) all = All-cons Q x xs (f x (All-head P x xs all)) (All-by P Q f xs (All-tail P x xs all))
 
--- each dock can be written
-pub dock_writable : (d : DockValue) → IsDock d → AreWritable d.header d.file d.awaited
-dock_writable d is =
+-- the awaited pieces of a dock are those of rising ids
+dock_divided : (d : DockValue) (is : IsDock d) → Divided d.header is.division.e 0 d.awaited
+dock_divided d is =
     let h : HeaderValue = d.header in
     let e : ℕ = is.division.e in
     let ids : List ℕ = filter (has_piece h.mask h.box e) (range_with_len 0 (2 ^ (length h.mask - e))) in
     let same : map undelivered d.awaited ≡ map awaited_of (reaching h d.file (map (piece_at h e is.division.ranks) ids)) =
     is.awaited ∙ ap (λ pieces. map awaited_of (reaching h d.file pieces)) is.division.is in
-    let divided = divided_of h e is.division.ranks d.file 0 ids d.awaited (RiseFrom-filter (has_piece h.mask h.box e) 0 (2 ^ (length h.mask - e)))
-    (below_of (has_piece h.mask h.box e) 0 (2 ^ (length h.mask - e)) (2 ^ (length h.mask - e)) (omega arith)) same in
+    divided_of h e is.division.ranks d.file 0 ids d.awaited (RiseFrom-filter (has_piece h.mask h.box e) 0 (2 ^ (length h.mask - e)))
+    (below_of (has_piece h.mask h.box e) 0 (2 ^ (length h.mask - e)) (2 ^ (length h.mask - e)) (omega arith)) same
+
+-- each dock can be written
+pub dock_writable : (d : DockValue) → IsDock d → AreWritable d.header d.file d.awaited
+dock_writable d is =
+    let h : HeaderValue = d.header in
     record {
       header = is.header;
       exists = is.exists;
       runs = All-by (λ a. ForSome a.runs (AreRunsOf h a.region d.file)) (λ a. All (IsRun h d.file) (runs_of a)) (λ a are. runs_are h d.file a are) d.awaited is.runs;
       rising = All-by (λ a. ForSome a.runs (AreRunsOf h a.region d.file)) (λ a. (field : ℕ) → RiseIn h field (runs_of a)) (λ a are field. rises h d.file field a are) d.awaited is.runs;
-      apart = apart_of h e 0 d.file d.awaited is.header is.division.within divided is.runs;
+      apart = apart_of h is.division.e 0 d.file d.awaited is.header is.division.within (dock_divided d is) is.runs;
     }
+
+-- what a run of pieces has a sample at is the address of a point of the box
+point_among : (h : HeaderValue) (e low file field address : ℕ) (awaited : List Awaited) (r : Run) → IsHeader h → e ≤ length h.mask → Divided h e low awaited → AreTheirs h file awaited →
+    IsOneOf (runs_in awaited) r → has_sample h field address r ≡ true → (p : List ℕ) × LiesIn h.box p × (hz_address h.mask p ≡ address)
+point_among h e low file field address [] r is within divided are here has = absurd here
+point_among h e low file field address (a ∷ others) r is within divided are here has =
+    by_place (λ more. point_among h e (a.piece + 1) file field address others r is within divided.3 (All-tail P a others are) more has)
+    (IsOneOf-split (runs_of a) (runs_in others) r here)
+  where
+    P : Awaited → Type 0
+    P a = ForSome a.runs (AreRunsOf h a.region file)
+
+    by_place : (IsOneOf (runs_in others) r → (p : List ℕ) × LiesIn h.box p × (hz_address h.mask p ≡ address)) → IsOneOf (runs_of a) r ⊎ IsOneOf (runs_in others) r →
+        (p : List ℕ) × LiesIn h.box p × (hz_address h.mask p ≡ address)
+    by_place more (inl front) =
+        let some = run_is h file field address a r (All-head P a others are) front has in
+        let p = point_found a.region (λ p. hz_address h.mask p == address) some in
+        (p.0, (piece_of_point h e a.piece p.0 is within divided.1 (subst (λ region. LiesIn region p.0) divided.2 p.1)).0, eqb-true (hz_address h.mask p.0) address p.2)
+    by_place more (inr back) = more back
+
+-- so it is of the runs of a dock
+pub run_point : (d : DockValue) → IsDock d → (field address : ℕ) (r : Run) → IsOneOf (runs_in d.awaited) r → has_sample d.header field address r ≡ true →
+    (p : List ℕ) × LiesIn d.header.box p × (hz_address d.header.mask p ≡ address)
+run_point d is field address r here has =
+    point_among d.header is.division.e 0 d.file field address d.awaited r is.header is.division.within (dock_divided d is) is.runs here has

@@ -44,7 +44,7 @@ use Rattle.idx_dock.proofs.ApartLemmas.{IsIn, IsIn-range, dock_writable, head_is
 use Rattle.idx_dock.proofs.WriteLemmas.{flat_map-range, has_from, has_is, sample_run}
 
 -- some run has a sample, or none has
-find_run : (test : Run → Bool) (runs : List Run) → ((r : Run) × IsOneOf runs r × (test r ≡ true)) ⊎ (find test runs ≡ None)
+pub find_run : (test : Run → Bool) (runs : List Run) → ((r : Run) × IsOneOf runs r × (test r ≡ true)) ⊎ (find test runs ≡ None)
 find_run test [] = inr refl
 find_run test (r ∷ runs) = by_test (test r) refl (find_run test runs)
   where
@@ -90,7 +90,7 @@ sample_of_range f size first (suc n) a sizes from to = by_cases (cases_at (a - f
         ∙ more (omega (arith, later.1))
 
 -- each sample of a volume has its field's size
-volume_sample : (sizes : List ℕ) (n field k : ℕ) (volume : List (List (List ℕ))) → IsVolume sizes n volume → field < length sizes → k < n →
+pub volume_sample : (sizes : List ℕ) (n field k : ℕ) (volume : List (List (List ℕ))) → IsVolume sizes n volume → field < length sizes → k < n →
     length (slice_index_or (slice_index_or volume field []) k []) ≡ get_or sizes field 0
 volume_sample [] n field k volume is within inside = absurd (omega arith)
 volume_sample (size ∷ sizes) n field k [] is within inside = absurd is
@@ -231,7 +231,7 @@ covered d is none field block p within from to at lies =
     (IsIn-passes (has_address h.mask region) (file_addresses h d.file) address in_file (any_point region (λ q. hz_address h.mask q == address) p inside (eq-eqb address address refl)))))
 
 -- the first point that passes a test is one of the box
-find_point : (r : List (ℕ × ℕ)) (test : List ℕ → Bool) (p : List ℕ) → find test (points r) ≡ Some p → LiesIn r p
+pub find_point : (r : List (ℕ × ℕ)) (test : List ℕ → Bool) (p : List ℕ) → find test (points r) ≡ Some p → LiesIn r p
 find_point r test p found = (LiesIn-slice_get r (position_or_len test (points r)) p (sym (find_at test (points r)) ∙ found)).0
 
 -- each sample that a volume has at an address has its field's size
@@ -295,7 +295,7 @@ complete_sample d is none volume are samples field block a within from to at =
     no_point : find (has_sample h field a) runs ≡ None → find (λ p. hz_address h.mask p == a) (points h.box) ≡ None
     no_point unfound_any = by_any unfound_any (list_any (λ p. hz_address h.mask p == a) (points h.box)) refl
 
-filter_range : (f g : ℕ → List ℕ) (p : ℕ → Bool) (a n : ℕ) → ((k : ℕ) → a ≤ k → k < a + n → f k ≡ g k) → flat_map f (filter p (range_with_len a n)) ≡ flat_map g (filter p (range_with_len a n))
+pub filter_range : (f g : ℕ → List ℕ) (p : ℕ → Bool) (a n : ℕ) → ((k : ℕ) → a ≤ k → k < a + n → f k ≡ g k) → flat_map f (filter p (range_with_len a n)) ≡ flat_map g (filter p (range_with_len a n))
 filter_range f g p a zero same = refl
 filter_range f g p a (suc n) same = by_test (p a) (filter_range f g p (a + 1) n (λ k from to. same k (omega arith) (omega arith)))
   where
@@ -306,7 +306,7 @@ filter_range f g p a (suc n) same = by_test (p a) (filter_range f g p (a + 1) n 
     by_test true more = ap (λ x. x ++ flat_map f rest) (same a (omega arith) (omega arith)) ∙ ap (λ x. g a ++ x) more
     by_test false more = more
 
-zip_range : (f : ℕ × List (List ℕ) → List ℕ) (g : ℕ → List ℕ) (sizes : List ℕ) (volume : List (List (List ℕ))) (n a : ℕ) → IsVolume sizes n volume →
+pub zip_range : (f : ℕ × List (List ℕ) → List ℕ) (g : ℕ → List ℕ) (sizes : List ℕ) (volume : List (List (List ℕ))) (n a : ℕ) → IsVolume sizes n volume →
     ((k : ℕ) → k < length sizes → f (get_or sizes k 0, get_or volume k []) ≡ g (a + k)) → flat_map f (zip sizes volume) ≡ flat_map g (range_with_len a (length sizes))
 zip_range f g [] [] n a is each = refl
 zip_range f g [] (v ∷ volume) n a is each = absurd is

@@ -1,5 +1,5 @@
 //! The blocks of a file, as the delivered runs give them.
-ghost use Rattle.std.specs.Prelude.{◌≡◌, ◌+◌, ◌-◌, ◌*◌, ◌^◌, ◌<◌, ◌≤◌, [], IfOk, OnErr, OnOk, length, min, replicate, slice_range, vec_capacity};
+ghost use Rattle.std.specs.Prelude.{◌≡◌, ◌+◌, ◌-◌, ◌*◌, ◌^◌, ◌<◌, ◌≤◌, [], IfOk, OnErr, OnOk, length, min, replicate, slice_range};
 ghost use Rattle.std.specs.List.{flat_map, range_with_len};
 ghost use Rattle.idx_outside.specs.Cause.{Rose};
 ghost use Rattle.idx_outside.specs.Contents.{appended};
@@ -11,7 +11,7 @@ ghost use Rattle.idx_dock.specs.Content.{block_among, fields_among, file_among, 
 ghost use Rattle.idx_dock.specs.Next.{ArePassed, AreWritable, end_of};
 
 use crate::Awaited;
-use crate::gathered::{BUFFER, flush, put, put_table, put_zeros};
+use crate::gathered::{flush, put, put_table, put_zeros};
 use crate::next::{end_of, next_run};
 use idx_header::Header;
 use idx_layout::file_blocks;
@@ -29,7 +29,6 @@ pub(crate) fn write_file<D: Draft>(
 ) -> Result<(), Outage>
     requires writable { AreWritable header.now file awaited.now }
     requires passed { length passed.old ≡ length awaited.now }
-    requires room { BUFFER ≤ vec_capacity buffer.old }
     requires empty { buffer.old.items ≡ [] }
     ensures written { OnOk result (D.contents draft.new ≡
         appended (D.contents draft.old) (file_among header.now file (runs_in awaited.now))) }
@@ -52,11 +51,9 @@ fn put_fields<D: Draft>(
 ) -> Result<(), Outage>
     requires writable { AreWritable header.now file awaited.now }
     requires passed { length passed.old ≡ length awaited.now }
-    requires room { BUFFER ≤ vec_capacity buffer.old }
     ensures written { OnOk result (appended (D.contents draft.new) buffer.new.items ≡
         appended (appended (D.contents draft.old) buffer.old.items)
         (fields_among header.now file (runs_in awaited.now))) }
-    ensures room { BUFFER ≤ vec_capacity buffer.new }
     ensures quiet { OnOk result (D.faults draft.new ≡ D.faults draft.old) }
     ensures outage { OnErr result (Rose (D.faults draft.old) (D.faults draft.new)) }
 {
@@ -79,11 +76,9 @@ fn put_field<D: Draft>(
     requires writable { AreWritable header.now file awaited.now }
     requires field { field < length header.now.fields }
     requires passed { length passed.old ≡ length awaited.now }
-    requires room { BUFFER ≤ vec_capacity buffer.old }
     ensures written { OnOk result (appended (D.contents draft.new) buffer.new.items ≡
         appended (appended (D.contents draft.old) buffer.old.items)
         (flat_map (block_among header.now (runs_in awaited.now) field) (present_blocks (placing_of header.now) file))) }
-    ensures room { BUFFER ≤ vec_capacity buffer.new }
     ensures quiet { OnOk result (D.faults draft.new ≡ D.faults draft.old) }
     ensures outage { OnErr result (Rose (D.faults draft.old) (D.faults draft.new)) }
 {
@@ -126,13 +121,11 @@ fn put_block<D: Draft>(
     requires field { field < length header.now.fields }
     requires exists { block < block_count header.now }
     requires passed { ArePassed header.now field (block * 2 ^ header.now.block_bits) awaited.now passed.old }
-    requires room { BUFFER ≤ vec_capacity buffer.old }
     ensures written { OnOk result (appended (D.contents draft.new) buffer.new.items ≡
         appended (appended (D.contents draft.old) buffer.old.items)
         (block_among header.now (runs_in awaited.now) field block)) }
     ensures passed { OnOk result
         (ArePassed header.now field ((block + 1) * 2 ^ header.now.block_bits) awaited.now passed.new) }
-    ensures room { BUFFER ≤ vec_capacity buffer.new }
     ensures quiet { OnOk result (D.faults draft.new ≡ D.faults draft.old) }
     ensures outage { OnErr result (Rose (D.faults draft.old) (D.faults draft.new)) }
 {
@@ -165,14 +158,12 @@ fn put_some<D: Draft>(
     requires from { from < end }
     requires end { end ≤ 2 ^ 50 }
     requires passed { ArePassed header.now field from awaited.now passed.old }
-    requires room { BUFFER ≤ vec_capacity buffer.old }
     ensures further { IfOk result (λ to. from < to) }
     ensures within { IfOk result (λ to. to ≤ end) }
     ensures written { IfOk result (λ to. appended (D.contents draft.new) buffer.new.items ≡
         appended (appended (D.contents draft.old) buffer.old.items)
         (flat_map (sample_among header.now (runs_in awaited.now) field) (range_with_len from (to - from)))) }
     ensures passed { ArePassed header.now field from awaited.now passed.new }
-    ensures room { BUFFER ≤ vec_capacity buffer.new }
     ensures quiet { OnOk result (D.faults draft.new ≡ D.faults draft.old) }
     ensures outage { OnErr result (Rose (D.faults draft.old) (D.faults draft.new)) }
 {
@@ -202,13 +193,11 @@ fn put_run<D: Draft>(
     requires begun { run.now.first ≤ from }
     requires left { from < end_of header.now run.now }
     requires from { from < end }
-    requires room { BUFFER ≤ vec_capacity buffer.old }
     ensures to { IfOk result (λ to. to ≡ min (end_of header.now run.now) end) }
     ensures written { IfOk result (λ to. appended (D.contents draft.new) buffer.new.items ≡
         appended (appended (D.contents draft.old) buffer.old.items)
         (slice_range run.now.bytes (sample_bytes_of header.now run.now.field * (from - run.now.first))
         (sample_bytes_of header.now run.now.field * (to - run.now.first)))) }
-    ensures room { BUFFER ≤ vec_capacity buffer.new }
     ensures quiet { OnOk result (D.faults draft.new ≡ D.faults draft.old) }
     ensures outage { OnErr result (Rose (D.faults draft.old) (D.faults draft.new)) }
 {
@@ -232,12 +221,10 @@ fn put_gap<D: Draft>(
     requires field { field < length header.now.fields }
     requires from { from ≤ to }
     requires few { to ≤ 2 ^ 50 }
-    requires room { BUFFER ≤ vec_capacity buffer.old }
     ensures to { IfOk result (λ at. at ≡ to) }
     ensures written { OnOk result (appended (D.contents draft.new) buffer.new.items ≡
         appended (appended (D.contents draft.old) buffer.old.items)
         (replicate (sample_bytes_of header.now field * (to - from)) 0)) }
-    ensures room { BUFFER ≤ vec_capacity buffer.new }
     ensures quiet { OnOk result (D.faults draft.new ≡ D.faults draft.old) }
     ensures outage { OnErr result (Rose (D.faults draft.old) (D.faults draft.new)) }
 {

@@ -1,4 +1,6 @@
 ghost use Rattle.std.specs.Prelude.{◌≡◌, [], All, Contains, IfErr, IfOk, MatchResult, None, OnErr, OnOk, Some};
+ghost use Rattle.std.specs.Prelude.{max, min};
+ghost use Rattle.idx_layout.specs.Files.{length_of_file};
 ghost use Rattle.idx_layout.specs.Placing.{file_numbers};
 ghost use Rattle.idx_layout.specs.OfHeader.{placing_of};
 ghost use Rattle.idx_pieces.specs.Runs.{IsRun};
@@ -10,13 +12,19 @@ ghost use Rattle.idx_dock.specs.Dock.{FitsDock, IsDivision, IsDock, missing, new
 
 use crate::awaiting::{await_pieces, deliver_to, first_missing};
 use crate::content::write_file;
-use crate::gathered::BUFFER;
 use crate::{Awaited, Unwanted};
 use idx_header::Header;
+use idx_layout::file_len;
 use idx_outside::{Draft, NoMemory, Outage};
 use idx_pieces::{Piece, Shipment};
 use std::alloc::Global;
 use std::marker::Model;
+
+/// A buffer has no more bytes than this. They fit a processor's cache.
+const LONGEST_BUFFER: u64 = 1 << 18;
+
+/// A buffer has no fewer bytes than this: a row of the table, zeros of a gap and most runs fit it.
+const SHORTEST_BUFFER: u64 = 1 << 10;
 
 /// The aggregator of one file: the pieces with a point in it, by rising id, each with its samples once they were
 /// delivered. No sample is copied before the file is written. All memory is taken by `new`.
@@ -30,7 +38,7 @@ pub struct Dock {
 }
 
 impl Model for Dock {
-    ghost use Rattle.std.specs.Prelude.{vec_capacity, vec_len};
+    ghost use Rattle.std.specs.Prelude.{vec_len};
     ghost use Rattle.idx_dock.specs.Dock.{DockValue, IsDock, dock_of};
     ghost use Rattle.idx_dock.specs.Room.{HasRoom};
 
@@ -39,7 +47,7 @@ impl Model for Dock {
     ghost view = { λ d. dock_of d.header d.file d.awaited.items };
 
     ghost invariant = { λ d. IsDock (dock_of d.header d.file d.awaited.items)
-        × HasRoom (vec_len d.awaited) (vec_len d.passed) d.buffer.items (vec_capacity d.buffer) };
+        × HasRoom (vec_len d.awaited) (vec_len d.passed) d.buffer.items };
 }
 
 impl Dock {
@@ -63,7 +71,7 @@ impl Dock {
             file,
             awaited,
             passed,
-            buffer: Vec::with_capacity(alloc, BUFFER)?,
+            buffer: Vec::with_capacity(alloc, buffer_len(header, file))?,
         })
     }
 
@@ -128,4 +136,13 @@ impl Dock {
             Err(outage) => Err((draft, outage)),
         }
     }
+}
+
+/// How many bytes the buffer of a file's dock has: as many as the file, within limits.
+fn buffer_len(header: &Header, file: u64) -> usize
+    ensures { result ≡ max 1024 (min 262144 (length_of_file (placing_of header.now) file)) }
+{
+    file_len(header, file)
+        .min(LONGEST_BUFFER)
+        .max(SHORTEST_BUFFER) as usize
 }

@@ -14,42 +14,37 @@ use idx_layout::{Layout, file_rows};
 use idx_outside::{Draft, Outage};
 use idx_table::{ROW_BYTES, Row, write_row};
 
-/// The buffer is written before it has more bytes. They fit a processor's cache.
-pub(crate) const BUFFER: usize = 1 << 18;
-
 /// So many bytes are written as they are.
 const LARGE: usize = 1 << 16;
 
 /// So many zeros are written in one call.
 const ZEROS: usize = 1 << 10;
 
-/// Writes bytes behind what the draft and the buffer have so far: where they are few, they are gathered in the buffer.
+/// Writes bytes behind what the draft and the buffer have so far: where they are few and the buffer can hold them, they
+/// are gathered there.
 pub(crate) fn put<D: Draft>(bytes: &[u8], buffer: &mut Vec<u8>, draft: &mut D) -> Result<(), Outage>
-    requires room { BUFFER ≤ vec_capacity buffer.old }
     ensures written { OnOk result (appended (D.contents draft.new) buffer.new.items ≡
         appended (appended (D.contents draft.old) buffer.old.items) bytes.now) }
-    ensures room { BUFFER ≤ vec_capacity buffer.new }
     ensures quiet { OnOk result (D.faults draft.new ≡ D.faults draft.old) }
     ensures outage { OnErr result (Rose (D.faults draft.old) (D.faults draft.new)) }
 {
-    if bytes.len() < LARGE {
-        put_few(bytes, buffer, draft)
-    } else {
+    if bytes.len() >= LARGE || bytes.len() > buffer.capacity() {
         put_many(bytes, buffer, draft)
+    } else {
+        put_few(bytes, buffer, draft)
     }
 }
 
-/// The same of few bytes, which are gathered.
+/// The same of bytes that the buffer can hold, which are gathered: where they do not fit what is left of it, it is
+/// written first.
 fn put_few<D: Draft>(bytes: &[u8], buffer: &mut Vec<u8>, draft: &mut D) -> Result<(), Outage>
-    requires room { BUFFER ≤ vec_capacity buffer.old }
-    requires few { length bytes.now < LARGE }
+    requires few { length bytes.now ≤ vec_capacity buffer.old }
     ensures written { OnOk result (appended (D.contents draft.new) buffer.new.items ≡
         appended (appended (D.contents draft.old) buffer.old.items) bytes.now) }
-    ensures room { BUFFER ≤ vec_capacity buffer.new }
     ensures quiet { OnOk result (D.faults draft.new ≡ D.faults draft.old) }
     ensures outage { OnErr result (Rose (D.faults draft.old) (D.faults draft.new)) }
 {
-    if buffer.len() > BUFFER - LARGE {
+    if bytes.len() > buffer.capacity() - buffer.len() {
         flush(buffer, draft)?;
     }
     gather(bytes, buffer);
@@ -58,10 +53,8 @@ fn put_few<D: Draft>(bytes: &[u8], buffer: &mut Vec<u8>, draft: &mut D) -> Resul
 
 /// The same of many bytes, which are written as they are.
 fn put_many<D: Draft>(bytes: &[u8], buffer: &mut Vec<u8>, draft: &mut D) -> Result<(), Outage>
-    requires room { BUFFER ≤ vec_capacity buffer.old }
     ensures written { OnOk result (appended (D.contents draft.new) buffer.new.items ≡
         appended (appended (D.contents draft.old) buffer.old.items) bytes.now) }
-    ensures room { BUFFER ≤ vec_capacity buffer.new }
     ensures quiet { OnOk result (D.faults draft.new ≡ D.faults draft.old) }
     ensures outage { OnErr result (Rose (D.faults draft.old) (D.faults draft.new)) }
 {
@@ -71,11 +64,10 @@ fn put_many<D: Draft>(bytes: &[u8], buffer: &mut Vec<u8>, draft: &mut D) -> Resu
 
 /// Writes what the buffer has.
 pub(crate) fn flush<D: Draft>(buffer: &mut Vec<u8>, draft: &mut D) -> Result<(), Outage>
-    requires room { BUFFER ≤ vec_capacity buffer.old }
     ensures written { OnOk result (D.contents draft.new ≡ appended (D.contents draft.old) buffer.old.items) }
     ensures empty { OnOk result (vec_len buffer.new ≡ 0) }
     ensures nothing { OnOk result (buffer.new.items ≡ []) }
-    ensures room { BUFFER ≤ vec_capacity buffer.new }
+    ensures room { vec_capacity buffer.old ≤ vec_capacity buffer.new }
     ensures quiet { OnOk result (D.faults draft.new ≡ D.faults draft.old) }
     ensures outage { OnErr result (Rose (D.faults draft.old) (D.faults draft.new)) }
 {
@@ -87,8 +79,7 @@ pub(crate) fn flush<D: Draft>(buffer: &mut Vec<u8>, draft: &mut D) -> Result<(),
 /// Appends bytes for which the buffer has room.
 fn gather(bytes: &[u8], buffer: &mut Vec<u8>)
     requires { vec_len buffer.old + length bytes.now ≤ vec_capacity buffer.old }
-    ensures items { buffer.new.items ≡ buffer.old.items ++ bytes.now }
-    ensures room { vec_capacity buffer.old ≤ vec_capacity buffer.new }
+    ensures { buffer.new.items ≡ buffer.old.items ++ bytes.now }
 {
     let Ok(()) = buffer.extend_from_slice(bytes) else {
         unreachable!()
@@ -101,10 +92,8 @@ pub(crate) fn put_zeros<D: Draft>(
     buffer: &mut Vec<u8>,
     draft: &mut D,
 ) -> Result<(), Outage>
-    requires room { BUFFER ≤ vec_capacity buffer.old }
     ensures written { OnOk result (appended (D.contents draft.new) buffer.new.items ≡
         appended (appended (D.contents draft.old) buffer.old.items) (replicate count 0)) }
-    ensures room { BUFFER ≤ vec_capacity buffer.new }
     ensures quiet { OnOk result (D.faults draft.new ≡ D.faults draft.old) }
     ensures outage { OnErr result (Rose (D.faults draft.old) (D.faults draft.new)) }
 {
@@ -120,10 +109,8 @@ fn put_copies<D: Draft>(
 ) -> Result<(), Outage>
     requires zeros { zeros.now ≡ replicate (length zeros.now) 0 }
     requires some { 0 < length zeros.now }
-    requires room { BUFFER ≤ vec_capacity buffer.old }
     ensures written { OnOk result (appended (D.contents draft.new) buffer.new.items ≡
         appended (appended (D.contents draft.old) buffer.old.items) (replicate count 0)) }
-    ensures room { BUFFER ≤ vec_capacity buffer.new }
     ensures quiet { OnOk result (D.faults draft.new ≡ D.faults draft.old) }
     ensures outage { OnErr result (Rose (D.faults draft.old) (D.faults draft.new)) }
 {
@@ -145,11 +132,9 @@ pub(crate) fn put_table<D: Draft>(
     draft: &mut D,
 ) -> Result<(), Outage>
     requires exists { file < block_count header.now }
-    requires room { BUFFER ≤ vec_capacity buffer.old }
     ensures written { OnOk result (appended (D.contents draft.new) buffer.new.items ≡
         appended (appended (D.contents draft.old) buffer.old.items)
         (replicate 40 0 ++ flat_map row_bytes (rows_of_file Layout.Hz (placing_of header.now) file))) }
-    ensures room { BUFFER ≤ vec_capacity buffer.new }
     ensures quiet { OnOk result (D.faults draft.new ≡ D.faults draft.old) }
     ensures outage { OnErr result (Rose (D.faults draft.old) (D.faults draft.new)) }
 {
@@ -162,10 +147,8 @@ pub(crate) fn put_table<D: Draft>(
 
 /// Writes the bytes of a row behind what the draft and the buffer have so far.
 fn put_row<D: Draft>(row: &Row, buffer: &mut Vec<u8>, draft: &mut D) -> Result<(), Outage>
-    requires room { BUFFER ≤ vec_capacity buffer.old }
     ensures written { OnOk result (appended (D.contents draft.new) buffer.new.items ≡
         appended (appended (D.contents draft.old) buffer.old.items) (row_bytes row.now)) }
-    ensures room { BUFFER ≤ vec_capacity buffer.new }
     ensures quiet { OnOk result (D.faults draft.new ≡ D.faults draft.old) }
     ensures outage { OnErr result (Rose (D.faults draft.old) (D.faults draft.new)) }
 {

@@ -29,7 +29,6 @@ loop-from-preserved g c =
           ∙ appended-appended before (flat_map f (range_with_len from (to - from))) (flat_map f (range_with_len to (end - to)))
           ∙ ap (appended before) (range_two f from to end far c.in_ok-from.ensures.within)
           ∙ c.loop-from.invariant.written;
-      room = c.in_ok-from.ensures.room;
       quiet = c.in_ok-from.ensures.quiet ∙ c.loop-from.invariant.quiet;
     }
 

@@ -1,5 +1,4 @@
 use Rattle.std.proofs.Common.{◌≡◌, ◌≤◌, ◌-◌}
-use Rattle.std.specs.Prelude.{vec_capacity}
 use Rattle.std.specs.List.{flat_map, range_with_len}
 use Rattle.idx_outside.specs.Contents.{appended}
 use Rattle.idx_dock.specs.Content.{block_among, runs_in, sample_among}
@@ -15,7 +14,6 @@ invariant-loop-from g l =
       passed : ArePassed l.header l.field l.from l.awaited l.passed;
       written : appended (appended (draft.contents l.draft) l.buffer.items) (flat_map (sample_among l.header (runs_in l.awaited) l.field) (range_with_len l.from (l.end - l.from)))
           ≡ appended (appended (draft.contents l.fn.draft) l.fn.buffer.items) (block_among l.header (runs_in l.awaited) l.field l.block);
-      room : 262144 ≤ vec_capacity l.buffer;
       quiet : draft.faults l.draft ≡ draft.faults l.fn.draft;
     }
 

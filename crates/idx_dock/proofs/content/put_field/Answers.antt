@@ -15,7 +15,6 @@ loop-block-init g c =
     record {
       ahead = ahead_all h c.args.file c.args.field (length c.args.passed.now) c.args.awaited.now c.reset.new.passed c.into_iter-block-iterator.result c.requires.writable.header c.requires.passed c.reset.ensures all;
       written = ap (λ blocks. appended before (flat_map (block_among h (runs_in c.args.awaited.now) c.args.field) blocks)) all;
-      room = c.requires.room;
       quiet = refl;
     }
 
@@ -41,6 +40,5 @@ loop-block-preserved g c =
           ∙ appended-appended before (block c.in-Some.block) (flat_map block c.next.new.self)
           ∙ ap (λ blocks. appended before (flat_map block blocks)) (sym first)
           ∙ c.loop-block.invariant.written;
-      room = c.in_ok-put_block.ensures.room;
       quiet = c.in_ok-put_block.ensures.quiet ∙ c.loop-block.invariant.quiet;
     }

@@ -1,5 +1,4 @@
-use Rattle.std.proofs.Common.{◌≡◌, ◌≤◌}
-use Rattle.std.specs.Prelude.{vec_capacity}
+use Rattle.std.proofs.Common.{◌≡◌}
 use Rattle.std.specs.List.{flat_map}
 use Rattle.idx_outside.specs.Contents.{appended}
 use Rattle.idx_layout.specs.Placing.{present_blocks}
@@ -16,6 +15,5 @@ invariant-loop-block g l =
       ahead : AreAhead l.header l.field l.awaited l.passed l.block-iterator;
       written : appended (appended (draft.contents l.draft) l.buffer.items) (flat_map (block_among l.header (runs_in l.awaited) l.field) l.block-iterator)
           ≡ appended (appended (draft.contents l.fn.draft) l.fn.buffer.items) (flat_map (block_among l.header (runs_in l.awaited) l.field) (present_blocks (placing_of l.header) l.file));
-      room : 262144 ≤ vec_capacity l.buffer;
       quiet : draft.faults l.draft ≡ draft.faults l.fn.draft;
     }

@@ -22,7 +22,6 @@ loop-field-preserved g c =
           ∙ appended-appended before (part field) rest
           ∙ ap (λ fields. appended before (flat_map part fields)) (sym (range_step field n exists))
           ∙ c.loop-field.invariant.written;
-      room = c.in_ok-put_field.ensures.room;
       quiet = c.in_ok-put_field.ensures.quiet ∙ c.loop-field.invariant.quiet;
     }
 

@@ -1,5 +1,4 @@
-use Rattle.std.proofs.Common.{◌≡◌, ◌≤◌, ◌-◌, length}
-use Rattle.std.specs.Prelude.{vec_capacity}
+use Rattle.std.proofs.Common.{◌≡◌, ◌-◌, length}
 use Rattle.std.specs.List.{flat_map, range_with_len}
 use Rattle.idx_outside.specs.Contents.{appended}
 use Rattle.idx_dock.specs.Content.{field_among, fields_among, runs_in}
@@ -13,6 +12,5 @@ invariant-loop-field g l =
       passed : length l.passed ≡ length l.awaited;
       written : appended (appended (draft.contents l.draft) l.buffer.items) (flat_map (field_among l.header l.file (runs_in l.awaited)) (range_with_len l.field (length l.header.fields - l.field)))
           ≡ appended (appended (draft.contents l.fn.draft) l.fn.buffer.items) (fields_among l.header l.file (runs_in l.awaited));
-      room : 262144 ≤ vec_capacity l.buffer;
       quiet : draft.faults l.draft ≡ draft.faults l.fn.draft;
     }

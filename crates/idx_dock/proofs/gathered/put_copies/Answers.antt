@@ -20,6 +20,5 @@ loop-left-preserved g c =
           ∙ appended-appended before (replicate some 0) (replicate rest 0)
           ∙ ap (appended before) (replicate-append-replicate some rest 0 ∙ ap (λ n. replicate n 0) parts)
           ∙ c.loop-left.invariant.written;
-      room = c.in_ok-put.ensures.room;
       quiet = c.in_ok-put.ensures.quiet ∙ c.loop-left.invariant.quiet;
     }

@@ -1,5 +1,5 @@
-use Rattle.std.proofs.Common.{◌≡◌, ◌≤◌}
-use Rattle.std.specs.Prelude.{replicate, vec_capacity}
+use Rattle.std.proofs.Common.{◌≡◌}
+use Rattle.std.specs.Prelude.{replicate}
 use Rattle.idx_outside.specs.Contents.{appended}
 use Rattle.idx_dock.proofs.gathered.put_copies.Given as goal
 
@@ -10,7 +10,6 @@ invariant-loop-left g l =
     record {
       written : appended (appended (draft.contents l.draft) l.buffer.items) (replicate l.left 0)
           ≡ appended (appended (draft.contents l.fn.draft) l.fn.buffer.items) (replicate l.count 0);
-      room : 262144 ≤ vec_capacity l.buffer;
       quiet : draft.faults l.draft ≡ draft.faults l.fn.draft;
     }
 

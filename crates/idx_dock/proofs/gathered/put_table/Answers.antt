@@ -18,7 +18,6 @@ loop-row-init g c =
           ∙ ap (λ left. appended (appended before (replicate 40 0)) (flat_map row_bytes left))
           (c.into_iter-row-iterator.ensures.into_iter_gives ∙ c.file_rows-row-items.ensures.rows)
           ∙ appended-appended before (replicate 40 0) (flat_map row_bytes rows);
-      room = c.in_ok-put.ensures.room;
       quiet = c.in_ok-put.ensures.quiet;
     }
 
@@ -31,6 +30,5 @@ loop-row-preserved g c =
           ∙ appended-appended before (row_bytes c.in-Some.row) (flat_map row_bytes c.next.new.self)
           ∙ ap (λ rows. appended before (flat_map row_bytes rows)) (sym c.in-Some.ensures.steps)
           ∙ c.loop-row.invariant.written;
-      room = c.in_ok-put_row.ensures.room;
       quiet = c.in_ok-put_row.ensures.quiet ∙ c.loop-row.invariant.quiet;
     }

@@ -1,5 +1,5 @@
-use Rattle.std.proofs.Common.{◌≡◌, ◌≤◌, ◌++◌}
-use Rattle.std.specs.Prelude.{replicate, vec_capacity}
+use Rattle.std.proofs.Common.{◌≡◌, ◌++◌}
+use Rattle.std.specs.Prelude.{replicate}
 use Rattle.std.specs.List.{flat_map}
 use Rattle.idx_outside.specs.Contents.{appended}
 use Rattle.idx_layout.specs.declared.layout.Layout.TheVariants.{Hz}
@@ -15,6 +15,5 @@ invariant-loop-row g l =
     record {
       written : appended (appended (draft.contents l.draft) l.buffer.items) (flat_map row_bytes l.row-iterator)
           ≡ appended (appended (draft.contents l.fn.draft) l.fn.buffer.items) (replicate 40 0 ++ flat_map row_bytes (rows_of_file Hz (placing_of l.header) l.file));
-      room : 262144 ≤ vec_capacity l.buffer;
       quiet : draft.faults l.draft ≡ draft.faults l.fn.draft;
     }
