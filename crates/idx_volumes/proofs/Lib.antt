@@ -1,0 +1,4 @@
+pub mod MadeLemmas
+pub mod FileLemmas
+pub mod DockLemmas
+pub mod JoinLemmas
