@@ -4,6 +4,7 @@
 
 mod fault_script;
 mod files;
+mod hold_gate;
 mod input;
 mod mem_bay;
 mod mem_door;
@@ -24,6 +25,7 @@ mod sure_reader;
 mod sure_sink;
 mod sure_source;
 
+pub use hold_gate::HoldGate;
 pub use mem_bay::MemBay;
 pub use mem_door::MemDoor;
 pub use mem_draft::MemDraft;
