@@ -60,15 +60,17 @@ module _ {D L : Type 0} where
   is_failed (Some (Failed draft)) = true
   is_failed file = false
 
+  -- whether the draft of a job came back
   abbrev pub has_failed : Job D L → Bool
   has_failed job = is_failed job.file
 
-  -- how many faults a draft has counted, if there is one
+  -- how many faults a draft has counted; none where there is no draft
   abbrev pub file_faults : (D → ℕ) → Option (Written D L) → ℕ
   file_faults faults (Some (Open dock draft)) = faults draft
   file_faults faults (Some (Failed draft)) = faults draft
   file_faults faults file = 0
 
+  -- how many faults the draft of a job has counted
   abbrev pub faults_of : (D → ℕ) → Job D L → ℕ
   faults_of faults job = file_faults faults job.file
 
