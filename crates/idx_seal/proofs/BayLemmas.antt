@@ -1,0 +1,65 @@
+-- What one call after another does to a bay.
+use Rattle.std.proofs.Common.{◌≡◌, ℕ, zero, suc, ◌+◌, ◌-◌, ◌≤◌, List, Option, Err, refl, sym, subst, ◌∙◌, arith}
+use Rattle.idx_outside.specs.Cause.{NeverFalls, Rose}
+use Rattle.idx_outside.specs.declared.bay_call.BayCall.{BayCall}
+use Rattle.idx_outside.specs.declared.bay_fault.BayFault.{BayFault}
+use Rattle.idx_outside.specs.declared.mem_file.MemFile.{MemFile}
+use Rattle.idx_seal.specs.Bay.{Answers, GivesUp, Keeps}
+
+pub rose_then : (a b c : ℕ) → Rose a b → NeverFalls b c → Rose a c
+rose_then a b c rose up = grind arith
+
+pub then_rose : (a b c : ℕ) → NeverFalls a b → Rose b c → Rose a c
+then_rose a b c up rose = grind arith
+
+-- nothing was given up
+pub gives_none : (before : ℕ) (failed : Option BayCall) → GivesUp 0 before before failed failed
+gives_none before failed = record {
+  rose = λ some. absurd (omega (arith, some));
+  call = λ some. absurd (omega (arith, some));
+  same = λ none. refl;
+  unfailed = λ none. refl;
+}
+
+-- drafts were given up, and then others
+pub gives_both : (a b before middle after : ℕ) (f g h : Option BayCall) → GivesUp a before middle f g → GivesUp b middle after g h →
+    NeverFalls before middle → NeverFalls middle after → GivesUp (a + b) before after f h
+gives_both a zero before middle after f g h first then up more = record {
+  rose = λ some. rose_then before middle after (first.rose (omega (arith, some))) more;
+  call = λ some. then.unfailed refl ∙ first.call (omega (arith, some));
+  same = λ none. then.same refl ∙ first.same (omega (arith, none));
+  unfailed = λ none. then.unfailed refl ∙ first.unfailed (omega (arith, none));
+}
+gives_both a (suc b) before middle after f g h first then up more = record {
+  rose = λ some. then_rose before middle after up (then.rose (omega arith));
+  call = λ some. then.call (omega arith);
+  same = λ none. absurd (omega (arith, none));
+  unfailed = λ none. absurd (omega (arith, none));
+}
+
+-- the first of the drafts that are left was given up
+pub gives_next : (total left one rest before middle after : ℕ) (f g h : Option BayCall) → left ≡ one + rest → left ≤ total →
+    GivesUp (total - left) before middle f g → GivesUp one middle after g h → NeverFalls before middle → NeverFalls middle after →
+    GivesUp (total - rest) before after f h
+gives_next total left one rest before middle after f g h parts within first then up more =
+    let sum : (total - left) + one ≡ total - rest = omega arith in
+    subst (λ n. GivesUp n before after f h) sum (gives_both (total - left) one before middle after f g h first then up more)
+
+-- a refusal, behind which the count and the call stayed
+pub refused_then : (fault : BayFault) (before middle after : ℕ) (f g h : Option BayCall) → Answers {T = Unit {0}} (Err fault) before middle f g →
+    after ≡ middle → h ≡ g → Answers {T = Unit {0}} (Err fault) before after f h
+refused_then fault before middle after f g h answers same unfailed =
+    subst (λ n. Answers {T = Unit {0}} (Err fault) before n f h) (sym same) (subst (λ call. Answers {T = Unit {0}} (Err fault) before middle f call) (sym unfailed) answers)
+
+module _ {S : Type 0} (header : S → Option (List ℕ)) (files : S → Option (List MemFile)) (begun : S → Option (List ℕ)) (admits : S → List ℕ → Type 0) (faults : S → ℕ) where
+  pub keeps_none : (bay : S) → Keeps header files begun admits faults bay bay
+  keeps_none bay = record { header_same = refl; files_same = refl; begun_same = refl; still = λ path admitted. admitted; count = omega arith }
+
+  pub keeps_then : (old middle new : S) → Keeps header files begun admits faults old middle → Keeps header files begun admits faults middle new → Keeps header files begun admits faults old new
+  keeps_then old middle new first then = record {
+    header_same = then.header_same ∙ first.header_same;
+    files_same = then.files_same ∙ first.files_same;
+    begun_same = then.begun_same ∙ first.begun_same;
+    still = λ path admitted. then.still path (first.still path admitted);
+    count = omega (arith, first.count, then.count);
+  }

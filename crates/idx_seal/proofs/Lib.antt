@@ -1,0 +1,2 @@
+pub mod BayLemmas
+pub mod RowLemmas

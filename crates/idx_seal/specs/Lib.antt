@@ -1,0 +1,3 @@
+pub mod Bay
+pub mod Files
+pub mod Jobs
