@@ -1,0 +1,8 @@
+pub mod FileLemmas
+pub mod AwaitedLemmas
+pub mod GainLemmas
+pub mod ShipLemmas
+pub mod DeliveryLemmas
+pub mod RowLemmas
+pub mod ReadyLemmas
+pub mod HeldLemmas
