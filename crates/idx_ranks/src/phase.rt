@@ -86,6 +86,7 @@ fn read_all<V: Source + Send, G: Gate, R: Threads + Sync>(
 {
     let whole = header.region();
     prove!(whole.axes() >= 2);
+    // It tells that the raw volumes fit in the room that they have, so that they can be moved back there.
     raws.reserve(0)?;
     let mut reads = Vec::with_capacity(alloc, raws.len())?;
     let mut jobs = make_jobs(alloc, header, raws)?;
