@@ -1,1 +1,9 @@
 pub mod Loads
+pub mod Faults
+pub mod Jobs
+pub mod Settled
+pub mod Queues
+pub use Rattle.idx_pieces.specs.Ranks
+pub use Rattle.idx_pieces.specs.Pieces
+pub use Rattle.idx_pieces.specs.Samples
+pub use Rattle.idx_pieces.specs.Refusals
