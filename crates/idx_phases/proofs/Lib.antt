@@ -1,0 +1,10 @@
+pub mod RunLemmas
+pub mod SealLemmas
+pub mod EditionLemmas
+pub mod CommitLemmas
+pub mod DigitLemmas
+pub mod DockingLemmas
+pub mod PairLemmas
+pub mod CauseLemmas
+pub mod BatchLemmas
+pub mod ShipLemmas

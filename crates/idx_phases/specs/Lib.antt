@@ -1,0 +1,4 @@
+pub mod Refusals
+pub mod Windows
+pub mod States
+pub mod Causes

@@ -1,0 +1,26 @@
+//! From raw volumes to the files of a step, byte for byte those that the format defines, by many workers and in bounded
+//! memory (PIDX, Kumar et al.).
+#![tactic(auto)]
+
+mod batch;
+mod batches;
+mod committing;
+mod digits;
+mod docking;
+mod docks;
+mod finishing;
+mod gather_fault;
+mod length;
+mod opening;
+mod parcelled;
+mod sealed;
+mod sealing;
+mod starting;
+mod wanted;
+mod window;
+
+pub use docking::Docking;
+pub use gather_fault::GatherFault;
+pub use opening::Opening;
+pub use parcelled::Parcelled;
+pub use sealed::Sealed;
