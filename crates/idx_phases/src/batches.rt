@@ -18,8 +18,8 @@ use std::alloc::Global;
 use std::thread::Threads;
 
 impl<L: Leaf> Docking<L> {
-    /// Reads the next batch of pieces, with one worker for each rank, out of as many raw volumes. The first one's length is
-    /// asked first.
+    /// Reads the next batch of pieces, with one worker for each rank, out of as many raw volumes. The first one's
+    /// length is asked first.
     pub fn parcel<V: Source + Send, G: Gate, R: Threads + Sync>(
         self,
         rt: &R,

@@ -6,8 +6,8 @@ use idx_header::Header;
 /// The most pieces of a box have a number of so many digits, where the room is large enough.
 const FRONT_DIGITS: u32 = 6;
 
-/// How many last digits of the Z addresses of a piece's points are free: as many as let four such pieces fit into so many
-/// bytes, and make at most 64 pieces.
+/// How many last digits of the Z addresses of a piece's points are free: as many as let four such pieces fit into so
+/// many bytes, and make at most 64 pieces.
 pub(crate) fn piece_digits(header: &Header, room: u64) -> u32
     ensures digits { result ≡ piece_digits header.now room }
     ensures within { result ≤ length header.now.mask }

@@ -7,7 +7,8 @@ use crate::GatherFault;
 use idx_header::Header;
 use idx_outside::Source;
 
-/// Asks the first raw volume for its length, which is to be that of the samples of the box. None of its bytes is asked for.
+/// Asks the first raw volume for its length, which is to be that of the samples of the box. None of its bytes is
+/// asked for.
 pub(crate) fn check_length<V: Source>(header: &Header, raws: &mut Vec<V>) -> Result<(), GatherFault>
     requires some { 0 < vec_len raws.old }
     ensures right { OnOk result (HasVolume header.now (contents_at V.contents raws.old.items 0)) }

@@ -8,8 +8,8 @@ use idx_outside::Leaf;
 use idx_pieces::Piece;
 use idx_ranks::Load;
 
-/// A step that is gathered, with what was read for the aggregators of its next files: as many pieces as fit into the room
-/// together, or one.
+/// A step that is gathered, with what was read for the aggregators of its next files: as many pieces as fit into the
+/// room together, or one.
 #[derive(Drop)]
 pub struct Parcelled<L: Leaf> {
     pub(crate) opening: Opening<L>,

@@ -11,9 +11,9 @@ use idx_pieces::pieces;
 use std::alloc::Global;
 
 impl<L: Leaf> Opening<L> {
-    /// A step of a dataset of which nothing is sealed yet. The box is divided among so many ranks. No more than `room`
-    /// bytes of files, and of samples that are on their way to them, are kept in memory at a time, but for one file and one
-    /// piece.
+    /// A step of a dataset of which nothing is sealed yet. The box is divided among so many ranks. No more than
+    /// `room` bytes of files, and of samples that are on their way to them, are kept in memory at a time, but for one
+    /// file and one piece.
     pub fn new(
         alloc: Global,
         header: &Header,

@@ -22,7 +22,8 @@ pub(crate) fn window_count(header: &Header, files: &[u64], room: u64) -> usize
     files.len()
 }
 
-/// Whether so many more bytes join a run of so many things, which use so much of the room: they fit, or are the first.
+/// Whether so many more bytes join a run of so many things, which use so much of the room: they fit, or are the
+/// first.
 pub(crate) fn joins(count: usize, used: u64, more: u64, room: u64) -> bool
     ensures { result ≡ joins count used more room }
 {
