@@ -1,3 +1,2 @@
-pub mod FirstLemmas
 pub mod NextLemmas
 pub mod StageLemmas

@@ -1,4 +1,3 @@
-pub mod Counts
-pub mod Known
 pub mod Convert
+pub mod Known
 pub mod Stages

@@ -1,14 +1,4 @@
-pub mod RunLemmas
-pub mod SealLemmas
+pub mod ContentLemmas
 pub mod StepLemmas
 pub mod EditionLemmas
 pub mod SomeFileLemmas
-pub mod CommitLemmas
-pub mod DigitLemmas
-pub mod DockingLemmas
-pub mod PairLemmas
-pub mod CauseLemmas
-pub mod BatchLemmas
-pub mod ShipLemmas
-pub mod FirstLemmas
-pub mod SealAllLemmas

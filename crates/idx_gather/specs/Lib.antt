@@ -1,4 +1,1 @@
 pub mod Gather
-pub mod Windows
-pub mod States
-pub mod Causes

@@ -1,29 +1,12 @@
-//! From raw volumes to the files of a step, byte for byte those that the format defines, by many workers and in bounded
-//! memory (PIDX, Kumar et al.).
+//! From a raw volume to the files of a step, byte for byte those that the format defines.
 #![tactic(auto)]
 
-mod batch;
-mod batches;
-mod committing;
-mod digits;
-mod docking;
-mod docks;
-mod finishing;
+mod content;
 mod gather_fault;
 mod gathering;
-mod length;
-mod opening;
-mod parcelled;
-mod sealed;
-mod sealing;
-mod sealing_all;
-mod starting;
-mod wanted;
-mod window;
+mod step;
+mod table;
+mod volume;
 
-pub use docking::Docking;
 pub use gather_fault::GatherFault;
 pub use gathering::gather;
-pub use opening::Opening;
-pub use parcelled::Parcelled;
-pub use sealed::Sealed;

@@ -22,7 +22,6 @@ use report::report;
 use std::alloc::AllocError;
 use std::io::ErrorKind;
 use std::process::ExitCode;
-use std::thread::Threads;
 use std::{env, io};
 use usage::{text_asked_for, write_text};
 
@@ -31,7 +30,7 @@ fn main(rt: HostRuntime) -> ExitCode {
         Ok(words) => match text_asked_for(&words) {
             Some(text) => give_text(&rt, text),
             None => match tcp_doors(&rt, rt, &words) {
-                Ok(doors) => give_run(&rt, &rt, &words, doors),
+                Ok(doors) => give_run(&rt, &words, doors),
                 Err(AllocError) => give_up(&rt, Cause::NoMemory),
             },
         },
@@ -52,25 +51,19 @@ fn give_text(rt: &HostRuntime, text: &str) -> ExitCode {
     report(rt.alloc(), &mut rt.stderr(), done, &[], out.last_fault())
 }
 
-/// Does what the words ask for, over files, standard output and these doors, with threads of this runtime.
-fn give_run<T: Threads + Sync, R: Sockets>(
-    rt: &HostRuntime,
-    threads: &T,
-    words: &[String],
-    doors: Vec<StdDoor<R>>,
-) -> ExitCode
+/// Does what the words ask for, over files, standard output and these doors.
+fn give_run<R: Sockets>(rt: &HostRuntime, words: &[String], doors: Vec<StdDoor<R>>) -> ExitCode
     requires { 0 < vec_len doors }
 {
-    match run_over_files(rt, threads, words, doors) {
+    match run_over_files(rt, words, doors) {
         Ok(status) => status,
         Err(AllocError) => give_up(rt, Cause::NoMemory),
     }
 }
 
 /// The same, where there is memory for the objects of the outside.
-fn run_over_files<T: Threads + Sync, R: Sockets>(
+fn run_over_files<R: Sockets>(
     rt: &HostRuntime,
-    threads: &T,
     words: &[String],
     mut doors: Vec<StdDoor<R>>,
 ) -> Result<ExitCode, AllocError>
@@ -81,7 +74,6 @@ fn run_over_files<T: Threads + Sync, R: Sockets>(
     let mut readers = file_readers(rt)?;
     let mut out = StdSink::new(rt.stdout());
     let done = run(
-        threads,
         rt.alloc(),
         words,
         &mut raws,
