@@ -925,6 +925,17 @@ def comb_texts() -> list[bytes]:
     return [b"0 63 1 1", b"a uint8[16]", b"V000000" + b"1" * 20, b"20", b"64", b"./%02x.bin", b"0 9 time%04d/"]
 
 
+def long_files(bench: Bench) -> None:
+    """A volume of some hundred points whose one file would have as many bytes as a file may have, or more.
+
+    Its raw volume is too short, so that no such file is written.
+    """
+    last = bench.random.choice([*range(500, 512), 511, 511])
+    texts = [b"0 %d 1 1" % last, b"a uint8[16]", b"V" + b"0" * 9 + b"1" * 20, b"20", b"256", b"./%03x.bin", b"0 9 time%04d/"]
+    write(bench, b"r.raw", bench.random.randbytes(16))
+    bench.run([b"convert", b"v.idx", b"r.raw", *texts, b"0", *draw_options(bench.random, b"convert")])
+
+
 def put_spread_file(bench: Bench, header: Header, step: int) -> None:
     """Puts the file of a step in which most blocks are there, each beginning a little behind the one before."""
     random = bench.random
@@ -1186,7 +1197,7 @@ KINDS: list[tuple[int, Callable[[Bench], None]]] = [
     (25, conversions), (12, cuts), (10, second_conversions), (8, standing_headers), (12, damages), (8, odd_files),
     (14, headers), (8, asked_headers), (10, wrong_words), (6, others_in_place), (2, long_names), (3, sinks), (5, large),
     (3, large_cuts), (2, large_volumes), (8, revisions), (3, revision_gaps), (2, revision_faults), (1, last_revisions),
-    (2, without_time), (1, rounds),
+    (2, without_time), (1, rounds), (2, long_files),
 ]
 """The kinds of cases, each with how often it comes."""
 

@@ -15,7 +15,7 @@ from dataclasses import dataclass, field
 from reference import (LARGEST_ANSWER, REVISIONS, Box, Header, HeaderFault, Refusal, answer, answer_size, asked_points,
                        box_word, check_table, count_of_points, covers, file_bytes, file_path, files_of_step, has_levels,
                        header_words, is_inside, mask_word, number, outside_axis, parse_header, place_in_volume,
-                       step_folder, volume_size)
+                       step_folder, too_large, volume_size)
 
 # The words of the command line
 
@@ -265,8 +265,9 @@ def convert(words: Sequence[bytes], folder: bytes) -> Outcome:
     header = refuse_fault(text)
     if not header.time.first <= step <= header.time.last:
         raise Refusal(8, f"no step {step}")
-    if volume_size(header) > 2**30:
-        raise Refusal(8, f"too large {volume_size(header)}")
+    size = too_large(header)
+    if size is not None:
+        raise Refusal(8, f"too large {size}")
     standing = read_store(dataset)
     if standing and refuse_fault(standing) != header:
         raise Refusal(6, "other header")

@@ -503,9 +503,29 @@ def files_of_step(header: Header) -> list[int]:
     return sorted({file_of_block(block, header.blocks_per_file) for block in present_blocks(header)})
 
 
+LARGEST_VOLUME, LARGEST_FILE = 2**36, 2**32
+"""The most bytes that the samples of a step and a file of it may take to be written."""
+
+
 def volume_size(header: Header) -> int:
     """The bytes of the raw volume."""
     return count_of_points(header.box) * sum(each.sample_size() for each in header.fields)
+
+
+def file_size(header: Header, blocks: int) -> int:
+    """The bytes of a file with so many present blocks of each field."""
+    return header.table_size() + blocks * sum(each.sample_size() << header.bits_per_block for each in header.fields)
+
+
+def too_large(header: Header) -> int | None:
+    """The bytes of a volume that is too large to write, or of the first file of the step that is; None where none is."""
+    if volume_size(header) > LARGEST_VOLUME:
+        return volume_size(header)
+    if file_size(header, header.blocks_per_file) <= LARGEST_FILE:
+        return None
+    files = [file_of_block(block, header.blocks_per_file) for block in present_blocks(header)]
+    sizes = [file_size(header, files.count(file)) for file in sorted(set(files))]
+    return next((size for size in sizes if size > LARGEST_FILE), None)
 
 
 def block_bytes(header: Header, which: int, block: int, raw: bytes) -> bytes:

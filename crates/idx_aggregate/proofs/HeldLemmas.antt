@@ -21,7 +21,7 @@ use Rattle.idx_fields.specs.Field.{field_at, sample_bytes}
 use Rattle.idx_header.specs.Header.{HeaderValue, IsHeader, sample_bytes_of}
 use Rattle.idx_layout.proofs.ListLemmas.{range_with_len-more}
 use Rattle.idx_pieces.specs.Joined.{HoldsWhereAllDo}
-use Rattle.idx_pieces.specs.Pieces.{IsPiece, front_bounds, part_of}
+use Rattle.idx_pieces.specs.Pieces.{IsPiece, front_bounds, part_of, piece_region}
 use Rattle.idx_pieces.specs.Ranks.{rank_count, rank_region}
 use Rattle.idx_pieces.specs.Refusals.{double_at, has_parcel, is_of_piece, missing_rank, same_bounds, stranger_at, why_not}
 use Rattle.idx_pieces.specs.Samples.{AreSamples, HoldsSamples, region_bytes, samples_in}
@@ -30,7 +30,7 @@ use Rattle.idx_pieces.specs.declared.piece.Piece.{Piece}
 use Rattle.idx_pieces.specs.declared.why.Why.{Why}
 use Rattle.idx_pieces.specs.declared.why.Why.TheVariants.{Stranger, Double, Missing}
 use Rattle.idx_pieces.proofs.JoinLists.{joined_agree, joined_places, joined_within, length-joined}
-use Rattle.idx_pieces.proofs.LawLemmas.{only_rank, ranks_of_piece}
+use Rattle.idx_pieces.proofs.LawLemmas.{only_rank, piece_exact, ranks_of_piece}
 use Rattle.idx_pieces.proofs.RankLemmas.{length-rank_region}
 use Rattle.idx_pieces.proofs.RefusalLemmas.{bounds_same, contains_from_test}
 
@@ -268,6 +268,17 @@ module _ (h : HeaderValue) (piece : Piece) (parcels : List Parcel) (valid : IsHe
         inside = ((HasExactly-common (rank_region h.box piece.of_ranks parcel.rank) piece.region (same_axes parcel.rank) p).0 (subst (λ r. LiesIn r p) region inside)).0;
       }
 
+  -- the points of a parcel lie in the box
+  pub own_inside : (k : ℕ) (d : Parcel) (p : List ℕ) → k < length parcels → LiesIn (get_or parcels k d).region p → LiesIn h.box p
+  own_inside k d p within inside =
+      let parcel : Parcel = get_or parcels k d in
+      let own = and_parts ((parcel.piece == piece.id) && list_any (λ rank. rank == parcel.rank) piece.ranks) (same_bounds parcel.region (part_of h piece parcel.rank)) (strangers k d within) in
+      let region : parcel.region ≡ part_of h piece parcel.rank = bounds_same parcel.region (part_of h piece parcel.rank) own.1 in
+      let here : LiesIn piece.region p =
+      ((HasExactly-common (rank_region h.box piece.of_ranks parcel.rank) piece.region (same_axes parcel.rank) p).0 (subst (λ r. LiesIn r p) region inside)).1 in
+      let whole : piece.region ≡ piece_region h.mask h.box is.e piece.id = ap (λ (piece : Piece). piece.region) is.is in
+      ((piece_exact h is.e piece.id valid is.within is.some p).0 (subst (λ r. LiesIn r p) whole here)).0
+
   found_own : (k : ℕ) (d : Parcel) (p : List ℕ) → k < length parcels → LiesIn (get_or parcels k d).region p → find (λ parcel. lies parcel.region p) parcels ≡ Some (get_or parcels k d)
   found_own k d p within inside =
       find_at (λ (parcel : Parcel). lies parcel.region p) parcels
@@ -284,7 +295,7 @@ module _ (h : HeaderValue) (piece : Piece) (parcels : List Parcel) (valid : IsHe
               let two = of_rank (get_or parcels k d) p (strangers k d within) inside in
               absurd (ranks_apart i k d less within (only_rank h.box piece.of_ranks (get_or parcels i d).rank (get_or parcels k d).rank p valid.region one.few two.few one.inside two.inside))
 
-  point_in : (region : List (ℕ × ℕ)) (p : List ℕ) → Contains (points region) p → LiesIn region p
+  pub point_in : (region : List (ℕ × ℕ)) (p : List ℕ) → Contains (points region) p → LiesIn region p
   point_in region p among =
       (LiesIn-slice_get region among.0 p (slice_get-get_or (points region) among.0 p among.1 ∙ ap Some among.2)).0
 

@@ -4,6 +4,7 @@ use idx_commands::Cause;
 use idx_header::HeaderKind;
 use std::alloc::{AllocError, Global};
 use std::test::Fail;
+use std::thread::Threads;
 
 pub(crate) const WORDS: &str =
     "convert|v.idx|r.raw|0 3 0 3|a uint8|V0101|2|2|./%01x.bin|0 9 time%04d/|0";
@@ -385,7 +386,10 @@ static FAILURES: [Failure; 14] = [
 ];
 
 /// The number of the first failure that does not end as it is to, if there is one.
-fn first_other_failure(alloc: Global) -> Result<Option<usize>, AllocError> {
+fn first_other_failure<T: Threads + Sync>(
+    rt: &T,
+    alloc: Global,
+) -> Result<Option<usize>, AllocError> {
     for (number, (raw, bay, drafts, cause, header)) in FAILURES.iter().enumerate() {
         let case = Case {
             fails: Fails {
@@ -399,7 +403,7 @@ fn first_other_failure(alloc: Global) -> Result<Option<usize>, AllocError> {
             step_after: Some(EMPTY),
             ..BASE
         };
-        if first_other(alloc, &[case])?.is_some() {
+        if first_other(rt, alloc, &[case])?.is_some() {
             return Ok(Some(number));
         }
     }
@@ -408,30 +412,30 @@ fn first_other_failure(alloc: Global) -> Result<Option<usize>, AllocError> {
 
 #[test]
 fn files_are_tables_and_blocks(rt: HostRuntime) -> Result<(), Fail> {
-    assert_eq!(rt; first_other(rt.alloc(), &STEPS)?, None);
+    assert_eq!(rt; first_other(&rt, rt.alloc(), &STEPS)?, None);
     Ok(())
 }
 
 #[test]
 fn a_second_step_stands_behind_the_first(rt: HostRuntime) -> Result<(), Fail> {
-    assert_eq!(rt; first_other(rt.alloc(), &SECONDS)?, None);
+    assert_eq!(rt; first_other(&rt, rt.alloc(), &SECONDS)?, None);
     Ok(())
 }
 
 #[test]
 fn the_first_refusal_ends_convert(rt: HostRuntime) -> Result<(), Fail> {
-    assert_eq!(rt; first_other(rt.alloc(), &REFUSALS)?, None);
+    assert_eq!(rt; first_other(&rt, rt.alloc(), &REFUSALS)?, None);
     Ok(())
 }
 
 #[test]
 fn what_stands_is_refused_in_order(rt: HostRuntime) -> Result<(), Fail> {
-    assert_eq!(rt; first_other(rt.alloc(), &MEETINGS)?, None);
+    assert_eq!(rt; first_other(&rt, rt.alloc(), &MEETINGS)?, None);
     Ok(())
 }
 
 #[test]
 fn a_failed_call_leaves_no_step(rt: HostRuntime) -> Result<(), Fail> {
-    assert_eq!(rt; first_other_failure(rt.alloc())?, None);
+    assert_eq!(rt; first_other_failure(&rt, rt.alloc())?, None);
     Ok(())
 }

@@ -1,17 +1,20 @@
 //! Laws of several runs, one after another.
 ghost use Rattle.std.specs.Prelude.{◌≡◌, ◌≢◌, ◌↔◌, ◌<◌, map, vec_len, string_bytes};
 ghost use Rattle.idx_outside.specs.Objects.{SameContents, contents_at};
+ghost use Rattle.idx_gather.specs.Gather.{HaveSame};
 ghost use Rattle.idx_words.specs.Words.{GiveCommand, GiveConvert};
-ghost use Rattle.idx_commands.specs.Run.{HaveSameContents, WroteAnswer};
+ghost use Rattle.idx_commands.specs.Run.{WroteAnswer};
 
 use idx_commands::{Done, run};
 use idx_outside::{Bay, Door, Reader, Sink, Source};
 use std::alloc::Global;
+use std::thread::Threads;
 
 /// Runs a command that is not `convert` twice, each time over a sink of its own, and says how each run ended. Both are
 /// answered from what there was before the first: a question changes nothing that a later one is answered from. A sink is
 /// untouched where its run ends with neither 0 nor 9.
-pub fn ask_twice<V: Source, B: Bay, R: Reader<B::Leaf>, K: Sink, D: Door>(
+pub fn ask_twice<V: Source + Send, B: Bay, R: Reader<B::Leaf>, K: Sink, D: Door, T: Threads + Sync>(
+    rt: &T,
     alloc: Global,
     words: &[String],
     raws: &mut Vec<V>,
@@ -21,10 +24,13 @@ pub fn ask_twice<V: Source, B: Bay, R: Reader<B::Leaf>, K: Sink, D: Door>(
     second: &mut K,
     doors: &mut Vec<D>,
 ) -> (Done, Done)
+where
+    B::Draft: Send,
+    B::Leaf: Send,
     requires some { 0 < vec_len raws.old }
     requires reader { 0 < vec_len readers.old }
     requires door { 0 < vec_len doors.old }
-    requires same { HaveSameContents V.contents raws.old.items }
+    requires same { HaveSame V.contents raws.old.items }
     requires asks { ¬ GiveConvert (map string_bytes words.now) }
     ensures first { result.0.status ≡ 0 → WroteAnswer (map string_bytes words.now)
         (contents_at V.contents raws.old.items 0) (B.header bay.old) (B.files bay.old)
@@ -41,7 +47,7 @@ pub fn ask_twice<V: Source, B: Bay, R: Reader<B::Leaf>, K: Sink, D: Door>(
     ensures files { B.files bay.new ≡ B.files bay.old }
     ensures changes { B.changes bay.new ≡ B.changes bay.old }
 {
-    let before = run(alloc, words, raws, bay, readers, first, doors);
-    let after = run(alloc, words, raws, bay, readers, second, doors);
+    let before = run(rt, alloc, words, raws, bay, readers, first, doors);
+    let after = run(rt, alloc, words, raws, bay, readers, second, doors);
     (before, after)
 }

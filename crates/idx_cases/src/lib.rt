@@ -13,10 +13,14 @@ mod laws;
 #[cfg(test)]
 mod query_cases;
 #[cfg(test)]
+mod rank_cases;
+#[cfg(test)]
 mod revision_cases;
 #[cfg(test)]
 mod serve_cases;
 #[cfg(test)]
 mod setting;
+#[cfg(test)]
+mod waiting_source;
 
 pub use laws::ask_twice;

@@ -6,6 +6,7 @@ use idx_header::HeaderKind;
 use idx_table::TableKind;
 use std::alloc::{AllocError, Global};
 use std::test::Fail;
+use std::thread::Threads;
 
 /// The calls fail that would be the first of the raw volume, the seventh of the bay, the seventh of the reader and the second
 /// of the sink.
@@ -310,7 +311,10 @@ static FAILURES: [Failure; 13] = [
 ];
 
 /// The number of the first failure that does not end as it is to, if there is one.
-fn first_other_failure(alloc: Global) -> Result<Option<usize>, AllocError> {
+fn first_other_failure<T: Threads + Sync>(
+    rt: &T,
+    alloc: Global,
+) -> Result<Option<usize>, AllocError> {
     for (number, (bay, reader, cause, reads)) in FAILURES.iter().enumerate() {
         let case = Case {
             fails: Fails {
@@ -322,7 +326,7 @@ fn first_other_failure(alloc: Global) -> Result<Option<usize>, AllocError> {
             reads: *reads,
             ..REFUSED
         };
-        if first_other(alloc, &[case])?.is_some() {
+        if first_other(rt, alloc, &[case])?.is_some() {
             return Ok(Some(number));
         }
     }
@@ -344,9 +348,18 @@ pub(crate) static DAMAGES: [Damage; 8] = [
 ];
 
 /// The number of the first damage, to the first file or to the second, that is not answered as it is to be.
-fn first_other_damage(alloc: Global) -> Result<Option<usize>, AllocError> {
+fn first_other_damage<T: Threads + Sync>(
+    rt: &T,
+    alloc: Global,
+) -> Result<Option<usize>, AllocError> {
     for (number, damage) in DAMAGES.iter().enumerate() {
-        if first_other(alloc, &[first_damaged(*damage), second_damaged(*damage)])?.is_some() {
+        if first_other(
+            rt,
+            alloc,
+            &[first_damaged(*damage), second_damaged(*damage)],
+        )?
+        .is_some()
+        {
             return Ok(Some(number));
         }
     }
@@ -397,42 +410,42 @@ const DAMAGED: Case = Case {
 
 #[test]
 fn samples_between_levels_are_written(rt: HostRuntime) -> Result<(), Fail> {
-    assert_eq!(rt; first_other(rt.alloc(), &ANSWERS)?, None);
+    assert_eq!(rt; first_other(&rt, rt.alloc(), &ANSWERS)?, None);
     Ok(())
 }
 
 #[test]
 fn absent_samples_are_zeros(rt: HostRuntime) -> Result<(), Fail> {
-    assert_eq!(rt; first_other(rt.alloc(), &ABSENCES)?, None);
+    assert_eq!(rt; first_other(&rt, rt.alloc(), &ABSENCES)?, None);
     Ok(())
 }
 
 #[test]
 fn a_converted_volume_is_answered(rt: HostRuntime) -> Result<(), Fail> {
-    assert_eq!(rt; first_other(rt.alloc(), &CONVERTED)?, None);
+    assert_eq!(rt; first_other(&rt, rt.alloc(), &CONVERTED)?, None);
     Ok(())
 }
 
 #[test]
 fn the_first_refusal_ends_query(rt: HostRuntime) -> Result<(), Fail> {
-    assert_eq!(rt; first_other(rt.alloc(), &REFUSALS)?, None);
+    assert_eq!(rt; first_other(&rt, rt.alloc(), &REFUSALS)?, None);
     Ok(())
 }
 
 #[test]
 fn a_refusal_comes_before_any_read(rt: HostRuntime) -> Result<(), Fail> {
-    assert_eq!(rt; first_other(rt.alloc(), &UNREAD)?, None);
+    assert_eq!(rt; first_other(&rt, rt.alloc(), &UNREAD)?, None);
     Ok(())
 }
 
 #[test]
 fn a_failed_call_ends_query(rt: HostRuntime) -> Result<(), Fail> {
-    assert_eq!(rt; first_other_failure(rt.alloc())?, None);
+    assert_eq!(rt; first_other_failure(&rt, rt.alloc())?, None);
     Ok(())
 }
 
 #[test]
 fn the_first_faulty_row_ends_query(rt: HostRuntime) -> Result<(), Fail> {
-    assert_eq!(rt; first_other_damage(rt.alloc())?, None);
+    assert_eq!(rt; first_other_damage(&rt, rt.alloc())?, None);
     Ok(())
 }

@@ -10,6 +10,7 @@ use idx_memory::MemBay;
 use idx_outside::{Bay, Bytes};
 use std::alloc::{AllocError, Global};
 use std::test::Fail;
+use std::thread::Threads;
 
 /// The step of the bytes 16 to 31.
 const SECOND: Step = Step {
@@ -140,21 +141,26 @@ fn revised(alloc: Global, count: u32) -> Result<MemBay, AllocError> {
 }
 
 /// How a conversion ends of which this call of the raw volume fails.
-fn converted(alloc: Global, bay: &mut MemBay, raw: u64) -> Result<Done, AllocError> {
+fn converted<T: Threads + Sync>(
+    rt: &T,
+    alloc: Global,
+    bay: &mut MemBay,
+    raw: u64,
+) -> Result<Done, AllocError> {
     let fails = Fails { raw, ..NONE_FAILS };
-    let end = run_over(alloc, WORDS, (0, 16), fails, bay, unused_door(alloc)?)?;
+    let end = run_over(rt, alloc, WORDS, (0, 16), fails, bay, unused_door(alloc)?)?;
     Ok(end.done)
 }
 
 #[test]
 fn a_step_is_written_again_behind_what_stands(rt: HostRuntime) -> Result<(), Fail> {
-    assert_eq!(rt; first_other(rt.alloc(), &WRITINGS)?, None);
+    assert_eq!(rt; first_other(&rt, rt.alloc(), &WRITINGS)?, None);
     Ok(())
 }
 
 #[test]
 fn the_newest_revision_is_read(rt: HostRuntime) -> Result<(), Fail> {
-    assert_eq!(rt; first_other(rt.alloc(), &READINGS)?, None);
+    assert_eq!(rt; first_other(&rt, rt.alloc(), &READINGS)?, None);
     Ok(())
 }
 
@@ -162,11 +168,11 @@ fn the_newest_revision_is_read(rt: HostRuntime) -> Result<(), Fail> {
 fn a_step_has_256_revisions(rt: HostRuntime) -> Result<(), Fail> {
     let alloc = rt.alloc();
     let mut bay = revised(alloc, 255)?;
-    assert_eq!(rt; converted(alloc, &mut bay, 0)?, Done::of(Cause::Done));
+    assert_eq!(rt; converted(&rt, alloc, &mut bay, 0)?, Done::of(Cause::Done));
     assert_eq!(rt; bay.committed().len(), 257);
     assert!(rt; bay.has_step(b"time0000.r255").ok() == Some(true));
     let full = Done::of(Cause::AlreadyPublished { time: 0 });
-    assert_eq!(rt; converted(alloc, &mut bay, 1)?, full);
+    assert_eq!(rt; converted(&rt, alloc, &mut bay, 1)?, full);
     assert_eq!(rt; bay.committed().len(), 257);
     Ok(())
 }

@@ -9,6 +9,7 @@ use idx_memory::{MemDoor, MemLink};
 use idx_outside::{Bytes, Served};
 use std::alloc::{AllocError, Global};
 use std::test::Fail;
+use std::thread::Threads;
 
 /// The input of a link.
 #[derive(Clone, Copy)]
@@ -398,18 +399,26 @@ fn came_back(door: &MemDoor, written: &[Replies]) -> bool {
 }
 
 /// Whether a run ends as it is to.
-fn ends_as_wanted(alloc: Global, serving: &Serving) -> Result<bool, AllocError> {
+fn ends_as_wanted<T: Threads + Sync>(
+    rt: &T,
+    alloc: Global,
+    serving: &Serving,
+) -> Result<bool, AllocError> {
     let door = door_of(alloc, serving.links, serving.door)?;
-    match door_after(alloc, &serving.case, door)? {
+    match door_after(rt, alloc, &serving.case, door)? {
         Some(door) => Ok(came_back(&door, serving.written)),
         None => Ok(false),
     }
 }
 
 /// The number of the first run that does not end as it is to, if there is one.
-fn first_other(alloc: Global, servings: &[Serving]) -> Result<Option<usize>, AllocError> {
+fn first_other<T: Threads + Sync>(
+    rt: &T,
+    alloc: Global,
+    servings: &[Serving],
+) -> Result<Option<usize>, AllocError> {
     for (number, serving) in servings.iter().enumerate() {
-        if !ends_as_wanted(alloc, serving)? {
+        if !ends_as_wanted(rt, alloc, serving)? {
             return Ok(Some(number));
         }
     }
@@ -417,7 +426,10 @@ fn first_other(alloc: Global, servings: &[Serving]) -> Result<Option<usize>, All
 }
 
 /// The number of the first failure that does not end as it is to, if there is one.
-fn first_other_failure(alloc: Global) -> Result<Option<usize>, AllocError> {
+fn first_other_failure<T: Threads + Sync>(
+    rt: &T,
+    alloc: Global,
+) -> Result<Option<usize>, AllocError> {
     for (number, (bay, reader, reads)) in FAILURES.iter().enumerate() {
         let case = Case {
             fails: Fails {
@@ -429,7 +441,7 @@ fn first_other_failure(alloc: Global) -> Result<Option<usize>, AllocError> {
             reads: *reads,
             ..REFUSED_CASE
         };
-        if !ends_as_wanted(alloc, &Serving { case, ..REFUSED })? {
+        if !ends_as_wanted(rt, alloc, &Serving { case, ..REFUSED })? {
             return Ok(Some(number));
         }
     }
@@ -437,19 +449,22 @@ fn first_other_failure(alloc: Global) -> Result<Option<usize>, AllocError> {
 }
 
 /// Whether a case of `query` that ends before a block is read ends so as one of `serve` too.
-fn ends_as_query(alloc: Global, case: Case) -> Result<bool, AllocError> {
+fn ends_as_query<T: Threads + Sync>(rt: &T, alloc: Global, case: Case) -> Result<bool, AllocError> {
     let case = Case {
         words: CASE.words,
         ..case
     };
-    ends_as_wanted(alloc, &Serving { case, ..REFUSED })
+    ends_as_wanted(rt, alloc, &Serving { case, ..REFUSED })
 }
 
 /// The number of the first damage, to the first file or to the second, that is not answered as it is to be.
-fn first_other_damage(alloc: Global) -> Result<Option<usize>, AllocError> {
+fn first_other_damage<T: Threads + Sync>(
+    rt: &T,
+    alloc: Global,
+) -> Result<Option<usize>, AllocError> {
     for (number, damage) in DAMAGES.iter().enumerate() {
-        if !ends_as_query(alloc, first_damaged(*damage))?
-            || !ends_as_query(alloc, second_damaged(*damage))?
+        if !ends_as_query(rt, alloc, first_damaged(*damage))?
+            || !ends_as_query(rt, alloc, second_damaged(*damage))?
         {
             return Ok(Some(number));
         }
@@ -459,30 +474,30 @@ fn first_other_damage(alloc: Global) -> Result<Option<usize>, AllocError> {
 
 #[test]
 fn links_are_answered_and_counted(rt: HostRuntime) -> Result<(), Fail> {
-    assert_eq!(rt; first_other(rt.alloc(), &ANSWERS)?, None);
+    assert_eq!(rt; first_other(&rt, rt.alloc(), &ANSWERS)?, None);
     Ok(())
 }
 
 #[test]
 fn the_first_refusal_ends_serve(rt: HostRuntime) -> Result<(), Fail> {
-    assert_eq!(rt; first_other(rt.alloc(), &REFUSALS)?, None);
+    assert_eq!(rt; first_other(&rt, rt.alloc(), &REFUSALS)?, None);
     Ok(())
 }
 
 #[test]
 fn a_link_that_breaks_ends_alone(rt: HostRuntime) -> Result<(), Fail> {
-    assert_eq!(rt; first_other(rt.alloc(), &BREAKS)?, None);
+    assert_eq!(rt; first_other(&rt, rt.alloc(), &BREAKS)?, None);
     Ok(())
 }
 
 #[test]
 fn a_failed_call_ends_serve_before_any_link(rt: HostRuntime) -> Result<(), Fail> {
-    assert_eq!(rt; first_other_failure(rt.alloc())?, None);
+    assert_eq!(rt; first_other_failure(&rt, rt.alloc())?, None);
     Ok(())
 }
 
 #[test]
 fn the_first_faulty_row_ends_serve(rt: HostRuntime) -> Result<(), Fail> {
-    assert_eq!(rt; first_other_damage(rt.alloc())?, None);
+    assert_eq!(rt; first_other_damage(&rt, rt.alloc())?, None);
     Ok(())
 }

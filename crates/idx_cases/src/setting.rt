@@ -3,6 +3,7 @@ use idx_commands::{Cause, Done, run};
 use idx_memory::{MemBay, MemDoor, MemReader, MemSink, MemSource};
 use idx_outside::{Bytes, MemFile};
 use std::alloc::{AllocError, Global};
+use std::thread::Threads;
 
 /// The header text of a dataset of one byte a sample: two axes of two bits each, blocks of four samples, files of two
 /// blocks, ten steps.
@@ -79,9 +80,13 @@ pub(crate) struct Case {
 }
 
 /// The number of the first case that does not end as it is to, if there is one.
-pub(crate) fn first_other(alloc: Global, cases: &[Case]) -> Result<Option<usize>, AllocError> {
+pub(crate) fn first_other<T: Threads + Sync>(
+    rt: &T,
+    alloc: Global,
+    cases: &[Case],
+) -> Result<Option<usize>, AllocError> {
     for (number, case) in cases.iter().enumerate() {
-        if !ends_as_wanted(alloc, case)? {
+        if !ends_as_wanted(rt, alloc, case)? {
             return Ok(Some(number));
         }
     }
@@ -89,12 +94,17 @@ pub(crate) fn first_other(alloc: Global, cases: &[Case]) -> Result<Option<usize>
 }
 
 /// Whether a case that uses no door ends as it is to.
-fn ends_as_wanted(alloc: Global, case: &Case) -> Result<bool, AllocError> {
-    Ok(door_after(alloc, case, unused_door(alloc)?)?.is_some())
+fn ends_as_wanted<T: Threads + Sync>(
+    rt: &T,
+    alloc: Global,
+    case: &Case,
+) -> Result<bool, AllocError> {
+    Ok(door_after(rt, alloc, case, unused_door(alloc)?)?.is_some())
 }
 
 /// The door after the run of a case over it. `None` where the run does not end as it is to.
-pub(crate) fn door_after(
+pub(crate) fn door_after<T: Threads + Sync>(
+    rt: &T,
     alloc: Global,
     case: &Case,
     door: MemDoor,
@@ -102,9 +112,17 @@ pub(crate) fn door_after(
     let mut bay = bay_of(alloc, case)?;
     if !case.earlier.is_empty() {
         let earlier = unused_door(alloc)?;
-        let _ = run_over(alloc, case.earlier, case.raw, NONE_FAILS, &mut bay, earlier)?;
+        let _ = run_over(
+            rt,
+            alloc,
+            case.earlier,
+            case.raw,
+            NONE_FAILS,
+            &mut bay,
+            earlier,
+        )?;
     }
-    let end = run_over(alloc, case.words, case.raw, case.fails, &mut bay, door)?;
+    let end = run_over(rt, alloc, case.words, case.raw, case.fails, &mut bay, door)?;
     if is_wanted(&end, case) && leaves_as_wanted(alloc, case, &bay)? {
         Ok(end.door)
     } else {
@@ -160,7 +178,7 @@ fn begins_with(bay: &MemBay, files: &Vec<MemFile>) -> bool {
 }
 
 /// Whether the last files of a bay are exactly those of a step, behind as many as it says.
-fn holds_step(alloc: Global, step: Step, bay: &MemBay) -> Result<bool, AllocError> {
+pub(crate) fn holds_step(alloc: Global, step: Step, bay: &MemBay) -> Result<bool, AllocError> {
     let files = files_of(alloc, step)?;
     let committed = bay.committed();
     Ok(
@@ -181,7 +199,8 @@ fn is_same(found: &MemFile, wanted: &MemFile) -> bool {
 }
 
 /// A run on these words over a bay, this raw volume, a reader, a sink and a door.
-pub(crate) fn run_over(
+pub(crate) fn run_over<T: Threads + Sync>(
+    rt: &T,
     alloc: Global,
     line: &str,
     raw: (u8, usize),
@@ -198,6 +217,7 @@ pub(crate) fn run_over(
     doors.push(door)?;
     let mut out = MemSink::new(calls(alloc, fails.sink)?);
     let done = run(
+        rt,
         alloc,
         &words,
         &mut raws,
@@ -217,7 +237,7 @@ pub(crate) fn run_over(
 }
 
 /// The words of a line, which stand between its bars.
-fn words_in(alloc: Global, line: &str) -> Result<Vec<String>, AllocError> {
+pub(crate) fn words_in(alloc: Global, line: &str) -> Result<Vec<String>, AllocError> {
     let mut words = Vec::new(alloc);
     for word in line.split('|') {
         words.push(String::from_str(alloc, word)?)?;

@@ -1,9 +1,9 @@
 -- What a run of `convert` comes to where what it meets is known.
-use Rattle.std.proofs.Common.{◌≡◌, ◌≢◌, ◌⊎◌, ℕ, ◌<◌, List, [], length, Option, Some, None, Ok, Err, IsErr, IsSome, IfSome, IsSomeAnd, inl, inr, refl, sym, ap, ◌∙◌, subst, arith}
+use Rattle.std.proofs.Common.{◌≡◌, ◌≢◌, ◌⊎◌, ℕ, ◌<◌, List, [], drop, length, min, Option, Some, None, Ok, Err, IsErr, IsSome, IfSome, IsSomeAnd, inl, inr, refl, sym, ap, ◌∙◌, subst, arith}
 use Rattle.std.specs.Prelude.{Result}
 use Rattle.std.proofs.lemmas.Bool.{false≢true}
 use Rattle.idx_outside.specs.Cause.{NeverFalls, Rose}
-use Rattle.idx_outside.specs.Objects.{UsesOnly}
+use Rattle.idx_outside.specs.Objects.{SameContents}
 use Rattle.idx_outside.specs.declared.bay_call.BayCall.{BayCall}
 use Rattle.idx_outside.specs.declared.bay_call.BayCall.TheVariants as calls
 use Rattle.idx_outside.specs.declared.mem_file.MemFile.{MemFile}
@@ -12,10 +12,11 @@ use Rattle.idx_header.specs.Header.{HeaderValue, Agree, volume_bytes}
 use Rattle.idx_header.specs.HeaderOf.{header_of}
 use Rattle.idx_header.specs.OfBay.{IsFaultOfSome}
 use Rattle.idx_header.specs.Revisions.{header_to_write}
-use Rattle.idx_gather.specs.Gather.{HasFolder, LacksVolume, too_large}
+use Rattle.idx_gather.specs.Gather.{HasFolder, LacksVolume, NoneFalls, too_large}
 use Rattle.idx_convert.specs.declared.convert_fault.ConvertFault.{ConvertFault}
 use Rattle.idx_convert.specs.declared.convert_fault.ConvertFault.TheVariants as faults
 use Rattle.idx_convert.specs.Convert.{Asks, AsksFor, Begins, Converted, Differs, Ends, IsCause, IsEarly, IsFailedCall, IsRight, LeavesFailed, Suits, Takes, put_where_none}
+use Rattle.idx_convert.specs.Counts.{SomeHigher, SomeRose}
 use Rattle.idx_convert.specs.Known.{KeepsBay, Known}
 use Rattle.idx_words.specs.ConvertValue.{ConvertValue}
 use Rattle.idx_words.specs.Built.{IsBuilt}
@@ -24,7 +25,7 @@ use Rattle.idx_commands.specs.declared.causes.Cause.{Cause}
 use Rattle.idx_commands.specs.declared.causes.Cause.TheVariants as causes
 use Rattle.idx_commands.specs.Cause.{status_of}
 use Rattle.idx_commands.specs.Known.{known}
-use Rattle.idx_commands.specs.Seen.{BaySeen, RawsSeen, bay_after, bay_before, raw_after, raw_before}
+use Rattle.idx_commands.specs.Seen.{BaySeen, RawsSeen, bay_after, bay_before, raws_after, raws_before}
 use Rattle.idx_commands.specs.ConvertRun.{AsksForText, cause_of_fault, ConvertEnds, ConvertMeans, Fails, FailsAtHeader, FailsFirst, IsEarlyCause}
 use Rattle.idx_commands.proofs.KnownLemmas.{both_hold, not_refused, one_header}
 use Rattle.idx_commands.specs.Due.{HasOtherLength, HasRightLength, IsBadText, IsFree, IsTooLarge, LacksStep, MeetsBadHeader, MeetsOtherHeader, MeetsStep}
@@ -133,7 +134,7 @@ module _ (text : List ℕ) (step : ℕ) (k : Known) where
     Late faults.AlreadyPublished = IfSome k.header (Suits h) × IfSome k.files (IsFull h step)
     Late (faults.RawWrongSize want found) =
         Takes h step k.header k.files × (want ≡ volume_bytes h) × (found ≢ want) × IfSome k.raw (λ bytes. found ≡ length bytes)
-    Late faults.RawFault = Takes h step k.header k.files × Rose k.raw_before k.raw_after
+    Late faults.RawFault = Takes h step k.header k.files × SomeRose k.raw_before k.raw_after
     Late faults.StoreFault = Rose k.bay_before k.bay_after
     Late faults.NoMemory = Unit {0}
 
@@ -151,7 +152,7 @@ module _ (text : List ℕ) (step : ℕ) (k : Known) where
     late (faults.RawWrongSize want found) c =
         of_header (λ g. Takes g step k.header k.files × (want ≡ volume_bytes g) × (found ≢ want)
         × IfSome k.raw (λ bytes. found ≡ length bytes)) c
-    late faults.RawFault c = of_header (λ g. Takes g step k.header k.files × Rose k.raw_before k.raw_after) c
+    late faults.RawFault c = of_header (λ g. Takes g step k.header k.files × SomeRose k.raw_before k.raw_after) c
     late faults.StoreFault c = of_header (λ g. Rose k.bay_before k.bay_after) c
     late faults.NoMemory c = tt
 
@@ -238,7 +239,7 @@ module _ (text : List ℕ) (step : ℕ) (k : Known) where
       other_length other (faults.TooLarge bytes) f c = absurd c
 
       -- so is the length, and no fault was counted
-      complete : IsSomeAnd k.raw (HasRightLength h) → ¬ Rose k.raw_before k.raw_after → ¬ Rose k.bay_before k.bay_after → (fault : ConvertFault) → Late fault →
+      complete : IsSomeAnd k.raw (HasRightLength h) → ¬ SomeRose k.raw_before k.raw_after → ¬ Rose k.bay_before k.bay_after → (fault : ConvertFault) → Late fault →
           (st fault ≡ 0) ⊎ (st fault ≡ 11)
       complete right raw_quiet bay_quiet (faults.Header line kind) c = absurd (both_hold k.header (λ known. IsFaultOfSome known line kind) _ (suits_not_refused h line kind) c suits)
       complete right raw_quiet bay_quiet faults.OtherHeader c = absurd (both_hold k.header (Differs h) _ differs_too c suits)
@@ -330,7 +331,7 @@ module _ (c : ConvertValue) (k : Known) (cause : Cause) (ends : ConvertMeans c k
       (λ fault caused call. other_length text c.step k h asked suits new other fault call (late text c.step k h asked fault caused)) cause ends
 
   pub complete_ends : (text : List ℕ) → IsBuilt c text → IsFree k.header k.files k.raw HasRightLength text c.step →
-      ¬ Rose k.raw_before k.raw_after → ¬ Rose k.bay_before k.bay_after → (status_of cause ≡ 0) ⊎ (status_of cause ≡ 11)
+      ¬ SomeRose k.raw_before k.raw_after → ¬ Rose k.bay_before k.bay_after → (status_of cause ≡ 0) ⊎ (status_of cause ≡ 11)
   complete_ends text built (h, (asked, (suits, new, right))) raw_quiet bay_quiet =
       judged (λ s. (s ≡ 0) ⊎ (s ≡ 11)) c k text built
       (λ wrote. inl refl) (inr refl)
@@ -338,7 +339,7 @@ module _ (c : ConvertValue) (k : Known) (cause : Cause) (ends : ConvertMeans c k
 
 -- a fault of the raw volume or of the store has its cause
 only_raw : (text : List ℕ) (step : ℕ) (k : Known) (fault : ConvertFault) → cause_of_fault step fault ≡ causes.RawFault → C text step k fault →
-    Rose k.raw_before k.raw_after
+    SomeRose k.raw_before k.raw_after
 only_raw text step k faults.RawFault is c = c.1.1.1
 only_raw text step k _ is c = absurd cc
 
@@ -347,7 +348,7 @@ only_store : (text : List ℕ) (step : ℕ) (k : Known) (fault : ConvertFault) �
 only_store text step k faults.StoreFault is c = c.1.1
 only_store text step k _ is c = absurd cc
 
-pub raw_cause : (c : ConvertValue) (k : Known) → ConvertMeans c k causes.RawFault → Rose k.raw_before k.raw_after
+pub raw_cause : (c : ConvertValue) (k : Known) → ConvertMeans c k causes.RawFault → SomeRose k.raw_before k.raw_after
 raw_cause c k (text, (built, f)) = only_raw text c.step k f.fault (sym f.is) f.caused
 
 pub store_cause : (c : ConvertValue) (k : Known) → ConvertMeans c k causes.StoreFault → Rose k.bay_before k.bay_after
@@ -390,7 +391,7 @@ module _ (c : ConvertValue) (text : List ℕ) (built : IsBuilt c text) (k : Know
       }
 
   starves : Ends {T = Unit {0}} text c.step k (Err faults.NoMemory) → ConvertMeans c k causes.NoMemory
-  starves e = record { files = e.files; header = put e.header; asked = inr (text, (built, e.asked)); failed = e.failed }
+  starves e = record { files = e.files; header = put e.header; failed = e.failed }
     where
       put : (k.header_after ≡ k.header) ⊎ (k.header_after ≡ put_where_none text k.header) →
           (k.header_after ≡ k.header) ⊎ AsksForText c (λ text. k.header_after ≡ put_where_none text k.header)
@@ -452,7 +453,7 @@ module _ (c : ConvertValue) (text : List ℕ) (built : IsBuilt c text) (k : Know
   begins (inl same) = inl same
   begins (inr there) = inr (text, (built, there))
 
-  raw_answered : (result : Result (Unit {0}) ConvertFault) → Ends {T = Unit {0}} text c.step k result → k.raw_before < k.raw_after →
+  raw_answered : (result : Result (Unit {0}) ConvertFault) → Ends {T = Unit {0}} text c.step k result → SomeHigher k.raw_before k.raw_after →
       cause_of_end c.step result ≡ causes.RawFault
   raw_answered result e more = ap (cause_of_end c.step) (e.raw_answered more)
 
@@ -465,14 +466,20 @@ module _ {V B : Type 0} (c : ConvertValue) (raws : RawsSeen V) (bay : BaySeen B)
   abbrev k : Known
   k = known raws bay
 
+  -- what stays of the raw volumes
+  pub record RawsKept : Type 0 where
+    pub same : SameContents raws.contents raws.old raws.new
+    pub idle : drop (min c.ranks (length raws.old)) raws.new ≡ drop (min c.ranks (length raws.old)) raws.old
+    pub counts : NoneFalls (raws_before raws) (raws_after raws)
+
   ends_by : (cause : Cause) → ConvertMeans c k cause →
-      (raw_before raws < raw_after raws → cause ≡ causes.RawFault) → (bay_before bay < bay_after bay → cause ≡ causes.StoreFault) →
+      (SomeHigher (raws_before raws) (raws_after raws) → cause ≡ causes.RawFault) → (bay_before bay < bay_after bay → cause ≡ causes.StoreFault) →
       (IsEarlyCause k.raw cause → KeepsBay k) →
       (AsksForText c (λ text. Asks text c.step (λ h. LacksVolume h k.raw)) → k.asked_after ≡ k.asked_before) →
       (status_of cause ≡ 5 → AsksForText c (λ text. IsFailedCall text c.step k k.failed_after)) →
       (¬ (status_of cause ≡ 5) → k.failed_after ≡ k.failed) →
       (k.begun_after ≡ k.begun) ⊎ AsksForText c (λ text. Asks text c.step (λ h. Begins h c.step k)) →
-      UsesOnly raws.contents raws.faults 0 raws.old raws.new → NeverFalls (bay_before bay) (bay_after bay) → ConvertEnds c raws bay cause
+      RawsKept → NeverFalls (bay_before bay) (bay_after bay) → ConvertEnds c raws bay cause
   ends_by cause m raw_more store_more early apart five other folder kept count =
       record {
         means = m;
@@ -491,12 +498,14 @@ module _ {V B : Type 0} (c : ConvertValue) (raws : RawsSeen V) (bay : BaySeen B)
         failed = five;
         unfailed = other;
         begun = folder;
-        raws_kept = kept;
+        raws_kept = kept.same;
+        raws_idle = kept.idle;
+        raw_counts = kept.counts;
         bay_count = count;
       }
 
   ended : (text : List ℕ) (result : Result (Unit {0}) ConvertFault) → IsBuilt c text → Ends {T = Unit {0}} text c.step k result →
-      UsesOnly raws.contents raws.faults 0 raws.old raws.new → ConvertEnds c raws bay (cause_of_end c.step result)
+      RawsKept → ConvertEnds c raws bay (cause_of_end c.step result)
   ended text result built e kept =
       ends_by (cause_of_end c.step result) (means c text built k result e) (raw_answered c text built k result e) (store_answered c text built k result e)
       (keeps c text built k result e) (unread c text built k result e) (failed_five c text built k result e) (unfailed c text built k result e)
@@ -504,7 +513,7 @@ module _ {V B : Type 0} (c : ConvertValue) (raws : RawsSeen V) (bay : BaySeen B)
 
   -- the header text was made, and the conversion of this step ended with this answer
   pub convert_ends : (text : List ℕ) (step : ℕ) (result : Result (Unit {0}) ConvertFault) (cause : Cause) → step ≡ c.step → cause ≡ cause_of_end step result →
-      IsBuilt c text → Ends {T = Unit {0}} text step k result → UsesOnly raws.contents raws.faults 0 raws.old raws.new → ConvertEnds c raws bay cause
+      IsBuilt c text → Ends {T = Unit {0}} text step k result → RawsKept → ConvertEnds c raws bay cause
   convert_ends text step result cause same is built e kept =
       subst (ConvertEnds c raws bay) (sym is)
       (subst (λ s. ConvertEnds c raws bay (cause_of_end s result)) (sym same)

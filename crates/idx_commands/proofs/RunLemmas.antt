@@ -1,9 +1,13 @@
 -- What a run comes to, by the command that its words give and by how that command ended.
-use Rattle.std.proofs.Common.{◌≡◌, ◌≢◌, ◌⊎◌, ℕ, ◌+◌, ◌<◌, ◌≤◌, List, [], ◌∷◌, Option, Result, Ok, inl, inr, refl, sym, ◌∙◌, ap, subst, length, take, drop, bytes_eq, codes, arith}
+use Rattle.std.proofs.Common.{◌≡◌, ◌≢◌, ◌⊎◌, ℕ, zero, suc, ◌+◌, ◌<◌, ◌≤◌, List, [], ◌∷◌, Option, Result, Ok, inl, inr, refl, sym, ◌∙◌, ap, subst, length, map, take, drop, slice_index, bytes_eq, codes, arith}
 use Rattle.std.proofs.lemmas.Bool.{false≢true}
+use Rattle.std.proofs.lemmas.List.{length-map}
 use Rattle.idx_outside.specs.Cause.{Rose}
 use Rattle.idx_outside.specs.Contents.{appended, AppendsPrefix}
-use Rattle.idx_outside.specs.Objects.{OthersUntouched, UsesOnly, faults_at}
+use Rattle.idx_outside.specs.Objects.{OthersUntouched, SameContents, UsesOnly, faults_at}
+use Rattle.idx_gather.specs.Gather.{NoneFalls}
+use Rattle.idx_convert.specs.Counts.{SomeHigher, SomeRose}
+use Rattle.idx_convert.proofs.StageLemmas.{none_higher}
 use Rattle.idx_words.specs.declared.cut_words.CutWords.{CutWords}
 use Rattle.idx_words.specs.ConvertValue.{ConvertValue}
 use Rattle.idx_words.specs.QueryValue.{QueryValue}
@@ -72,10 +76,46 @@ not_less count old new same = let equal : count new ≡ count old = ap count sam
 others_same : {T : Type 0} (old new : List T) → new ≡ old → OthersUntouched old new 0
 others_same old new same = record { before = ap (λ xs. take 0 xs) same; behind = ap (λ xs. drop (0 + 1) xs) same }
 
-uses_none : {T : Type 0} (contents : T → Option (List ℕ)) (count : T → ℕ) (old new : List T) → new ≡ old → UsesOnly contents count 0 old new
-uses_none contents count old new same =
-    subst (λ xs. UsesOnly contents count 0 old xs) (sym same)
-    (record { same = refl; others = others_same old old refl; count = not_less (λ xs. faults_at count xs 0) old old refl })
+none_fell : {T : Type 0} (count : T → ℕ) (old new : List T) → new ≡ old → NoneFalls (map count old) (map count new)
+none_fell count old new same = subst (λ xs. NoneFalls (map count old) (map count xs)) (sym same) (refl, λ i within. omega arith)
+
+-- ---- where only the first of some objects is used
+
+-- the counts of the others are as they were
+other_counts : {T : Type 0} (count : T → ℕ) (old new : List T) (i : ℕ) → length new ≡ length old → OthersUntouched old new 0 →
+    slice_index (map count new) (suc i) ≡ slice_index (map count old) (suc i)
+other_counts count [] [] i number others = refl
+other_counts count [] (y ∷ new) i number others = absurd (omega (arith, number))
+other_counts count (x ∷ old) [] i number others = absurd (omega (arith, number))
+other_counts count (x ∷ old) (y ∷ new) i number others = ap (λ xs. slice_index (map count xs) i) others.behind
+
+as_many : {T : Type 0} (contents : T → Option (List ℕ)) (old new : List T) → SameContents contents old new → length new ≡ length old
+as_many contents old new same = sym (length-map new contents) ∙ ap length same ∙ length-map old contents
+
+-- its count is the one that rose
+first_rose : {T : Type 0} (contents : T → Option (List ℕ)) (count : T → ℕ) (old new : List T) → SameContents contents old new →
+    Rose (faults_at count old 0) (faults_at count new 0) → SomeRose (map count old) (map count new)
+first_rose contents count (x ∷ old) new same rose = (0, (omega arith, rose))
+first_rose contents count [] (y ∷ new) same rose = absurd (omega (arith, as_many contents [] (y ∷ new) same))
+first_rose contents count [] [] same (inl more) = absurd (omega (arith, more))
+first_rose contents count [] [] same (inr (first, last)) = absurd (omega (arith, first))
+
+-- or the one that is higher
+first_higher : {T : Type 0} (contents : T → Option (List ℕ)) (count : T → ℕ) (old new : List T) → UsesOnly contents count 0 old new →
+    SomeHigher (map count old) (map count new) → faults_at count old 0 < faults_at count new 0
+first_higher contents count old new kept (zero, (within, more)) = more
+first_higher contents count old new kept (suc i, (within, more)) =
+    let same : slice_index (map count new) (suc i) ≡ slice_index (map count old) (suc i) = other_counts count old new i (as_many contents old new kept.same) kept.others in
+    absurd (omega (arith, same, more))
+
+-- none fell
+first_falls : {T : Type 0} (contents : T → Option (List ℕ)) (count : T → ℕ) (old new : List T) → UsesOnly contents count 0 old new →
+    NoneFalls (map count old) (map count new)
+first_falls contents count old new kept = (length-map new count ∙ as_many contents old new kept.same ∙ sym (length-map old count), each)
+  where
+    each : (i : ℕ) → i < length (map count old) → slice_index (map count old) i ≤ slice_index (map count new) i
+    each zero within = kept.count
+    each (suc i) within = omega (arith, other_counts count old new i (as_many contents old new kept.same) kept.others)
 
 not_changed : {B : Type 0} (bay : BaySeen B) → bay.new ≡ bay.old → IsUnchanged bay
 not_changed bay same =
@@ -153,7 +193,7 @@ module _ {V B R K D L : Type 0} (words : List (List ℕ)) (seen : RunSeen V B R 
   pub written : (command : Command) → Give words command → (cause : Cause) → E command cause → status_of cause ≡ 0 →
       WroteAnswer words (raw_bytes seen.raws) (seen.bay.header seen.bay.old) (seen.bay.files seen.bay.old)
       (seen.sink.contents seen.sink.old) (seen.sink.contents seen.sink.new)
-  written command gives cause e zero = (command, (gives, writes command (subst (E command) (done_is cause zero) e)))
+  written command gives cause e none = (command, (gives, writes command (subst (E command) (done_is cause none) e)))
 
   pub cut_off : (command : Command) → Give words command → (cause : Cause) → E command cause → status_of cause ≡ 9 →
       WrotePrefix words (raw_bytes seen.raws) (seen.bay.header seen.bay.old) (seen.bay.files seen.bay.old)
@@ -164,7 +204,7 @@ module _ {V B R K D L : Type 0} (words : List (List ℕ)) (seen : RunSeen V B R 
       seen.sink.new ≡ seen.sink.old
   silent (Cut c) cause e = cut_silent c seen.raws seen.sink cause e.0.means
   silent Info cause e = info_silent seen.bay seen.sink cause e.0.means
-  silent (Convert c) cause e = λ zero nine. e.2
+  silent (Convert c) cause e = λ none nine. e.2
   silent (Query q) cause e = query_silent q seen.bay seen.readers seen.sink cause e.0.means
   silent (Serve v) cause e = serve_silent v seen.bay seen.readers seen.sink seen.doors cause e.0.means
 
@@ -173,8 +213,8 @@ module _ {V B R K D L : Type 0} (words : List (List ℕ)) (seen : RunSeen V B R 
   abbrev reader_count : List R → ℕ
   reader_count readers = faults_at seen.readers.faults readers 0
 
-  abbrev raw_count : List V → ℕ
-  raw_count raws = faults_at seen.raws.faults raws 0
+  not_higher : seen.raws.new ≡ seen.raws.old → SomeHigher (map seen.raws.faults seen.raws.old) (map seen.raws.faults seen.raws.new) → ⊥
+  not_higher same = none_higher (map seen.raws.faults seen.raws.old) (map seen.raws.faults seen.raws.new) (ap (map seen.raws.faults) same)
 
   abbrev door_count : List D → ℕ
   door_count doors = faults_at seen.doors.faults doors 0
@@ -183,14 +223,16 @@ module _ {V B R K D L : Type 0} (words : List (List ℕ)) (seen : RunSeen V B R 
   counts_faults (Cut c) gives cause e =
       let m : (other : Cause) → cause ≡ other → CutMeans c (raw_bytes seen.raws) (raw_before seen.raws) (raw_after seen.raws) seen.sink other = λ other is. subst (CutMeans c (raw_bytes seen.raws) (raw_before seen.raws) (raw_after seen.raws) seen.sink) is e.0.means in
       record {
-        raw_fault = λ four. (m causes.RawFault (raw_fault_is cause four)).0;
+        raw_fault = λ four. first_rose seen.raws.contents seen.raws.faults seen.raws.old seen.raws.new e.0.raws_kept.same
+            (m causes.RawFault (raw_fault_is cause four)).0;
         raw_used = λ four. inl (c, gives);
         store_fault = λ five. absurd (m causes.StoreFault (store_fault_is cause five));
         store_used = λ five. absurd (m causes.StoreFault (store_fault_is cause five));
         sink_fault = λ nine. (m causes.SinkFault (sink_fault_is cause nine)).1;
         door_fault = λ twelve. absurd (m causes.DoorFault (door_fault_is cause twelve));
         door_used = λ twelve. absurd (m causes.DoorFault (door_fault_is cause twelve));
-        raw_answered = λ more. ap status_of (e.0.raw_answered more);
+        raw_answered = λ more. ap status_of (e.0.raw_answered
+            (first_higher seen.raws.contents seen.raws.faults seen.raws.old seen.raws.new e.0.raws_kept more));
         store_answered = λ more. absurd (not_more seen.bay.faults seen.bay.old seen.bay.new e.1 more);
         reader_answered = λ other more. absurd (not_more reader_count seen.readers.old seen.readers.new e.2 more);
         sink_answered = λ more. ap status_of (e.0.sink_answered more);
@@ -206,7 +248,7 @@ module _ {V B R K D L : Type 0} (words : List (List ℕ)) (seen : RunSeen V B R 
         sink_fault = λ nine. (m causes.SinkFault (sink_fault_is cause nine)).0;
         door_fault = λ twelve. absurd (m causes.DoorFault (door_fault_is cause twelve)).0;
         door_used = λ twelve. absurd (m causes.DoorFault (door_fault_is cause twelve)).0;
-        raw_answered = λ more. absurd (not_more raw_count seen.raws.old seen.raws.new e.1 more);
+        raw_answered = λ more. absurd (not_higher e.1 more);
         store_answered = λ more. ap status_of (e.0.store_answered more);
         reader_answered = λ other more. absurd (not_more reader_count seen.readers.old seen.readers.new e.2 more);
         sink_answered = λ more. ap status_of (e.0.sink_answered more);
@@ -240,7 +282,7 @@ module _ {V B R K D L : Type 0} (words : List (List ℕ)) (seen : RunSeen V B R 
         sink_fault = λ nine. (m causes.SinkFault (sink_fault_is cause nine)).0;
         door_fault = λ twelve. absurd (m causes.DoorFault (door_fault_is cause twelve));
         door_used = λ twelve. absurd (m causes.DoorFault (door_fault_is cause twelve));
-        raw_answered = λ more. absurd (not_more raw_count seen.raws.old seen.raws.new e.1 more);
+        raw_answered = λ more. absurd (not_higher e.1 more);
         store_answered = λ more. ap status_of (e.0.store_answered more);
         reader_answered = λ other more. ap status_of (e.0.reader_answered more);
         sink_answered = λ more. ap status_of (e.0.sink_answered more);
@@ -262,7 +304,7 @@ module _ {V B R K D L : Type 0} (words : List (List ℕ)) (seen : RunSeen V B R 
         sink_fault = λ nine. (m causes.SinkFault (sink_fault_is cause nine)).0;
         door_fault = λ twelve. door_rose v seen.bay seen.readers seen.sink seen.doors (m causes.DoorFault (door_fault_is cause twelve));
         door_used = λ twelve. (v, gives);
-        raw_answered = λ more. absurd (not_more raw_count seen.raws.old seen.raws.new e.1 more);
+        raw_answered = λ more. absurd (not_higher e.1 more);
         store_answered = λ more. ap status_of (e.0.store_answered more);
         reader_answered = λ other more. absurd (other (v, gives));
         sink_answered = λ more. ap status_of (e.0.sink_answered more);
@@ -299,7 +341,10 @@ module _ {V B R K D L : Type 0} (words : List (List ℕ)) (seen : RunSeen V B R 
   pub leaves_rest : (command : Command) → Give words command → Only command → (cause : Cause) → E command cause → LeavesRest words seen
   leaves_rest (Cut c) gives only cause e =
       record {
-        raws = e.0.raws_kept;
+        raws = e.0.raws_kept.same;
+        raw_counts = first_falls seen.raws.contents seen.raws.faults seen.raws.old seen.raws.new e.0.raws_kept;
+        other_raws = λ never. e.0.raws_kept.others;
+        idle_raws = λ asked given. (of_convert (Cut c) only cause e asked given).raws_idle;
         readers = others_same seen.readers.old seen.readers.new e.2;
         reader_list = ap length e.2;
         reader_count = not_less reader_count seen.readers.old seen.readers.new e.2;
@@ -319,7 +364,10 @@ module _ {V B R K D L : Type 0} (words : List (List ℕ)) (seen : RunSeen V B R 
       }
   leaves_rest Info gives only cause e =
       record {
-        raws = uses_none seen.raws.contents seen.raws.faults seen.raws.old seen.raws.new e.1;
+        raws = ap (map seen.raws.contents) e.1;
+        raw_counts = none_fell seen.raws.faults seen.raws.old seen.raws.new e.1;
+        other_raws = λ never. others_same seen.raws.old seen.raws.new e.1;
+        idle_raws = λ asked given. (of_convert Info only cause e asked given).raws_idle;
         readers = others_same seen.readers.old seen.readers.new e.2;
         reader_list = ap length e.2;
         reader_count = not_less reader_count seen.readers.old seen.readers.new e.2;
@@ -340,6 +388,9 @@ module _ {V B R K D L : Type 0} (words : List (List ℕ)) (seen : RunSeen V B R 
   leaves_rest (Convert c) gives only cause e =
       record {
         raws = e.0.raws_kept;
+        raw_counts = e.0.raw_counts;
+        other_raws = λ never. absurd (never (c, gives));
+        idle_raws = λ asked given. (of_convert (Convert c) only cause e asked given).raws_idle;
         readers = others_same seen.readers.old seen.readers.new e.1;
         reader_list = ap length e.1;
         reader_count = not_less reader_count seen.readers.old seen.readers.new e.1;
@@ -359,7 +410,10 @@ module _ {V B R K D L : Type 0} (words : List (List ℕ)) (seen : RunSeen V B R 
       }
   leaves_rest (Query q) gives only cause e =
       record {
-        raws = uses_none seen.raws.contents seen.raws.faults seen.raws.old seen.raws.new e.1;
+        raws = ap (map seen.raws.contents) e.1;
+        raw_counts = none_fell seen.raws.faults seen.raws.old seen.raws.new e.1;
+        other_raws = λ never. others_same seen.raws.old seen.raws.new e.1;
+        idle_raws = λ asked given. (of_convert (Query q) only cause e asked given).raws_idle;
         readers = e.0.others;
         reader_list = e.0.reader_list;
         reader_count = e.0.reader_count;
@@ -379,7 +433,10 @@ module _ {V B R K D L : Type 0} (words : List (List ℕ)) (seen : RunSeen V B R 
       }
   leaves_rest (Serve v) gives only cause e =
       record {
-        raws = uses_none seen.raws.contents seen.raws.faults seen.raws.old seen.raws.new e.1;
+        raws = ap (map seen.raws.contents) e.1;
+        raw_counts = none_fell seen.raws.faults seen.raws.old seen.raws.new e.1;
+        other_raws = λ never. others_same seen.raws.old seen.raws.new e.1;
+        idle_raws = λ asked given. (of_convert (Serve v) only cause e asked given).raws_idle;
         readers = e.0.others;
         reader_list = e.0.reader_list;
         reader_count = e.0.reader_count;

@@ -1,22 +1,23 @@
 -- How a run of `convert` ends, by what is seen of the raw volumes and of the bay.
-use Rattle.std.specs.Prelude.{◌≡◌, ◌⊎◌, ℕ, ◌<◌, List, Option, Some, Err, IsSome}
+use Rattle.std.specs.Prelude.{◌≡◌, ◌⊎◌, ℕ, ◌<◌, List, Option, Some, Err, IsSome, drop, length, min}
 use Rattle.idx_outside.specs.Cause.{NeverFalls, Rose}
-use Rattle.idx_outside.specs.Objects.{UsesOnly}
+use Rattle.idx_outside.specs.Objects.{SameContents}
 use Rattle.idx_outside.specs.declared.bay_call.BayCall.{BayCall}
 use Rattle.idx_outside.specs.declared.bay_call.BayCall.TheVariants as calls
-use Rattle.idx_gather.specs.Gather.{LacksVolume}
+use Rattle.idx_gather.specs.Gather.{LacksVolume, NoneFalls}
 use Rattle.idx_words.specs.ConvertValue.{ConvertValue}
 use Rattle.idx_words.specs.Built.{IsBuilt}
 use Rattle.idx_convert.specs.declared.convert_fault.ConvertFault.{ConvertFault}
 use Rattle.idx_convert.specs.declared.convert_fault.ConvertFault.TheVariants as faults
-use Rattle.idx_convert.specs.Convert.{Asks, AsksOnce, Begins, Converted, IsCause, IsFailedCall, LeavesAsked, LeavesFailed, LeavesFiles, LeavesHeader, put_where_none}
+use Rattle.idx_convert.specs.Convert.{Asks, Begins, Converted, IsCause, IsFailedCall, LeavesAsked, LeavesFailed, LeavesFiles, LeavesHeader, put_where_none}
+use Rattle.idx_convert.specs.Counts.{SomeHigher, SomeRose}
 use Rattle.idx_convert.specs.Known.{Known}
 use Rattle.idx_commands.specs.declared.causes.Cause.{Cause}
 use Rattle.idx_commands.specs.declared.causes.Cause.TheVariants as causes
 use Rattle.idx_commands.specs.Cause.{status_of}
 use Rattle.idx_commands.specs.Due.{HasOtherLength, HasRightLength, IsBadText, IsFree, IsTooLarge, LacksStep, MeetsBadHeader, MeetsOtherHeader, MeetsStep}
 use Rattle.idx_commands.specs.Known.{known}
-use Rattle.idx_commands.specs.Seen.{BaySeen, IsUnchanged, RawsSeen, bay_after, bay_before, raw_after, raw_asked_after, raw_asked_before, raw_before, raw_bytes}
+use Rattle.idx_commands.specs.Seen.{BaySeen, IsUnchanged, RawsSeen, bay_after, bay_before, raw_bytes, raws_after, raws_asked_after, raws_asked_before, raws_before}
 
 -- the cause of a run that ends with this fault
 abbrev pub cause_of_fault : ℕ → ConvertFault → Cause
@@ -35,22 +36,21 @@ abbrev pub AsksForText : ConvertValue → (List ℕ → Type 0) → Type 0
 AsksForText c P = (text : List ℕ) × (IsBuilt c text × P text)
 
 -- Nothing was written, but perhaps the header text where none stood, or the step whole where a call on the bay failed: this
--- fault has its cause, leaves what it may, also of the bytes asked of the raw volume, and tells which call of the bay failed.
+-- fault has its cause, leaves what it may, also of the bytes asked of the raw volumes, and tells which call of the bay failed.
 pub record Fails (text : List ℕ) (step : ℕ) (k : Known) (cause : Cause) : Type 0 where
   pub fault : ConvertFault
   pub is : cause ≡ cause_of_fault step fault
   pub caused : IsCause text step k fault
   pub header : LeavesHeader text k fault
   pub files : LeavesFiles text step k fault
-  pub asked : LeavesAsked text step k fault
+  pub asked : LeavesAsked k fault
   pub failed : LeavesFailed {T = Unit {0}} text step k (Err fault)
 
--- There was not enough memory. No file was added, and the header text is the one that stood, or the text where none stood; no
--- call of the bay failed, and one volume's bytes at most were asked of the raw volume.
+-- There was not enough memory. No file was added, and the header text is the one that stood, or the text where none stood; and no
+-- call of the bay failed.
 pub record Starves (c : ConvertValue) (k : Known) : Type 0 where
   pub files : k.files_after ≡ k.files
   pub header : (k.header_after ≡ k.header) ⊎ AsksForText c (λ text. k.header_after ≡ put_where_none text k.header)
-  pub asked : (k.asked_after ≡ k.asked_before) ⊎ AsksForText c (λ text. AsksOnce text c.step k)
   pub failed : k.failed_after ≡ k.failed
 
 -- what each cause says; no other cause comes
@@ -87,9 +87,8 @@ AsksToConvert c P = AsksForText c (λ text. P text c.step)
 -- How a run ends with this cause.
 pub record ConvertEnds {V B : Type 0} (c : ConvertValue) (raws : RawsSeen V) (bay : BaySeen B) (cause : Cause) : Type 0 where
   -- What the cause says: at Done exactly the files of the step at the next revision were added, and the header text put where
-  -- none stood, and one
-  -- volume's bytes were asked of the raw volume; at each other one no file was, but at StoreFault all of them may be, and the
-  -- cause is there. Nothing is asked of the raw volume where its length is wrong, or something that comes before.
+  -- none stood; at each other one no file was, but at StoreFault all of them may be, and the cause is there. No byte is asked
+  -- of a raw volume where its length is wrong, or something that comes before.
   pub means : ConvertMeans c (known raws bay) cause
   -- each refusal comes where it is due, but for faults that come before, and want of memory
   pub bad_text : AsksToConvert c IsBadText → (status_of cause ≡ 2) ⊎ (status_of cause ≡ 11)
@@ -105,21 +104,24 @@ pub record ConvertEnds {V B : Type 0} (c : ConvertValue) (raws : RawsSeen V) (ba
       (status_of cause ≡ 3) ⊎ ((status_of cause ≡ 4) ⊎ (FailsFirst (status_of cause) (bay.failed bay.new) ⊎ (status_of cause ≡ 11)))
   -- where nothing is wrong and no fault was counted, the step is written, unless there is not enough memory
   pub complete : AsksToConvert c (IsFree (bay.header bay.old) (bay.files bay.old) (raw_bytes raws) HasRightLength) →
-      ¬ Rose (raw_before raws) (raw_after raws) → ¬ Rose (bay_before bay) (bay_after bay) →
+      ¬ SomeRose (raws_before raws) (raws_after raws) → ¬ Rose (bay_before bay) (bay_after bay) →
       (status_of cause ≡ 0) ⊎ (status_of cause ≡ 11)
   -- a fault that was counted is answered
-  pub raw_answered : raw_before raws < raw_after raws → cause ≡ causes.RawFault
+  pub raw_answered : SomeHigher (raws_before raws) (raws_after raws) → cause ≡ causes.RawFault
   pub store_answered : bay_before bay < bay_after bay → cause ≡ causes.StoreFault
   -- what can be known before the first change is found before the bay is changed
   pub unbegun : IsEarlyCause (raw_bytes raws) cause → IsUnchanged bay
-  -- a raw volume that is known to have another length than the samples take is not read, whatever the answer
-  pub unread : AsksForText c (λ text. Asks text c.step (λ h. LacksVolume h (raw_bytes raws))) → raw_asked_after raws ≡ raw_asked_before raws
+  -- raw volumes that are known to have another length than the samples take are not read, whatever the answer
+  pub unread : AsksForText c (λ text. Asks text c.step (λ h. LacksVolume h (raw_bytes raws))) →
+      raws_asked_after raws ≡ raws_asked_before raws
   -- the calls of the bay come in their order, as the one that failed tells; at any other cause none failed
   pub failed : status_of cause ≡ 5 → AsksForText c (λ text. IsFailedCall text c.step (known raws bay) (bay.failed bay.new))
   pub unfailed : ¬ (status_of cause ≡ 5) → bay.failed bay.new ≡ bay.failed bay.old
   -- no step is begun but the one that is asked for, at some revision, and the next one where the committed files are known
   pub begun : (bay.begun bay.new ≡ bay.begun bay.old)
       ⊎ AsksForText c (λ text. Asks text c.step (λ h. Begins h c.step (known raws bay)))
-  -- what is known of the raw volumes' bytes stays, none but the first was touched, and no count fell
-  pub raws_kept : UsesOnly raws.contents raws.faults 0 raws.old raws.new
+  -- what is known of the raw volumes' bytes stays, those behind the first, one for each rank, were not touched, and no count fell
+  pub raws_kept : SameContents raws.contents raws.old raws.new
+  pub raws_idle : drop (min c.ranks (length raws.old)) raws.new ≡ drop (min c.ranks (length raws.old)) raws.old
+  pub raw_counts : NoneFalls (raws_before raws) (raws_after raws)
   pub bay_count : NeverFalls (bay_before bay) (bay_after bay)

@@ -1,12 +1,15 @@
 -- What a run promises, by its words and by what is seen of the raw volumes, the bay, the readers, the sink and the doors.
-use Rattle.std.specs.Prelude.{◌≡◌, ◌⊎◌, ℕ, ◌<◌, List, [], ◌∷◌, length, Option, IfSome}
+use Rattle.std.specs.Prelude.{◌≡◌, ◌⊎◌, ℕ, ◌<◌, List, [], ◌∷◌, drop, length, min, Option, IfSome}
 use Rattle.idx_outside.specs.Cause.{NeverFalls, Rose}
 use Rattle.idx_outside.specs.Contents.{appended, AppendsPrefix}
-use Rattle.idx_outside.specs.Objects.{OthersUntouched, UsesOnly, contents_at}
+use Rattle.idx_outside.specs.Objects.{OthersUntouched, SameContents}
 use Rattle.idx_outside.specs.declared.mem_file.MemFile.{MemFile}
 use Rattle.idx_words.specs.declared.command.Command.{Command}
 use Rattle.idx_words.specs.declared.command.Command.TheVariants.{Cut, Info, Convert, Query, Serve}
 use Rattle.idx_words.specs.Words.{Give, GiveConvert, GiveCut, GiveInfo, GiveQuery, GiveServe}
+use Rattle.idx_words.specs.ConvertValue.{ConvertValue}
+use Rattle.idx_gather.specs.Gather.{NoneFalls}
+use Rattle.idx_convert.specs.Counts.{SomeHigher, SomeRose}
 use Rattle.idx_extract.specs.Extract.{Asks}
 use Rattle.idx_commands.specs.declared.causes.Cause.{Cause}
 use Rattle.idx_commands.specs.Cause.{status_of}
@@ -18,11 +21,7 @@ use Rattle.idx_commands.specs.ConvertRun.{ConvertEnds}
 use Rattle.idx_commands.specs.QueryRun.{AnswersStored, QueryEnds, question_of}
 use Rattle.idx_commands.specs.ServeRun.{ServeEnds}
 use Rattle.idx_commands.specs.Totals.{totals}
-use Rattle.idx_commands.specs.Seen.{BaySeen, DoorsSeen, IsUnchanged, RawsSeen, ReadersSeen, SinkSeen, bay_after, bay_before, door_after, door_before, raw_after, raw_before, reader_after, reader_before, sink_after, sink_before}
-
--- The bytes of no raw volume are known, or those of all, and then they are the same.
-abbrev pub HaveSameContents : {V : Type 0} → (V → Option (List ℕ)) → List V → Type 0
-HaveSameContents contents raws = (i : ℕ) → i < length raws → contents_at contents raws i ≡ contents_at contents raws 0
+use Rattle.idx_commands.specs.Seen.{BaySeen, DoorsSeen, IsUnchanged, RawsSeen, ReadersSeen, SinkSeen, bay_after, bay_before, door_after, door_before, raws_after, raws_before, reader_after, reader_before, sink_after, sink_before}
 
 -- the first word is this name of a command
 abbrev pub AreNamed : List (List ℕ) → List ℕ → Type 0
@@ -81,7 +80,7 @@ CommandEnds seen (Serve v) cause =
 -- A fault of an object comes only where it was counted in this call, by a command that uses the object; and one that was counted
 -- is answered.
 pub record CountsFaults {V B R K D L : Type 0} (words : List (List ℕ)) (seen : RunSeen V B R K D L) (cause : Cause) : Type 0 where
-  pub raw_fault : status_of cause ≡ 4 → Rose (raw_before seen.raws) (raw_after seen.raws)
+  pub raw_fault : status_of cause ≡ 4 → SomeRose (raws_before seen.raws) (raws_after seen.raws)
   pub raw_used : status_of cause ≡ 4 → GiveCut words ⊎ GiveConvert words
   pub store_fault : status_of cause ≡ 5 → Rose (bay_before seen.bay) (bay_after seen.bay)
       ⊎ ((GiveQuery words ⊎ GiveServe words) × Rose (reader_before seen.readers) (reader_after seen.readers))
@@ -89,7 +88,7 @@ pub record CountsFaults {V B R K D L : Type 0} (words : List (List ℕ)) (seen :
   pub sink_fault : status_of cause ≡ 9 → Rose (sink_before seen.sink) (sink_after seen.sink)
   pub door_fault : status_of cause ≡ 12 → Rose (door_before seen.doors) (door_after seen.doors)
   pub door_used : status_of cause ≡ 12 → GiveServe words
-  pub raw_answered : raw_before seen.raws < raw_after seen.raws → status_of cause ≡ 4
+  pub raw_answered : SomeHigher (raws_before seen.raws) (raws_after seen.raws) → status_of cause ≡ 4
   pub store_answered : bay_before seen.bay < bay_after seen.bay → status_of cause ≡ 5
   -- a reader's fault while `serve` answers links is told to the peer, as the record of `serve` says
   pub reader_answered : ¬ GiveServe words → reader_before seen.readers < reader_after seen.readers → status_of cause ≡ 5
@@ -98,8 +97,13 @@ pub record CountsFaults {V B R K D L : Type 0} (words : List (List ℕ)) (seen :
 
 -- What a run leaves as it was.
 pub record LeavesRest {V B R K D L : Type 0} (words : List (List ℕ)) (seen : RunSeen V B R K D L) : Type 0 where
-  -- what is known of the raw volumes' bytes stays, no raw volume, no reader and no door but the first was touched, and no count fell
-  pub raws : UsesOnly seen.raws.contents seen.raws.faults 0 seen.raws.old seen.raws.new
+  -- what is known of the raw volumes' bytes stays; none but the first was touched, but for `convert`, and by that none behind the
+  -- first, one for each rank; no reader and no door but the first was touched, and no count fell
+  pub raws : SameContents seen.raws.contents seen.raws.old seen.raws.new
+  pub raw_counts : NoneFalls (raws_before seen.raws) (raws_after seen.raws)
+  pub other_raws : ¬ GiveConvert words → OthersUntouched seen.raws.old seen.raws.new 0
+  pub idle_raws : (c : ConvertValue) → Give words (Convert c) →
+      drop (min c.ranks (length seen.raws.old)) seen.raws.new ≡ drop (min c.ranks (length seen.raws.old)) seen.raws.old
   pub readers : OthersUntouched seen.readers.old seen.readers.new 0
   pub reader_list : length seen.readers.new ≡ length seen.readers.old
   pub reader_count : NeverFalls (reader_before seen.readers) (reader_after seen.readers)

@@ -58,6 +58,20 @@ raw_before raws = faults_at raws.faults raws.old 0
 abbrev pub raw_after : {V : Type 0} → RawsSeen V → ℕ
 raw_after raws = faults_at raws.faults raws.new 0
 
+-- the counts of all raw volumes, before and after
+abbrev pub raws_before : {V : Type 0} → RawsSeen V → List ℕ
+raws_before raws = map raws.faults raws.old
+
+abbrev pub raws_after : {V : Type 0} → RawsSeen V → List ℕ
+raws_after raws = map raws.faults raws.new
+
+-- how many bytes were asked of each raw volume, before and after
+abbrev pub raws_asked_before : {V : Type 0} → RawsSeen V → List ℕ
+raws_asked_before raws = map raws.asked raws.old
+
+abbrev pub raws_asked_after : {V : Type 0} → RawsSeen V → List ℕ
+raws_asked_after raws = map raws.asked raws.new
+
 -- how many bytes were asked of the first raw volume, before and after
 abbrev pub raw_asked_before : {V : Type 0} → RawsSeen V → ℕ
 raw_asked_before raws = faults_at raws.asked raws.old 0

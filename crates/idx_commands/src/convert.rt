@@ -1,4 +1,5 @@
-ghost use Rattle.std.specs.Prelude.{◌≡◌, ◌↔◌, ℕ, ◌<◌, codes, map, string_bytes, vec_len};
+ghost use Rattle.std.specs.Prelude.{◌≡◌, ◌↔◌, ℕ, ◌<◌, ◌≤◌, codes, map, string_bytes, vec_len};
+ghost use Rattle.idx_gather.specs.Gather.{HaveSame};
 ghost use Rattle.idx_words.specs.declared.command.Command.{Command};
 ghost use Rattle.idx_words.specs.ConvertValue.{ConvertValue};
 ghost use Rattle.idx_words.specs.Words.{Give, GiveConvert, IsUsagePlace};
@@ -12,18 +13,25 @@ use idx_convert::{ConvertFault, convert};
 use idx_outside::{Bay, Source};
 use idx_words::{Command, ConvertWords, read_words};
 use std::alloc::Global;
+use std::thread::Threads;
 
 /// Does what the words ask for, whose first is `convert`, and says how it ended. The first refusal ends it, in this order:
-/// the words, the header text that they ask for, its step, its volume's bytes; the header that stands, whether it agrees,
-/// whether a revision of the step is left to write; the raw volume's length; putting the header, beginning the step,
-/// reading the raw volume, writing and committing the files. It uses the first raw volume and the bay.
-pub(crate) fn run_convert<V: Source, B: Bay>(
+/// the words, the header text that they ask for, its step, its volume's bytes, its files' bytes; the header that stands,
+/// whether it agrees, whether a revision of the step is left to write; the raw volume's length; putting the header,
+/// beginning the step, reading the raw volumes, writing and committing the files. It uses the first raw volumes, one for
+/// each of the ranks that the words say, and the bay.
+pub(crate) fn run_convert<V: Source + Send, B: Bay, T: Threads + Sync>(
+    rt: &T,
     alloc: Global,
     words: &[String],
     raws: &mut Vec<V>,
     bay: &mut B,
 ) -> Done
+where
+    B::Draft: Send,
+    B::Leaf: Send,
     requires some { 0 < vec_len raws.old }
+    requires alike { HaveSame V.contents raws.old.items }
     requires named { AreNamed (map string_bytes words.now) (codes "convert") }
     ensures status { result.status ≡ status_of result.cause }
     ensures convert { (c : ConvertValue) → Give (map string_bytes words.now) (Command.Convert c) →
@@ -37,7 +45,7 @@ pub(crate) fn run_convert<V: Source, B: Bay>(
     ensures bay_unasked { result.status ≡ 1 → bay.new ≡ bay.old }
 {
     match read_words(words) {
-        Ok(Command::Convert(words)) => Done::of(convert_volume(alloc, &words, raws, bay)),
+        Ok(Command::Convert(words)) => Done::of(convert_volume(rt, alloc, &words, raws, bay)),
         Ok(Command::Cut(_)) => unreachable!(),
         Ok(Command::Info) => unreachable!(),
         Ok(Command::Query(_)) => unreachable!(),
@@ -46,22 +54,37 @@ pub(crate) fn run_convert<V: Source, B: Bay>(
     }
 }
 
-/// Writes the step that the words ask for out of the first raw volume, at its next revision, and puts the header text that
+/// Writes the step that the words ask for out of the first raw volumes, at its next revision, and puts the header text that
 /// they ask for where none stands.
-fn convert_volume<V: Source, B: Bay>(
+fn convert_volume<V: Source + Send, B: Bay, T: Threads + Sync>(
+    rt: &T,
     alloc: Global,
     words: &ConvertWords<'_>,
     raws: &mut Vec<V>,
     bay: &mut B,
 ) -> Cause
+where
+    B::Draft: Send,
+    B::Leaf: Send,
     requires some { 0 < vec_len raws.old }
+    requires alike { HaveSame V.contents raws.old.items }
+    requires one { 1 ≤ words.now.ranks }
+    requires few { words.now.ranks ≤ 256 }
     ensures { ConvertEnds words.now (raws_seen V.contents V.faults V.asked raws.old.items raws.new.items)
         (bay_seen B.header B.files B.begun B.changes B.failed B.faults bay.old bay.new) result }
 {
     let Ok(text) = words.header_text(alloc) else {
         return Cause::NoMemory;
     };
-    match convert(alloc, text.as_slice(), words.step, raws, bay) {
+    match convert(
+        rt,
+        alloc,
+        text.as_slice(),
+        words.step,
+        words.ranks,
+        raws,
+        bay,
+    ) {
         Ok(()) => Cause::Done,
         Err(fault) => cause_of(words.step, fault),
     }

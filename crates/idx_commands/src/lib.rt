@@ -17,7 +17,7 @@ mod totals;
 pub use causes::{Cause, Done};
 pub use cut::run_cut;
 pub use examples::{worked_cut, worked_names, worked_summary, worked_totals};
-pub use idx_convert::MAX_VOLUME;
+pub use idx_convert::{MAX_FILE, MAX_VOLUME};
 pub use idx_plan::MAX_ANSWER;
 pub use info::run_info;
 pub use query::run_query;

@@ -1,5 +1,6 @@
 ghost use Rattle.std.specs.Prelude.{◌≡◌, ◌≢◌, ◌↔◌, ℕ, ◌<◌, map, vec_len, string_bytes};
 ghost use Rattle.idx_outside.specs.Objects.{contents_at};
+ghost use Rattle.idx_gather.specs.Gather.{HaveSame};
 ghost use Rattle.idx_words.specs.declared.command.Command.{Command};
 ghost use Rattle.idx_words.specs.declared.cut_words.CutWords.{CutWords};
 ghost use Rattle.idx_words.specs.ConvertValue.{ConvertValue};
@@ -12,7 +13,7 @@ ghost use Rattle.idx_commands.specs.CutRun.{CutEnds};
 ghost use Rattle.idx_commands.specs.InfoRun.{InfoEnds};
 ghost use Rattle.idx_commands.specs.QueryRun.{QueryEnds};
 ghost use Rattle.idx_commands.specs.ServeRun.{ServeEnds};
-ghost use Rattle.idx_commands.specs.Run.{CommandEnds, CountsFaults, HaveSameContents, LeavesRest, Unasked, WroteAnswer, WrotePrefix, run_seen};
+ghost use Rattle.idx_commands.specs.Run.{CommandEnds, CountsFaults, LeavesRest, Unasked, WroteAnswer, WrotePrefix, run_seen};
 ghost use Rattle.idx_commands.specs.Seen.{bay_seen, doors_seen, raws_seen, readers_seen, sink_seen};
 
 use crate::causes::{Cause, Done};
@@ -24,10 +25,13 @@ use crate::serve::run_serve;
 use idx_outside::{Bay, Door, Reader, Sink, Source};
 use idx_words::{Command, read_words};
 use std::alloc::Global;
+use std::thread::Threads;
 
 /// Does what the words ask for, and says how it ended: as `run_cut`, `run_info` and `run_query` do, and likewise for
-/// `convert` and `serve`. The first refusal ends it. `serve` returns when the first door hands out no more links or fails.
-pub fn run<V: Source, B: Bay, R: Reader<B::Leaf>, K: Sink, D: Door>(
+/// `convert` and `serve`. The first refusal ends it. `convert` uses the first of `raws`, one for each rank, each of which is
+/// a worker thread. `serve` returns when the first door hands out no more links or fails.
+pub fn run<V: Source + Send, B: Bay, R: Reader<B::Leaf>, K: Sink, D: Door, T: Threads + Sync>(
+    rt: &T,
     alloc: Global,
     words: &[String],
     raws: &mut Vec<V>,
@@ -36,10 +40,13 @@ pub fn run<V: Source, B: Bay, R: Reader<B::Leaf>, K: Sink, D: Door>(
     out: &mut K,
     doors: &mut Vec<D>,
 ) -> Done
+where
+    B::Draft: Send,
+    B::Leaf: Send,
     requires some { 0 < vec_len raws.old }
     requires reader { 0 < vec_len readers.old }
     requires door { 0 < vec_len doors.old }
-    requires same { HaveSameContents V.contents raws.old.items }
+    requires same { HaveSame V.contents raws.old.items }
 
     ensures status { result.status ≡ status_of result.cause }
 
@@ -102,13 +109,14 @@ pub fn run<V: Source, B: Bay, R: Reader<B::Leaf>, K: Sink, D: Door>(
         (doors_seen D.told D.faults D.Link.incoming D.Link.written D.Link.faults doors.old.items doors.new.items)) }
 {
     match read_words(words) {
-        Ok(command) => run_command(alloc, words, &command, raws, bay, readers, out, doors),
+        Ok(command) => run_command(rt, alloc, words, &command, raws, bay, readers, out, doors),
         Err(misread) => Done::of(Cause::Usage { at: misread.at }),
     }
 }
 
 /// Does what the words ask for, which give this command, and says how it ended.
-fn run_command<V: Source, B: Bay, R: Reader<B::Leaf>, K: Sink, D: Door>(
+fn run_command<V: Source + Send, B: Bay, R: Reader<B::Leaf>, K: Sink, D: Door, T: Threads + Sync>(
+    rt: &T,
     alloc: Global,
     words: &[String],
     command: &Command<'_>,
@@ -118,9 +126,13 @@ fn run_command<V: Source, B: Bay, R: Reader<B::Leaf>, K: Sink, D: Door>(
     out: &mut K,
     doors: &mut Vec<D>,
 ) -> Done
+where
+    B::Draft: Send,
+    B::Leaf: Send,
     requires some { 0 < vec_len raws.old }
     requires reader { 0 < vec_len readers.old }
     requires door { 0 < vec_len doors.old }
+    requires same { HaveSame V.contents raws.old.items }
     requires given { Give (map string_bytes words.now) command.now }
     ensures status { result.status ≡ status_of result.cause }
     ensures ends { CommandEnds (run_seen
@@ -133,7 +145,7 @@ fn run_command<V: Source, B: Bay, R: Reader<B::Leaf>, K: Sink, D: Door>(
     match command {
         Command::Cut(_) => run_cut(alloc, words, raws, out),
         Command::Info => run_info(alloc, words, bay, out),
-        Command::Convert(_) => run_convert(alloc, words, raws, bay),
+        Command::Convert(_) => run_convert(rt, alloc, words, raws, bay),
         Command::Query(_) => run_query(alloc, words, bay, readers, out),
         Command::Serve(_) => run_serve(alloc, words, bay, readers, out, doors),
     }

@@ -1,11 +1,13 @@
 -- The header at the revision of a step that is written next: no committed file is of its folder.
 use Rattle.std.proofs.Common.{◌≡◌, ℕ, ◌<◌, Bool, true, false, List, Option, Some, None, refl, sym, ap, ◌∙◌, subst, true≢false}
 use Rattle.std.proofs.lemmas.Bool.{ltb-true}
-use Rattle.std.specs.Prelude.{IfSome, IsSome, if◌then◌else◌, nat_lt}
+use Rattle.std.specs.Prelude.{IfSome, IsSome, if◌then◌else◌, nat_lt, option_map}
 use Rattle.std.specs.Option.{ForSome}
 use Rattle.idx_outside.specs.Files.{HasStep, has_folder}
 use Rattle.idx_outside.specs.declared.mem_file.MemFile.{MemFile}
+use Rattle.idx_names.specs.Path as paths
 use Rattle.idx_header.specs.Header.{HeaderValue, at_revision}
+use Rattle.idx_header.specs.declared.steps.Steps.{Steps}
 use Rattle.idx_header.specs.Names.{step_folder}
 use Rattle.idx_header.specs.Revisions.{header_at, header_to_write, next_revision, stands_in}
 use Rattle.idx_header.proofs.RevisionLemmas.{next_stops}
@@ -42,3 +44,12 @@ next_some h step known now written same next = some known (subst (λ (o : Option
     some : (o : Option (List MemFile)) → IsNext h step o written → IfSome o (λ files. IsSome (header_to_write h step files))
     some None next = tt
     some (Some files) next = subst IsSome (sym next) refl
+
+-- a header with a time has a folder for each step
+pub folder_exists : (h : HeaderValue) (step : ℕ) → IsSome h.steps → step_folder h step ≡ None → ⊥
+unfolding step_folder
+folder_exists h step timed none = by_steps h.steps timed none
+  where
+    by_steps : (steps : Option Steps) → IsSome steps → option_map (λ (s : Steps). paths.step_folder h.template s.template step h.revision) steps ≡ None → ⊥
+    by_steps None some e = let wrong : false ≡ true = some in cc
+    by_steps (Some steps) some e = let wrong : ◌≡◌ {A = Option (List ℕ)} (Some (paths.step_folder h.template steps.template step h.revision)) None = e in cc

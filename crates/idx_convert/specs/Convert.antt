@@ -1,7 +1,7 @@
--- What converting a raw volume promises: by the header text that is asked for, the step, and what is known of the raw volume
+-- What converting a raw volume promises: by the header text that is asked for, the step, and what is known of the raw volumes
 -- and of the bay before and after.
 use Rattle.std.specs.Prelude.{◌≡◌, ◌≢◌, ◌⊎◌, ℕ, ◌<◌, List, [], ◌∷◌, length, Option, Some, None, IfSome, IsSome, IsSomeAnd, Result, Ok, Err, OnOk, IfErr}
-use Rattle.idx_outside.specs.Cause.{AskedFor, NeverFalls, Rose}
+use Rattle.idx_outside.specs.Cause.{NeverFalls, Rose}
 use Rattle.idx_outside.specs.Files.{known_with}
 use Rattle.idx_outside.specs.declared.bay_call.BayCall.{BayCall}
 use Rattle.idx_outside.specs.declared.bay_call.BayCall.TheVariants as calls
@@ -15,6 +15,7 @@ use Rattle.idx_header.specs.Revisions.{IsRevisionOf, header_to_write}
 use Rattle.idx_gather.specs.Gather.{HasFolder, HasVolume, LacksVolume, SomeStepAdded, too_large}
 use Rattle.idx_convert.specs.declared.convert_fault.ConvertFault.{ConvertFault}
 use Rattle.idx_convert.specs.declared.convert_fault.ConvertFault.TheVariants as faults
+use Rattle.idx_convert.specs.Counts.{SomeHigher, SomeRose}
 use Rattle.idx_convert.specs.Known.{KeepsBay, Known}
 
 -- The text is that of this header, which has a time and this step, and of which no step is too large to write.
@@ -63,7 +64,7 @@ abbrev pub Begins : HeaderValue → ℕ → Known → Type 0
 Begins h step k = (written : HeaderValue) × (IsRevisionOf h written × IsNext h step k.files written × BeginsAt written step k)
 
 -- The step was written: all was as it has to be, exactly the files of the step at the next revision were added, and the header
--- text was put where none stood. For that the step was begun, and exactly one volume's bytes were asked of the raw volume.
+-- text was put where none stood. For that the step was begun.
 pub record Converted (text : List ℕ) (step : ℕ) (k : Known) : Type 0 where
   -- the header of the text, and that header at the revision that was written
   pub header : HeaderValue
@@ -76,7 +77,6 @@ pub record Converted (text : List ℕ) (step : ℕ) (k : Known) : Type 0 where
   pub added : SomeStepAdded written step k.raw k.files k.files_after
   pub put : k.header_after ≡ put_where_none text k.header
   pub begun : BeginsAt written step k
-  pub read : AskedFor k.asked_before k.asked_after (volume_bytes header)
 
 -- What each fault says.
 abbrev pub IsCause : List ℕ → ℕ → Known → ConvertFault → Type 0
@@ -93,7 +93,7 @@ IsCause text step k faults.AlreadyPublished =
 IsCause text step k (faults.RawWrongSize want found) =
     Asks text step (λ h. Takes h step k.header k.files
     × (want ≡ volume_bytes h) × (found ≢ want) × IfSome k.raw (λ bytes. found ≡ length bytes))
-IsCause text step k faults.RawFault = Asks text step (λ h. Takes h step k.header k.files × Rose k.raw_before k.raw_after)
+IsCause text step k faults.RawFault = Asks text step (λ h. Takes h step k.header k.files × SomeRose k.raw_before k.raw_after)
 IsCause text step k faults.StoreFault = Asks text step (λ h. Rose k.bay_before k.bay_after)
 IsCause text step k faults.NoMemory = Unit {0}
 
@@ -124,17 +124,14 @@ IsEarly raw faults.AlreadyPublished = Unit {0}
 IsEarly raw (faults.RawWrongSize want found) = IsSome raw
 IsEarly raw fault = ⊥
 
--- At most one volume's bytes, and no others, were asked of the raw volume.
-abbrev pub AsksOnce : List ℕ → ℕ → Known → Type 0
-AsksOnce text step k =
-    (k.asked_after ≡ k.asked_before) ⊎ Asks text step (λ h. AskedFor k.asked_before k.asked_after (volume_bytes h))
-
--- How many bytes each fault leaves asked of the raw volume: none, or those of one volume where it may have been read.
-abbrev pub LeavesAsked : List ℕ → ℕ → Known → ConvertFault → Type 0
-LeavesAsked text step k faults.RawFault = AsksOnce text step k
-LeavesAsked text step k faults.StoreFault = AsksOnce text step k
-LeavesAsked text step k faults.NoMemory = AsksOnce text step k
-LeavesAsked text step k fault = k.asked_after ≡ k.asked_before
+-- What each fault leaves of the bytes asked of the raw volumes: none were asked, but where these may have been read. A raw volume
+-- whose bytes are not known may have another length when it is asked again, after some were read.
+abbrev pub LeavesAsked : Known → ConvertFault → Type 0
+LeavesAsked k (faults.RawWrongSize want found) = IfSome k.raw (λ _. k.asked_after ≡ k.asked_before)
+LeavesAsked k faults.RawFault = Unit {0}
+LeavesAsked k faults.StoreFault = Unit {0}
+LeavesAsked k faults.NoMemory = Unit {0}
+LeavesAsked k fault = k.asked_after ≡ k.asked_before
 
 -- All that can be known before the first change is as it has to be.
 abbrev pub IsRight : HeaderValue → ℕ → Known → Type 0
@@ -179,14 +176,16 @@ pub record Ends {T : Type 0} (text : List ℕ) (step : ℕ) (k : Known) (result 
   pub files : IfErr result (LeavesFiles text step k)
   -- what can be known before the first change leaves the bay unchanged
   pub early : IfErr result (λ fault. IsEarly k.raw fault → KeepsBay k)
-  -- a refusal leaves at most one volume's bytes asked of the raw volume, and none where it is known to have another length
-  pub asked : IfErr result (LeavesAsked text step k)
+  -- a refusal for what is asked for, for what stands or for a known length comes before a byte is asked of a raw volume; and none
+  -- is asked where they are known to have another length
+  pub asked : IfErr result (LeavesAsked k)
   pub unasked : Asks text step (λ h. LacksVolume h k.raw) → k.asked_after ≡ k.asked_before
   -- no step is begun but the one that is asked for, at its next revision
   pub begun : (k.begun_after ≡ k.begun) ⊎ Asks text step (λ h. Begins h step k)
   -- the calls of the bay come in their order, as the one that failed tells
   pub failed : LeavesFailed text step k result
-  -- a fault that was counted is answered, and no count falls
-  pub raw_answered : k.raw_before < k.raw_after → result ≡ Err faults.RawFault
+  -- a fault that was counted is answered, at success no raw volume counted one, and the bay's count never falls
+  pub raw_answered : SomeHigher k.raw_before k.raw_after → result ≡ Err faults.RawFault
+  pub raw_quiet : OnOk result (k.raw_after ≡ k.raw_before)
   pub store_answered : k.bay_before < k.bay_after → result ≡ Err faults.StoreFault
   pub count : NeverFalls k.bay_before k.bay_after

@@ -1,17 +1,17 @@
--- What is known of the first raw volume and of the bay of a conversion, before and after it.
-use Rattle.std.specs.Prelude.{◌≡◌, ℕ, List, Option}
-use Rattle.idx_outside.specs.Objects.{contents_at, faults_at}
+-- What is known of the raw volumes and of the bay of a conversion, before and after it.
+use Rattle.std.specs.Prelude.{◌≡◌, ℕ, List, Option, map}
+use Rattle.idx_outside.specs.Objects.{contents_at}
 use Rattle.idx_outside.specs.declared.bay_call.BayCall.{BayCall}
 use Rattle.idx_outside.specs.declared.mem_file.MemFile.{MemFile}
 
 -- Where nothing else is said, a field tells of the time before.
 pub record Known : Type 0 where
-  -- the raw volume's bytes, how many bytes were asked of it, and its counts of faults
+  -- the raw volume's bytes, which all raw volumes tell alike; how many bytes were asked of each, and the counts of faults of each
   pub raw : Option (List ℕ)
-  pub asked_before : ℕ
-  pub asked_after : ℕ
-  pub raw_before : ℕ
-  pub raw_after : ℕ
+  pub asked_before : List ℕ
+  pub asked_after : List ℕ
+  pub raw_before : List ℕ
+  pub raw_after : List ℕ
   -- the bay's header text and committed files, and the folder that was last begun
   pub header : Option (List ℕ)
   pub header_after : Option (List ℕ)
@@ -33,10 +33,10 @@ abbrev pub known_of : {V B : Type 0} → (V → Option (List ℕ)) → (V → �
 known_of contents asked raw_faults raws raws_after header files begun changes failed faults bay bay_after =
     record {
       raw = contents_at contents raws 0;
-      asked_before = faults_at asked raws 0;
-      asked_after = faults_at asked raws_after 0;
-      raw_before = faults_at raw_faults raws 0;
-      raw_after = faults_at raw_faults raws_after 0;
+      asked_before = map asked raws;
+      asked_after = map asked raws_after;
+      raw_before = map raw_faults raws;
+      raw_after = map raw_faults raws_after;
       header = header bay;
       header_after = header bay_after;
       files = files bay;

@@ -1,3 +1,4 @@
-pub mod Convert
+pub mod Counts
 pub mod Known
+pub mod Convert
 pub mod Stages

@@ -18,6 +18,7 @@ use Rattle.idx_gather.specs.declared.gather_fault.GatherFault.TheVariants as gat
 use Rattle.idx_convert.specs.declared.convert_fault.ConvertFault.{ConvertFault}
 use Rattle.idx_convert.specs.declared.convert_fault.ConvertFault.TheVariants as faults
 use Rattle.idx_convert.specs.Convert.{Suits, Differs, Takes}
+use Rattle.idx_convert.specs.Counts.{SomeRose}
 use Rattle.idx_convert.specs.Known.{Known}
 
 -- the fault that is answered where a bay gives no header
@@ -55,7 +56,7 @@ IsStop h step k faults.OtherHeader = IfSome k.header (Differs h)
 IsStop h step k faults.AlreadyPublished = IfSome k.header (Suits h) × IfSome k.files (λ files. header_to_write h step files ≡ None)
 IsStop h step k (faults.RawWrongSize want found) =
     Takes h step k.header k.files × (want ≡ volume_bytes h) × (found ≢ want) × IfSome k.raw (λ bytes. found ≡ length bytes)
-IsStop h step k faults.RawFault = Takes h step k.header k.files × Rose k.raw_before k.raw_after
+IsStop h step k faults.RawFault = Takes h step k.header k.files × SomeRose k.raw_before k.raw_after
 IsStop h step k faults.StoreFault = Rose k.bay_before k.bay_after × IsFirstCall h k k.failed_after
 IsStop h step k faults.NoMemory = Unit {0}
 
@@ -65,8 +66,8 @@ abbrev pub with_bay : Option (List ℕ) → Option (List MemFile) → Option Bay
 with_bay header files failed_after before after k =
     record k { header = header; files = files; failed_after = failed_after; bay_before = before; bay_after = after }
 
--- What is known, with this of the raw volume: its bytes, and its counts of faults.
-abbrev pub with_raw : Option (List ℕ) → ℕ → ℕ → Known → Known
+-- What is known, with this of the raw volumes: their bytes, and their counts of faults.
+abbrev pub with_raw : Option (List ℕ) → List ℕ → List ℕ → Known → Known
 with_raw raw before after k = record k { raw = raw; raw_before = before; raw_after = after }
 
 -- What a stage that changes nothing leaves of the bay, and how it answers a fault of it. The first seven are the ghost members

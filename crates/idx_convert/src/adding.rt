@@ -1,33 +1,42 @@
-ghost use Rattle.std.specs.Prelude.{◌≡◌, ◌⊎◌, ◌↔◌, ◌<◌, [], IsTrue, IfErr, OnErr, OnOk, Some, is_ok, vec_len};
+ghost use Rattle.std.specs.Prelude.{◌≡◌, ◌⊎◌, ◌↔◌, ◌<◌, ◌≤◌, [], IsTrue, IfErr, OnErr, OnOk, Some, drop, is_ok, map, min, vec_len};
 ghost use Rattle.std.specs.Option.{ForSome};
 ghost use Rattle.idx_outside.specs.Calls.{last_failed};
 ghost use Rattle.idx_outside.specs.Cause.{NeverFalls, Rose};
-ghost use Rattle.idx_outside.specs.Objects.{contents_at, UsesOnly};
+ghost use Rattle.idx_outside.specs.Objects.{SameContents, contents_at};
 ghost use Rattle.idx_outside.specs.declared.bay_call.BayCall.{BayCall};
 ghost use Rattle.idx_header.specs.Names.{step_folder};
 ghost use Rattle.idx_header.specs.Revisions.{IsRevisionOf};
-ghost use Rattle.idx_gather.specs.Gather.{HasVolume};
+ghost use Rattle.idx_gather.specs.Gather.{HasVolume, HaveSame, NoneFalls};
 ghost use Rattle.idx_convert.specs.Convert.{AsksFor, Ends, IsEarly, IsNext, Takes, put_where_none};
 ghost use Rattle.idx_convert.specs.Known.{known_of};
 
 use crate::ConvertFault;
+use crate::first_raws::gather_first;
 use crate::place::Place;
-use idx_gather::gather;
 use idx_header::Header;
-use idx_outside::{Bay, FreeGate, Outage, Source};
+use idx_outside::{Bay, Outage, Source};
 use std::alloc::Global;
+use std::thread::Threads;
 
 /// Puts the header's text where none stands, and adds the step at the revision of its place, all of which was checked.
-pub(crate) fn add_step<V: Source, B: Bay>(
+pub(crate) fn add_step<V: Source + Send, B: Bay, R: Threads + Sync>(
+    rt: &R,
     alloc: Global,
     text: &[u8],
     step: u64,
+    ranks: u32,
     header: &Header,
     place: &Place,
     raws: &mut Vec<V>,
     bay: &mut B,
 ) -> Result<(), ConvertFault>
+where
+    B::Draft: Send,
+    B::Leaf: Send,
     requires some { 0 < vec_len raws.old }
+    requires one { 1 ≤ ranks }
+    requires few { ranks ≤ 256 }
+    requires alike { HaveSame V.contents raws.old.items }
     requires asked { AsksFor text.now step header.now }
     requires taken { Takes header.now step (B.header bay.old) (B.files bay.old) }
     requires size { HasVolume header.now (contents_at V.contents raws.old.items 0) }
@@ -38,7 +47,10 @@ pub(crate) fn add_step<V: Source, B: Bay>(
     ensures ends { Ends text.now step (known_of V.contents V.asked V.faults raws.old.items raws.new.items
         B.header B.files B.begun B.changes B.failed B.faults bay.old bay.new) result }
     ensures late { IfErr result (λ fault. ¬ IsEarly (contents_at V.contents raws.old.items 0) fault) }
-    ensures raws { UsesOnly V.contents V.faults 0 raws.old.items raws.new.items }
+    ensures same { SameContents V.contents raws.old.items raws.new.items }
+    ensures idle { drop (min ranks (vec_len raws.old)) raws.new.items
+        ≡ drop (min ranks (vec_len raws.old)) raws.old.items }
+    ensures raw_count { NoneFalls (map V.faults raws.old.items) (map V.faults raws.new.items) }
 {
     let Ok(()) = put_header(text, place.no_header, bay) else {
         return Err(ConvertFault::StoreFault);
@@ -46,7 +58,7 @@ pub(crate) fn add_step<V: Source, B: Bay>(
     let Ok(()) = bay.begin_step(place.folder.as_slice()) else {
         return Err(ConvertFault::StoreFault);
     };
-    gather(alloc, &place.header, step, raws, bay, &FreeGate)?;
+    gather_first(rt, alloc, &place.header, step, ranks, raws, bay)?;
     Ok(())
 }
 

@@ -1,17 +1,21 @@
-ghost use Rattle.std.specs.Prelude.{◌≡◌, ◌≢◌, ◌↔◌, Err, IfErr, IfOk, IsTrue};
-ghost use Rattle.idx_gather.specs.Gather.{HasFolder, too_large};
+ghost use Rattle.std.specs.Prelude.{◌≡◌, ◌≢◌, ◌↔◌, ◌^◌, Err, IfErr, IfOk, IsTrue, find, nat_lt};
+ghost use Rattle.idx_gather.specs.Gather.{HasFolder, file_lengths, too_large};
 ghost use Rattle.idx_convert.specs.Convert.{AsksFor, IsCause};
 ghost use Rattle.idx_convert.specs.Known.{Known};
 
 use crate::ConvertFault;
 use idx_header::Header;
+use idx_layout::{file_len, files};
 use std::alloc::Global;
 
-/// The samples of a header take at most so many bytes.
-pub const MAX_VOLUME: u64 = 1 << 30;
+/// The samples of a step take at most so many bytes.
+pub const MAX_VOLUME: u64 = 1 << 36;
 
-/// The header of the text that is asked for, if it has the step and its samples are few enough. Nothing else has a part
-/// in the cause of a refusal.
+/// A file of a step has at most so many bytes.
+pub const MAX_FILE: u64 = 1 << 32;
+
+/// The header of the text that is asked for, if it has the step, its samples are few enough and none of its files is too
+/// long. Nothing else has a part in the cause of a refusal.
 pub(crate) fn asked_header(alloc: Global, text: &[u8], step: u64) -> Result<Header, ConvertFault>
     ensures asked { IfOk result (λ header. AsksFor text.now step header) }
     ensures cause { (k : Known) → IfErr result (IsCause text.now step k) }
@@ -27,7 +31,8 @@ pub(crate) fn asked_header(alloc: Global, text: &[u8], step: u64) -> Result<Head
     }
 }
 
-/// How many bytes the samples of a step take, where they are too many to write.
+/// How many bytes the samples of a step take, where they are too many to write; else how many the first of its files has
+/// that is too long.
 fn too_large(header: &Header) -> Option<u64>
     ensures { result ≡ too_large header.now }
 {
@@ -35,8 +40,17 @@ fn too_large(header: &Header) -> Option<u64>
     if bytes > MAX_VOLUME {
         Some(bytes)
     } else {
-        None
+        too_long(header)
     }
+}
+
+/// How many bytes the first file of a step has, by rising number, that is too long to write.
+fn too_long(header: &Header) -> Option<u64>
+    ensures { result ≡ find (nat_lt (2 ^ 32)) (file_lengths header.now) }
+{
+    files(header)
+        .map(|file| file_len(header, file))
+        .find(|bytes| *bytes > MAX_FILE)
 }
 
 /// Whether the header has a time, and the step.

@@ -11,8 +11,9 @@ pub enum ConvertFault {
     /// The header that is asked for lacks the step.
     #[error("the header lacks the step")]
     NoStep,
-    /// The samples of the header that is asked for take so many bytes, which are too many to write.
-    #[error("the volume is too large")]
+    /// The samples of the header that is asked for take so many bytes, or a file of its step does, which are too many to
+    /// write.
+    #[error("the volume or a file is too large")]
     TooLarge { bytes: u64 },
     /// A header stands, and does not agree with the one that is asked for.
     #[error("another header stands")]
@@ -23,8 +24,8 @@ pub enum ConvertFault {
     /// The raw volume has another length than the samples of the header take, in bytes.
     #[error("the raw volume has another length")]
     RawWrongSize { want: u64, found: u64 },
-    /// The raw volume could not be read.
-    #[error("a call on the raw volume failed")]
+    /// A raw volume could not be read.
+    #[error("a call on a raw volume failed")]
     RawFault,
     /// The dataset could not be read or written.
     #[error("a call on the store failed")]

@@ -1,4 +1,4 @@
-//! Writes a step of a dataset out of a raw volume, under a header that is asked for, or says why not.
+//! Writes a step of a dataset out of raw volumes that hold the same, under a header that is asked for, or says why not.
 #![tactic(auto)]
 
 mod adding;
@@ -6,9 +6,10 @@ mod asked;
 mod convert_fault;
 mod converting;
 mod faults;
+mod first_raws;
 mod place;
 mod standing;
 
-pub use asked::MAX_VOLUME;
+pub use asked::{MAX_FILE, MAX_VOLUME};
 pub use convert_fault::ConvertFault;
 pub use converting::convert;

@@ -1,10 +1,11 @@
-ghost use Rattle.std.specs.Prelude.{◌≡◌, ◌≢◌, ◌↔◌, ◌<◌, [], IfErr, IfOk, IfSome, IsSome, IsTrue, OnOk, Some, Err, ℕ, vec_len};
+ghost use Rattle.std.specs.Prelude.{◌≡◌, ◌≢◌, ◌↔◌, ◌<◌, ◌≤◌, [], IfErr, IfOk, IfSome, IsSome, IsTrue, OnOk, Some, Err, ℕ, drop, map, vec_len};
 ghost use Rattle.std.specs.Option.{ForSome};
-ghost use Rattle.idx_outside.specs.Objects.{contents_at, faults_at, UsesOnly};
+ghost use Rattle.idx_outside.specs.Objects.{SameContents, contents_at};
 ghost use Rattle.idx_header.specs.Names.{step_folder};
 ghost use Rattle.idx_header.specs.Revisions.{IsRevisionOf};
-ghost use Rattle.idx_gather.specs.Gather.{HasFolder, HasVolume};
+ghost use Rattle.idx_gather.specs.Gather.{HasFolder, HasVolume, NoneFalls};
 ghost use Rattle.idx_convert.specs.Convert.{IsNext, Suits, Takes};
+ghost use Rattle.idx_convert.specs.Counts.{SomeHigher};
 ghost use Rattle.idx_convert.specs.Known.{Known, known_of};
 ghost use Rattle.idx_convert.specs.Stages.{IsStop, OnlyLooks, with_bay, with_raw};
 
@@ -43,11 +44,14 @@ pub(crate) fn find_place<V: Source, B: Bay>(
         (known_of V.contents V.asked V.faults raws.old.items raws.new.items
         B.header B.files B.begun B.changes B.failed B.faults bay.old bay.new)) }
     ensures looks { OnlyLooks B.header B.files B.begun B.changes B.failed B.admits B.faults bay.old bay.new result }
-    ensures raw_answered { faults_at V.faults raws.old.items 0 < faults_at V.faults raws.new.items 0 →
+    ensures raw_answered { SomeHigher (map V.faults raws.old.items) (map V.faults raws.new.items) →
         result ≡ Err ConvertFault.RawFault }
-    ensures raw_quiet { OnOk result (faults_at V.faults raws.new.items 0 ≡ faults_at V.faults raws.old.items 0) }
-    ensures asked { faults_at V.asked raws.new.items 0 ≡ faults_at V.asked raws.old.items 0 }
-    ensures raws { UsesOnly V.contents V.faults 0 raws.old.items raws.new.items }
+    ensures raw_quiet { OnOk result (map V.faults raws.new.items ≡ map V.faults raws.old.items) }
+    ensures asked { map V.asked raws.new.items ≡ map V.asked raws.old.items }
+    ensures same { SameContents V.contents raws.old.items raws.new.items }
+    ensures idle { (n : ℕ) → 1 ≤ n → drop n raws.new.items ≡ drop n raws.old.items }
+    ensures raw_count { NoneFalls (map V.faults raws.old.items) (map V.faults raws.new.items) }
+    ensures number { vec_len raws.new ≡ vec_len raws.old }
 {
     let no_header = check_standing(alloc, header, bay)?;
     let written = next_header(alloc, header, step, bay)?;
@@ -100,13 +104,16 @@ fn check_size<V: Source>(header: &Header, raws: &mut Vec<V>) -> Result<(), Conve
     ensures size { OnOk result (HasVolume header.now (contents_at V.contents raws.old.items 0)) }
     ensures cause { (step : ℕ) (k : Known) → Takes header.now step k.header k.files →
         IfErr result (IsStop header.now step (with_raw (contents_at V.contents raws.old.items 0)
-        (faults_at V.faults raws.old.items 0) (faults_at V.faults raws.new.items 0) k)) }
+        (map V.faults raws.old.items) (map V.faults raws.new.items) k)) }
     ensures only { result ≢ Err ConvertFault.StoreFault }
-    ensures answered { faults_at V.faults raws.old.items 0 < faults_at V.faults raws.new.items 0 →
+    ensures answered { SomeHigher (map V.faults raws.old.items) (map V.faults raws.new.items) →
         result ≡ Err ConvertFault.RawFault }
-    ensures quiet { OnOk result (faults_at V.faults raws.new.items 0 ≡ faults_at V.faults raws.old.items 0) }
-    ensures asked { faults_at V.asked raws.new.items 0 ≡ faults_at V.asked raws.old.items 0 }
-    ensures raws { UsesOnly V.contents V.faults 0 raws.old.items raws.new.items }
+    ensures quiet { OnOk result (map V.faults raws.new.items ≡ map V.faults raws.old.items) }
+    ensures asked { map V.asked raws.new.items ≡ map V.asked raws.old.items }
+    ensures same { SameContents V.contents raws.old.items raws.new.items }
+    ensures idle { (n : ℕ) → 1 ≤ n → drop n raws.new.items ≡ drop n raws.old.items }
+    ensures raw_count { NoneFalls (map V.faults raws.old.items) (map V.faults raws.new.items) }
+    ensures number { vec_len raws.new ≡ vec_len raws.old }
 {
     let want = header.volume_bytes();
     match raws[0].len() {

@@ -1,9 +1,10 @@
 -- What gathering a step promises, by its header, what is known of the raw volume and of the committed files, and the counts
 -- of faults.
-use Rattle.std.specs.Prelude.{◌≡◌, ◌≢◌, ◌⊎◌, ℕ, ◌^◌, nat_lt, if◌then◌else◌, Bool, List, drop, length, Option, Some, None, IfSome, IsSome, IsSomeAnd, Result, Ok, Err}
+use Rattle.std.specs.Prelude.{◌≡◌, ◌≢◌, ◌⊎◌, ℕ, ◌^◌, ◌<◌, nat_lt, if◌then◌else◌, Bool, List, drop, find, length, map, slice_index, take, Option, Some, None, IfSome, IsSome, IsSomeAnd, Result, Err}
 use Rattle.std.specs.Option.{ForSome}
-use Rattle.idx_outside.specs.Cause.{AskedFor, Rose}
+use Rattle.idx_outside.specs.Cause.{NeverFalls, Rose}
 use Rattle.idx_outside.specs.Files.{added, file_at, files_of}
+use Rattle.idx_outside.specs.Objects.{contents_at}
 use Rattle.idx_outside.specs.Shape.{Shape}
 use Rattle.idx_outside.specs.declared.bay_call.BayCall.{BayCall}
 use Rattle.idx_outside.specs.declared.bay_call.BayCall.TheVariants as calls
@@ -12,7 +13,8 @@ use Rattle.idx_header.specs.Header.{HeaderValue, HasTime, volume_bytes}
 use Rattle.idx_header.specs.Names.{file_name, step_folder}
 use Rattle.idx_layout.specs.declared.layout.Layout.{Layout}
 use Rattle.idx_layout.specs.declared.layout.Layout.TheVariants.{Hz}
-use Rattle.idx_layout.specs.Placing.{is_present}
+use Rattle.idx_layout.specs.Files.{length_of_file}
+use Rattle.idx_layout.specs.Placing.{file_numbers, is_present}
 use Rattle.idx_layout.specs.OfHeader.{placing_of}
 use Rattle.idx_layout.specs.Shape.{shape_of}
 use Rattle.idx_layout.specs.Step.{step_files, volume_of_raw}
@@ -25,9 +27,14 @@ pub record HasFolder (h : HeaderValue) (step : ℕ) : Type 0 where
   pub timed : IsSome h.steps
   pub has : HasTime h step
 
--- a step that is too large to write: how many bytes its samples take, where they are more than 2^30
+-- how many bytes each file of a step has, in the order of their numbers
+abbrev pub file_lengths : HeaderValue → List ℕ
+file_lengths h = map (length_of_file (placing_of h)) (file_numbers (placing_of h))
+
+-- a step that is too large to write: how many bytes its samples take, where they are more than 2^36; else how many the first file
+-- has, by rising number, that has more than 2^32
 abbrev pub too_large : HeaderValue → Option ℕ
-too_large h = if nat_lt (2 ^ 30) (volume_bytes h) then Some (volume_bytes h) else None
+too_large h = if nat_lt (2 ^ 36) (volume_bytes h) then Some (volume_bytes h) else find (nat_lt (2 ^ 32)) (file_lengths h)
 
 -- a raw volume whose bytes are known has as many as the samples of the box take
 abbrev pub HasVolume : HeaderValue → Option (List ℕ) → Type 0
@@ -48,17 +55,40 @@ abbrev pub SomeStepAdded : HeaderValue → ℕ → Option (List ℕ) → Option 
 SomeStepAdded h step raw old new =
     (bytes : List ℕ) × ((length bytes ≡ volume_bytes h) × IfSome raw (λ known. bytes ≡ known) × StepAdded h step old new bytes)
 
--- What each fault says of the raw volume, and of the counts of the raw volume and of the bay before and after.
-abbrev pub IsCaused : HeaderValue → Option (List ℕ) → ℕ → ℕ → ℕ → ℕ → GatherFault → Type 0
-IsCaused h raw raw_before raw_after before after (RawWrongSize want found) =
+-- the bytes of no raw volume are known, or those of all, and then they are the same
+abbrev pub HaveSame : {V : Type 0} → (V → Option (List ℕ)) → List V → Type 0
+HaveSame contents raws = (i : ℕ) → i < length raws → contents_at contents raws i ≡ contents_at contents raws 0
+
+-- of some counts of faults, before and after, none falls
+abbrev pub NoneFalls : List ℕ → List ℕ → Type 0
+NoneFalls before after =
+    (length after ≡ length before) × ((i : ℕ) → i < length before → NeverFalls (slice_index before i) (slice_index after i))
+
+-- The raw volume of this rank counted a fault, and this is its count now. No lesser rank's did.
+pub record IsRankFault (before after : List ℕ) (rank faults : ℕ) : Type 0 where
+  pub within : rank < length before
+  pub count_is : faults ≡ slice_index after rank
+  pub rose : Rose (slice_index before rank) (slice_index after rank)
+  pub lesser : take rank after ≡ take rank before
+
+-- What each fault says of the raw volumes, and of the counts of the raw volumes and of the bay before and after.
+abbrev pub IsCaused : HeaderValue → Option (List ℕ) → List ℕ → List ℕ → ℕ → ℕ → GatherFault → Type 0
+IsCaused h raw raws_before raws_after before after (RawWrongSize want found) =
     (want ≡ volume_bytes h) × (found ≢ want) × IfSome raw (λ bytes. found ≡ length bytes)
-    × (raw_after ≡ raw_before) × (after ≡ before)
-IsCaused h raw raw_before raw_after before after (RawFault rank faults) =
-    (rank ≡ 0) × (faults ≡ raw_after) × Rose raw_before raw_after × (after ≡ before)
-IsCaused h raw raw_before raw_after before after (StoreFault faults) =
-    HasVolume h raw × (faults ≡ after) × Rose before after × (raw_after ≡ raw_before)
-IsCaused h raw raw_before raw_after before after NoMemory =
-    HasVolume h raw × (raw_after ≡ raw_before) × (after ≡ before)
+    × (raws_after ≡ raws_before) × (after ≡ before)
+IsCaused h raw raws_before raws_after before after (RawFault rank faults) =
+    IsRankFault raws_before raws_after rank faults × (after ≡ before)
+IsCaused h raw raws_before raws_after before after (StoreFault faults) =
+    HasVolume h raw × (faults ≡ after) × Rose before after × (raws_after ≡ raws_before)
+IsCaused h raw raws_before raws_after before after NoMemory =
+    HasVolume h raw × (raws_after ≡ raws_before) × (after ≡ before)
+
+-- What a refusal of the store says of its count before and after, where the raw volumes have no part in it.
+abbrev pub IsStoreFault : ℕ → ℕ → GatherFault → Type 0
+IsStoreFault before after (RawWrongSize want found) = ⊥
+IsStoreFault before after (RawFault rank faults) = ⊥
+IsStoreFault before after (StoreFault faults) = (faults ≡ after) × Rose before after
+IsStoreFault before after NoMemory = after ≡ before
 
 -- What each fault leaves of the committed files: they are those from before. A store's fault may come of the commit itself,
 -- which then may have added the step, whole.
@@ -69,22 +99,6 @@ Leaves h step raw old new fault = new ≡ old
 -- The bytes of the raw volume are known, and have another length than the samples of the box take.
 abbrev pub LacksVolume : HeaderValue → Option (List ℕ) → Type 0
 LacksVolume h raw = IsSomeAnd raw (λ bytes. length bytes ≢ volume_bytes h)
-
--- How many bytes were asked of the raw volume, by the answer: those of a whole volume, once, or none. It is read before
--- anything is asked of the bay, and not at all where its length is another.
-abbrev pub AsksRaw : {T : Type 0} → HeaderValue → ℕ → ℕ → Result T GatherFault → Type 0
-AsksRaw h before after (Ok _) = AskedFor before after (volume_bytes h)
-AsksRaw h before after (Err (RawWrongSize want found)) = after ≡ before
-AsksRaw h before after (Err (RawFault rank faults)) = (after ≡ before) ⊎ AskedFor before after (volume_bytes h)
-AsksRaw h before after (Err (StoreFault faults)) = AskedFor before after (volume_bytes h)
-AsksRaw h before after (Err NoMemory) = (after ≡ before) ⊎ AskedFor before after (volume_bytes h)
-
--- The count of the calls that change the bay, before and after: a raw volume that is refused is so before the first of them.
-abbrev pub LeavesChanges : ℕ → ℕ → GatherFault → Type 0
-LeavesChanges before after (RawWrongSize want found) = after ≡ before
-LeavesChanges before after (RawFault rank faults) = after ≡ before
-LeavesChanges before after (StoreFault faults) = Unit {0}
-LeavesChanges before after NoMemory = Unit {0}
 
 -- The call that counted a fault of the bay makes a file, gives up a draft or commits. The committed files are then those from
 -- before, unless it commits.

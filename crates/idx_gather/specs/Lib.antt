@@ -1,1 +1,4 @@
 pub mod Gather
+pub mod Windows
+pub mod States
+pub mod Causes

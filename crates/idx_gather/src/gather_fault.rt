@@ -1,3 +1,9 @@
+ghost use Rattle.std.specs.Prelude.{◌≡◌};
+ghost use Rattle.idx_gather.specs.Causes.{fault_of_ranks};
+ghost use Rattle.idx_gather.specs.declared.gather_fault.GatherFault.TheVariants.{NoMemory as no_memory};
+
+use idx_outside::NoMemory;
+use idx_ranks::RanksFault;
 use thiserror::Error;
 
 /// Why no step was written.
@@ -15,4 +21,25 @@ pub enum GatherFault {
     /// There was no memory.
     #[error("not enough memory")]
     NoMemory,
+}
+
+/// The fault of gathering where there is no memory.
+impl From<NoMemory> for GatherFault {
+    ghost from_gives = { λ _ fault. fault ≡ no_memory };
+
+    fn from(_: NoMemory) -> GatherFault {
+        GatherFault::NoMemory
+    }
+}
+
+/// The fault of gathering where the ranks did not read their parts.
+impl From<RanksFault> for GatherFault {
+    ghost from_gives = { λ refusal fault. fault ≡ fault_of_ranks refusal };
+
+    fn from(refusal: RanksFault) -> GatherFault {
+        match refusal {
+            RanksFault::RawFault { rank, faults } => GatherFault::RawFault { rank, faults },
+            RanksFault::NoMemory => GatherFault::NoMemory,
+        }
+    }
 }

@@ -1,37 +1,50 @@
-ghost use Rattle.std.specs.Prelude.{◌≡◌, ◌<◌, ℕ, IfErr, IfOk, IfSome, List, OnOk, vec_len};
+ghost use Rattle.std.specs.Prelude.{◌≡◌, ◌<◌, ◌≤◌, ℕ, IfErr, IfOk, IfSome, List, OnOk, drop, map, vec_len};
 ghost use Rattle.std.specs.Option.{ForSome};
 ghost use Rattle.idx_outside.specs.Cause.{NeverFalls};
 ghost use Rattle.idx_outside.specs.Files.{HasStep as HasCommitted, LiesIn, shown};
-ghost use Rattle.idx_outside.specs.Objects.{contents_at, faults_at, UsesOnly};
+ghost use Rattle.idx_outside.specs.Objects.{SameContents, contents_at};
 ghost use Rattle.idx_header.specs.Names.{step_folder};
 ghost use Rattle.idx_layout.specs.Shape.{shape_of};
-ghost use Rattle.idx_gather.specs.Gather.{AsksRaw, HasBlocksOf, HasFolder, HasPresent, HasVolume, HoldsAdded, IsCaused, LacksVolume, Leaves, LeavesChanges, LeavesFailed, SomeStepAdded};
+ghost use Rattle.idx_pieces.specs.Ranks.{rank_count};
+ghost use Rattle.idx_gather.specs.Gather.{HasBlocksOf, HasFolder, HasPresent, HasVolume, HaveSame, HoldsAdded, IsCaused, LacksVolume, Leaves, LeavesFailed, NoneFalls, SomeStepAdded};
 
-use crate::GatherFault;
-use crate::step::write_step;
-use crate::volume::read_volume;
+use crate::length::check_length;
+use crate::sealing_all::seal_all;
+use crate::{GatherFault, Opening};
 use idx_edition::Edition;
 use idx_header::Header;
 use idx_layout::Layout;
-use idx_outside::{Bay, BayFault, Blocks, Gate, Source};
+use idx_outside::{Bay, Blocks, Gate, Source};
 use std::alloc::Global;
+use std::thread::Threads;
+
+/// So many bytes of files, and of samples on their way to them, are kept in memory at a time.
+const ROOM: u64 = 1 << 28;
 
 /// Writes a step from a raw volume and makes it stand in the bay, in the folder that was last begun: exactly its files,
-/// byte for byte as the format defines them, with the samples of each block in hierarchical order. The first raw volume
-/// alone is read, once and whole, before the first file is begun. The answer is the step as blocks, out of the files that
-/// now stand; making it costs no read.
+/// byte for byte as the format defines them, with the samples of each block in hierarchical order. There is one rank for
+/// each of the raw volumes, which all give the same bytes: each rank reads its part of the box from its own, in a thread of
+/// its own. The files do not depend on how many ranks there are. They are made window by window, of as many files as take
+/// 2^28 bytes together, or one, out of as many pieces at a time; so where the step is larger, the raw volumes are read
+/// again for each window. The answer is the step as blocks, out of the files that now stand; making it costs no read.
 ///
 /// After a refusal no file stands that did not before. A store's fault may come of the commit itself: then the step stands
 /// whole or not at all.
-pub fn gather<V: Source, B: Bay, G: Gate>(
+pub fn gather<V: Source + Send, B: Bay, G: Gate, R: Threads + Sync>(
+    rt: &R,
     alloc: Global,
     header: &Header,
     step: u64,
     raws: &mut Vec<V>,
     bay: &mut B,
-    _gate: &G,
+    gate: &G,
 ) -> Result<Edition<B::Leaf>, GatherFault>
+where
+    B::Draft: Send,
+    B::Leaf: Send,
     requires some { 0 < vec_len raws.old }
+    requires few { vec_len raws.old ≤ 256 }
+    requires alike { HaveSame V.contents raws.old.items }
     requires folder { HasFolder header.now step }
     requires begun { ForSome (step_folder header.now step)
         (λ folder. (path : List ℕ) → LiesIn folder path → B.admits bay.old path) }
@@ -55,35 +68,36 @@ pub fn gather<V: Source, B: Bay, G: Gate>(
 
     // Each refusal has its cause, and leaves the committed files as they were, a failed commit apart.
     ensures cause { IfErr result (IsCaused header.now (contents_at V.contents raws.old.items 0)
-        (faults_at V.faults raws.old.items 0) (faults_at V.faults raws.new.items 0)
-        (B.faults bay.old) (B.faults bay.new)) }
+        (map V.faults raws.old.items) (map V.faults raws.new.items) (B.faults bay.old) (B.faults bay.new)) }
     ensures leaves { IfErr result (Leaves header.now step (contents_at V.contents raws.old.items 0)
         (B.files bay.old) (B.files bay.new)) }
 
-    // One whole volume is asked of the raw volume, or nothing: so of one that is known to have another length.
-    ensures asked { AsksRaw header.now (faults_at V.asked raws.old.items 0) (faults_at V.asked raws.new.items 0) result }
+    // Nothing is asked of raw volumes that are known to have another length, and then the bay is not changed either.
     ensures unasked { LacksVolume header.now (contents_at V.contents raws.old.items 0) →
-        faults_at V.asked raws.new.items 0 ≡ faults_at V.asked raws.old.items 0 }
+        map V.asked raws.new.items ≡ map V.asked raws.old.items }
+    ensures unchanged { LacksVolume header.now (contents_at V.contents raws.old.items 0) →
+        B.changes bay.new ≡ B.changes bay.old }
 
-    // The raw volume is read before the bay is changed, no step is begun, and the call that failed is one of the last ones.
-    ensures changes { IfErr result (LeavesChanges (B.changes bay.old) (B.changes bay.new)) }
+    // No step is begun, and the call that failed is one of those that write, give up or commit.
     ensures begun { B.begun bay.new ≡ B.begun bay.old }
     ensures failed { LeavesFailed (B.files bay.old) (B.files bay.new) (B.failed bay.old) (B.failed bay.new) result }
 
     // Where all is written, no fault was counted.
-    ensures raw_quiet { OnOk result (faults_at V.faults raws.new.items 0 ≡ faults_at V.faults raws.old.items 0) }
+    ensures raw_quiet { OnOk result (map V.faults raws.new.items ≡ map V.faults raws.old.items) }
     ensures quiet { OnOk result (B.faults bay.new ≡ B.faults bay.old) }
 
-    ensures raws { UsesOnly V.contents V.faults 0 raws.old.items raws.new.items }
+    // What is known of the raw volumes stays, the ones for which the box has no part are not touched, and no count falls.
+    ensures same { SameContents V.contents raws.old.items raws.new.items }
+    ensures idle { drop (rank_count header.now.box (vec_len raws.old)) raws.new.items
+        ≡ drop (rank_count header.now.box (vec_len raws.old)) raws.old.items }
+    ensures raw_count { NoneFalls (map V.faults raws.old.items) (map V.faults raws.new.items) }
     ensures header { B.header bay.new ≡ B.header bay.old }
     ensures count { NeverFalls (B.faults bay.old) (B.faults bay.new) }
 {
-    let raw = read_volume(alloc, header, &mut raws[0])?;
-    match write_step(alloc, header, Layout::Hz, step, &raw, bay) {
-        Ok(edition) => Ok(edition),
-        Err(BayFault::Outage) => Err(GatherFault::StoreFault {
-            faults: bay.faults(),
-        }),
-        Err(BayFault::NoMemory) => Err(GatherFault::NoMemory),
-    }
+    // The box has axes and points, so that some rank has a part of it.
+    let _axes = header.axes();
+    check_length(header, raws)?;
+    let opening = Opening::new(alloc, header, step, raws.len() as u32, ROOM)?;
+    let opening = seal_all(rt, alloc, opening, raws, bay, gate)?;
+    opening.finish().commit(alloc, bay)
 }

@@ -1,12 +1,29 @@
-//! From a raw volume to the files of a step, byte for byte those that the format defines.
+//! From raw volumes to the files of a step, byte for byte those that the format defines, by many workers and in bounded
+//! memory (PIDX, Kumar et al.).
 #![tactic(auto)]
 
-mod content;
+mod batch;
+mod batches;
+mod committing;
+mod digits;
+mod docking;
+mod docks;
+mod finishing;
 mod gather_fault;
 mod gathering;
-mod step;
-mod table;
-mod volume;
+mod length;
+mod opening;
+mod parcelled;
+mod sealed;
+mod sealing;
+mod sealing_all;
+mod starting;
+mod wanted;
+mod window;
 
+pub use docking::Docking;
 pub use gather_fault::GatherFault;
 pub use gathering::gather;
+pub use opening::Opening;
+pub use parcelled::Parcelled;
+pub use sealed::Sealed;

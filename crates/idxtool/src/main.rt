@@ -5,6 +5,7 @@
 ghost use Rattle.std.specs.Prelude.{◌<◌, vec_len};
 
 mod announced_door;
+mod long_buffer;
 mod notice;
 mod outside;
 mod paths;
@@ -14,6 +15,7 @@ mod shown;
 #[cfg(test)]
 mod tests;
 mod usage;
+mod work_line;
 
 use idx_commands::{Cause, Done, run};
 use idx_real::{Sockets, StdSink};
@@ -22,15 +24,17 @@ use report::report;
 use std::alloc::AllocError;
 use std::io::ErrorKind;
 use std::process::ExitCode;
+use std::thread::Threads;
 use std::{env, io};
 use usage::{text_asked_for, write_text};
+use work_line::{clear_work, show_work};
 
 fn main(rt: HostRuntime) -> ExitCode {
     match given_words(&rt) {
         Ok(words) => match text_asked_for(&words) {
             Some(text) => give_text(&rt, text),
             None => match tcp_doors(&rt, rt, &words) {
-                Ok(doors) => give_run(&rt, &words, doors),
+                Ok(doors) => give_run(&rt, &rt, &words, doors),
                 Err(AllocError) => give_up(&rt, Cause::NoMemory),
             },
         },
@@ -51,19 +55,25 @@ fn give_text(rt: &HostRuntime, text: &str) -> ExitCode {
     report(rt.alloc(), &mut rt.stderr(), done, &[], out.last_fault())
 }
 
-/// Does what the words ask for, over files, standard output and these doors.
-fn give_run<R: Sockets>(rt: &HostRuntime, words: &[String], doors: Vec<StdDoor<R>>) -> ExitCode
+/// Does what the words ask for, over files, standard output and these doors, with threads of this runtime.
+fn give_run<T: Threads + Sync, R: Sockets>(
+    rt: &HostRuntime,
+    threads: &T,
+    words: &[String],
+    doors: Vec<StdDoor<R>>,
+) -> ExitCode
     requires { 0 < vec_len doors }
 {
-    match run_over_files(rt, words, doors) {
+    match run_over_files(rt, threads, words, doors) {
         Ok(status) => status,
         Err(AllocError) => give_up(rt, Cause::NoMemory),
     }
 }
 
 /// The same, where there is memory for the objects of the outside.
-fn run_over_files<R: Sockets>(
+fn run_over_files<T: Threads + Sync, R: Sockets>(
     rt: &HostRuntime,
+    threads: &T,
     words: &[String],
     mut doors: Vec<StdDoor<R>>,
 ) -> Result<ExitCode, AllocError>
@@ -73,7 +83,10 @@ fn run_over_files<R: Sockets>(
     let mut bay = dataset_files(rt, words)?;
     let mut readers = file_readers(rt)?;
     let mut out = StdSink::new(rt.stdout());
+    let mut err = rt.stderr();
+    let is_shown = show_work(rt.alloc(), &mut err, words);
     let done = run(
+        threads,
         rt.alloc(),
         words,
         &mut raws,
@@ -82,8 +95,11 @@ fn run_over_files<R: Sockets>(
         &mut out,
         &mut doors,
     );
+    if is_shown {
+        clear_work(&mut err);
+    }
     let fault = last_fault(done.cause, &raws, &bay, &readers, &out, &doors);
-    Ok(report(rt.alloc(), &mut rt.stderr(), done, words, fault))
+    Ok(report(rt.alloc(), &mut err, done, words, fault))
 }
 
 /// Ends before anything was done.

@@ -1,5 +1,6 @@
-ghost use Rattle.std.specs.Prelude.{◌≡◌, []};
+ghost use Rattle.std.specs.Prelude.{◌≡◌};
 
+use crate::long_buffer::long_buffer;
 use crate::shown::Shown;
 use idx_header::Header;
 use idx_outside::Bay;
@@ -8,9 +9,6 @@ use std::alloc::Global;
 use std::io::{self, Write};
 use std::net::SocketAddr;
 use std::sync::Arc;
-
-/// So many bytes are a little less than the largest size by which the C library learns to keep what is freed.
-const LONG: usize = 33_500_000;
 
 /// What is said of a dataset that is about to be served: where, and how many of its steps stand.
 #[derive(Drop)]
@@ -38,18 +36,6 @@ impl<R: Sockets, B: Bay + Drop, W: Write + Drop> Notice<R, B, W> {
             let _ = write_notice(&mut line, address, steps, self.dataset.as_str());
             let _ = self.err.write_all(line.as_slice());
         }
-    }
-}
-
-/// A buffer of just under 32 MiB, no page of which is touched before it is written, or an empty one. The C library gives
-/// what is freed back to the system, and clears it anew when it is wanted again, for all sizes from 128 KiB on until
-/// a larger one was freed, at most 32 MiB: so where this one was freed, replies use the same memory one after another.
-fn long_buffer(alloc: Global) -> Vec<u8>
-    ensures { result.items ≡ [] }
-{
-    match Vec::with_capacity(alloc, LONG) {
-        Ok(buffer) => buffer,
-        Err(_) => Vec::new(alloc),
     }
 }
 

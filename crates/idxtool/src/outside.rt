@@ -1,6 +1,7 @@
 //! The objects of the outside that a run uses: files, standard output and sockets, as the words name them.
-ghost use Rattle.std.specs.Prelude.{◌≡◌, IfOk, map, string_bytes, vec_len};
+ghost use Rattle.std.specs.Prelude.{◌≡◌, ◌<◌, ◌≤◌, IfOk, map, string_bytes, vec_len};
 ghost use Rattle.idx_words.specs.declared.command.Command.{Command};
+ghost use Rattle.idx_words.specs.ConvertValue.{ConvertValue};
 ghost use Rattle.idx_words.specs.ServeValue.{ServeValue};
 ghost use Rattle.idx_words.specs.Words.{Give};
 
@@ -19,17 +20,34 @@ use std::sync::Arc;
 /// A door at the address that the words name, which says on standard error where it listens.
 pub type StdDoor<R> = AnnouncedDoor<R, FolderBay<HostRuntime>, Stderr>;
 
-/// The raw volumes that the words name: one, or one without a path.
+/// The raw volume that the words name, once for each rank that they say, so that each has a place of its own in the file;
+/// or one without a path.
 pub fn raw_files(
     rt: &HostRuntime,
     words: &[String],
 ) -> Result<Vec<FileSource<HostRuntime>>, AllocError>
-    ensures { IfOk result (λ raws. vec_len raws ≡ 1) }
+    ensures some { IfOk result (λ raws. 0 < vec_len raws) }
+    ensures ranks { (c : ConvertValue) → Give (map string_bytes words.now) (Command.Convert c) →
+        IfOk result (λ raws. vec_len raws ≡ c.ranks) }
 {
-    let path = String::from_str(rt.alloc(), raw_path(words))?;
-    let mut raws = Vec::with_capacity(rt.alloc(), 1)?;
-    raws.push(FileSource::new(rt.clone()?, path))?;
+    let ranks = ranks_of(words);
+    let mut raws = Vec::with_capacity(rt.alloc(), ranks as usize)?;
+    for rank in 0..ranks {
+        let path = String::from_str(rt.alloc(), raw_path(words))?;
+        raws.push(FileSource::new(rt.clone()?, path))?;
+    }
     Ok(raws)
+}
+
+/// How many ranks convert by the words; 1 where they do not say.
+fn ranks_of(words: &[String]) -> u32
+    ensures some { 1 ≤ result }
+    ensures convert { (c : ConvertValue) → Give (map string_bytes words.now) (Command.Convert c) → result ≡ c.ranks }
+{
+    match read_words(words) {
+        Ok(Command::Convert(convert)) => convert.ranks,
+        _ => 1,
+    }
 }
 
 /// The dataset that the words name, or one without a path.
@@ -94,7 +112,7 @@ pub fn last_fault<'o, R: Sockets>(
     doors: &'o [StdDoor<R>],
 ) -> Option<Fault<'o>> {
     match cause {
-        Cause::RawFault => raws.first()?.last_fault(),
+        Cause::RawFault => first_fault(raws),
         Cause::StoreFault => match bay.last_fault() {
             Some(fault) => Some(fault),
             None => readers.first()?.last_fault(),
@@ -103,4 +121,14 @@ pub fn last_fault<'o, R: Sockets>(
         Cause::DoorFault => doors.first()?.last_fault(),
         _ => None,
     }
+}
+
+/// Why a call on a raw volume failed, of the first one of which one did.
+fn first_fault<'o>(raws: &'o [FileSource<HostRuntime>]) -> Option<Fault<'o>> {
+    for raw in raws {
+        if let Some(fault) = raw.last_fault() {
+            return Some(fault);
+        }
+    }
+    None
 }

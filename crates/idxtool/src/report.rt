@@ -6,7 +6,7 @@ ghost use Rattle.idx_commands.specs.Cause.{message_of};
 use crate::paths::{dataset_path, raw_path};
 use crate::plain_words::{plain_table_words, plain_words};
 use crate::shown::Shown;
-use idx_commands::{Cause, Done, MAX_ANSWER, MAX_VOLUME};
+use idx_commands::{Cause, Done, MAX_ANSWER, MAX_FILE, MAX_VOLUME};
 use idx_header::{Header, HeaderKind};
 use idx_real::Fault;
 use idx_table::TableKind;
@@ -125,7 +125,10 @@ fn print_too_large<W: Write>(err: &mut W, words: &[String]) -> io::Result<()> {
             "  an answer has at most {MAX_ANSWER} bytes: ask for a smaller REGION or a coarser HI"
         )
     } else {
-        writeln!(err, "  a raw volume has at most {MAX_VOLUME} bytes")
+        writeln!(
+            err,
+            "  a raw volume has at most {MAX_VOLUME} bytes, and a file of a step at most {MAX_FILE}"
+        )
     }
 }
 

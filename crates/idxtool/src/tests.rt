@@ -1,6 +1,7 @@
 use crate::notice::{standing_steps, write_notice};
 use crate::report::report;
 use crate::usage::{text_asked_for, write_text};
+use crate::work_line::write_work;
 use idx_commands::{Cause, Done};
 use idx_header::HeaderKind;
 use idx_memory::{MemBay, MemSink};
@@ -171,6 +172,15 @@ fn a_notice_is_one_line(rt: HostRuntime) -> Result<(), Fail> {
     write_notice(&mut err, address, Some(2), "a\nb.idx")?;
     write_notice(&mut err, address, None, "v.idx")?;
     let want = "  listening on [::1]:8080, 2 steps of a\\nb.idx\n  listening on [::1]:8080\n";
+    assert_eq!(rt; err.as_slice(), want.as_bytes());
+    Ok(())
+}
+
+#[test]
+fn a_conversion_says_what_it_converts(rt: HostRuntime) -> Result<(), Fail> {
+    let mut err = Vec::new(rt.alloc());
+    write_work(&mut err, "a\tb.raw", "v.idx", 4)?;
+    let want = "  converting a\\tb.raw into v.idx, 4 ranks";
     assert_eq!(rt; err.as_slice(), want.as_bytes());
     Ok(())
 }

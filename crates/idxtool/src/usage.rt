@@ -40,7 +40,7 @@ idxtool: samples, headers and files of ViSUS IDX data, with proved answers
 
       DATASET   the header file, as run.idx; the files are written beside it
       RAW       the file: for each field the samples of BOX in row-major order,
-                axis 0 fastest; at most 2^30 bytes in all
+                axis 0 fastest; at most 2^36 bytes in all
       BOX       inclusive bounds `lo hi` of each axis, in one quoted word
       FIELDS    names and types, as \"density float32 + velocity float64[3]\";
                 int8 to int64, uint8 to uint64, float32, float64
@@ -52,7 +52,8 @@ idxtool: samples, headers and files of ViSUS IDX data, with proved answers
       TIME      the first and the last step and the name of a step's folder, as
                 \"0 99 time%04d/\": %0Nd is the step in N decimal digits
       STEP      the step that is written
-      RANKS     1 to 256, else 1; it has no effect yet
+      RANKS     how many ranks, each a worker thread, read and write; 1 to 256,
+                else 1
 
   idxtool query DATASET TIME FIELD REGION LO HI [--cache BLOCKS]
       writes to standard output the samples of a field of a step at the points

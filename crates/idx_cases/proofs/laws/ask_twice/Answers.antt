@@ -19,7 +19,7 @@ pub returns-clause-second : goal.returns-clause-second
 returns-clause-second g c = λ ends.
     let words : List (List ℕ) = map string_bytes c.args.words.now in
     let raw : contents_at g.V.Source.contents c.run-before.new.raws.items 0 ≡ contents_at g.V.Source.contents c.args.raws.now.items 0 =
-    ap (λ (all : List (Option (List ℕ))). slice_index_or all 0 None) c.run-before.ensures.rest.raws.same in
+    ap (λ (all : List (Option (List ℕ))). slice_index_or all 0 None) c.run-before.ensures.rest.raws in
     subst (λ (bytes : Option (List ℕ)). WroteAnswer words bytes (g.B.Bay.header c.args.bay.now) (g.B.Bay.files c.args.bay.now) (g.K.Sink.contents c.args.second.now) (g.K.Sink.contents c.run-after.new.out)) raw
     (subst (λ (text : Option (List ℕ)). WroteAnswer words (contents_at g.V.Source.contents c.run-before.new.raws.items 0) text (g.B.Bay.files c.args.bay.now) (g.K.Sink.contents c.args.second.now) (g.K.Sink.contents c.run-after.new.out))
     ((c.run-before.ensures.rest.unchanged c.requires.asks).header)

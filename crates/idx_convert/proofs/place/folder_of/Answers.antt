@@ -1,5 +1,5 @@
 use Rattle.std.proofs.Common.{sym, ◌∙◌}
-use Rattle.idx_gather.proofs.StepLemmas.{folder_exists}
+use Rattle.idx_convert.proofs.NextLemmas.{folder_exists}
 use Rattle.idx_convert.proofs.place.folder_of.Goals as goal
 
 pub unreachable-requires : goal.unreachable-requires

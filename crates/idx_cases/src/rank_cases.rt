@@ -1,0 +1,130 @@
+//! `convert` by several ranks.
+use crate::convert_cases::{STEP, WORDS};
+use crate::setting::{holds_step, words_in};
+use crate::waiting_source::WaitingSource;
+use idx_commands::{Cause, Done, run};
+use idx_memory::{MemBay, MemDoor, MemReader, MemSink};
+use idx_outside::Bytes;
+use std::alloc::{AllocError, Global};
+use std::sync::atomic::AtomicBool;
+use std::test::Fail;
+use std::thread::Threads;
+
+/// The raw volume.
+static RAW: [u8; 16] = [0, 1, 2, 3, 4, 5, 6, 7, 8, 9, 10, 11, 12, 13, 14, 15];
+
+/// The same without its last sample.
+static SHORT: [u8; 15] = [0, 1, 2, 3, 4, 5, 6, 7, 8, 9, 10, 11, 12, 13, 14];
+
+/// The words for so many ranks.
+fn words_for(alloc: Global, ranks: u32) -> Result<Vec<String>, AllocError> {
+    let mut words = words_in(alloc, WORDS)?;
+    words.push(String::from_str(alloc, "--ranks")?)?;
+    words.push(format!(in alloc; "{ranks}")?)?;
+    Ok(words)
+}
+
+/// How `convert` by so many ranks out of these raw volumes ends over an empty bay, and whether exactly the step stands.
+fn converted<T: Threads + Sync>(
+    rt: &T,
+    alloc: Global,
+    ranks: u32,
+    raws: &mut Vec<WaitingSource<'_>>,
+) -> Result<(Done, bool), AllocError> {
+    let words = words_for(alloc, ranks)?;
+    let mut bay = MemBay::new(
+        Bytes::new(alloc),
+        Vec::new(alloc),
+        Vec::new(alloc),
+        Vec::new(alloc),
+    );
+    let mut readers = Vec::with_capacity(alloc, 1)?;
+    readers.push(MemReader::new(Vec::new(alloc)))?;
+    let mut doors = Vec::with_capacity(alloc, 1)?;
+    doors.push(MemDoor::new(Vec::new(alloc), Vec::new(alloc)))?;
+    let mut out = MemSink::new(Vec::new(alloc));
+    if raws.is_empty() {
+        return Ok((Done::of(Cause::RawFault), false));
+    }
+    let done = run(
+        rt,
+        alloc,
+        &words,
+        raws,
+        &mut bay,
+        &mut readers,
+        &mut out,
+        &mut doors,
+    );
+    Ok((done, holds_step(alloc, STEP, &bay)?))
+}
+
+/// So many raw volumes of these bytes, none of which waits.
+fn raws_of<'a>(
+    alloc: Global,
+    bytes: &'static [u8],
+    count: usize,
+    is_read: &'a AtomicBool,
+) -> Result<Vec<WaitingSource<'a>>, AllocError> {
+    let mut raws = Vec::new(alloc);
+    for _ in 0..count {
+        raws.push(WaitingSource::new(bytes, None, is_read))?;
+    }
+    Ok(raws)
+}
+
+#[test]
+fn each_number_of_ranks_makes_the_same_step(rt: HostRuntime) -> Result<(), Fail> {
+    let is_read = AtomicBool::new(false);
+    for (ranks, count) in [
+        (1, 1),
+        (2, 2),
+        (3, 3),
+        (4, 4),
+        (8, 8),
+        (4, 2),
+        (256, 3),
+        (1, 3),
+    ] {
+        let mut raws = raws_of(rt.alloc(), &RAW, count, &is_read)?;
+        let (done, stands) = converted(&rt, rt.alloc(), ranks, &mut raws)?;
+        assert_eq!(rt; done.cause, Cause::Done, "{ranks} ranks");
+        assert!(rt; stands, "{ranks} ranks");
+    }
+    Ok(())
+}
+
+#[test]
+fn the_length_is_refused_for_any_number_of_ranks(rt: HostRuntime) -> Result<(), Fail> {
+    let is_read = AtomicBool::new(false);
+    for ranks in 1..=4 {
+        let mut raws = raws_of(rt.alloc(), &SHORT, 4, &is_read)?;
+        let (done, _) = converted(&rt, rt.alloc(), ranks, &mut raws)?;
+        let cause = Cause::RawWrongSize {
+            want: 16,
+            found: 15,
+        };
+        assert_eq!(rt; done.cause, cause, "{ranks} ranks");
+    }
+    Ok(())
+}
+
+#[test]
+fn ranks_read_beside_each_other(rt: HostRuntime) -> Result<(), Fail> {
+    for first_waits in [true, false] {
+        let (first, second) = (AtomicBool::new(false), AtomicBool::new(false));
+        let (waits, other) = if first_waits {
+            (Some(&second), None)
+        } else {
+            (None, Some(&first))
+        };
+        let mut raws = Vec::new(rt.alloc());
+        raws.push(WaitingSource::new(&RAW, waits, &first))?;
+        raws.push(WaitingSource::new(&RAW, other, &second))?;
+        let (done, stands) = converted(&rt, rt.alloc(), 2, &mut raws)?;
+        assert_eq!(rt; done.cause, Cause::Done);
+        assert!(rt; stands);
+        assert!(rt; !raws.iter().any(WaitingSource::met_limit));
+    }
+    Ok(())
+}

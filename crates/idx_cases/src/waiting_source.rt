@@ -1,0 +1,102 @@
+ghost use Rattle.std.specs.Prelude.{None};
+
+use idx_outside::{Outage, Source};
+use std::sync::atomic::{AtomicBool, Ordering};
+use std::thread;
+
+/// How often a source that waits looks whether it is over, and how often it looks away in between.
+const TURNS: u32 = 1_000_000;
+
+const PAUSES: u32 = 64;
+
+/// A raw volume whose first read waits until another one was read, for at most a million turns, and which says when it is
+/// read itself. It tells nothing of its bytes.
+#[derive(Drop)]
+pub(crate) struct WaitingSource<'a> {
+    bytes: &'static [u8],
+    waits_for: Option<&'a AtomicBool>,
+    is_read: &'a AtomicBool,
+    met_limit: bool,
+    asked: u64,
+    faults: u64,
+}
+
+impl<'a> WaitingSource<'a> {
+    /// The raw volume of these bytes.
+    pub(crate) fn new(
+        bytes: &'static [u8],
+        waits_for: Option<&'a AtomicBool>,
+        is_read: &'a AtomicBool,
+    ) -> WaitingSource<'a> {
+        WaitingSource {
+            bytes,
+            waits_for,
+            is_read,
+            met_limit: false,
+            asked: 0,
+            faults: 0,
+        }
+    }
+
+    /// Whether it read because its turns were over.
+    pub(crate) fn met_limit(&self) -> bool {
+        self.met_limit
+    }
+}
+
+impl Source for WaitingSource<'_> {
+    ghost contents = { λ _. None };
+
+    ghost asked = { λ s. s.asked };
+
+    ghost faults = { λ s. s.faults };
+
+    fn len(&mut self) -> Result<u64, Outage> {
+        Ok(self.bytes.len() as u64)
+    }
+
+    fn read_at(&mut self, at: u64, into: &mut [u8]) -> Result<(), Outage> {
+        self.asked = self.asked.wrapping_add(into.len() as u64);
+        if let Some(other) = self.waits_for
+            && !is_soon(other)
+        {
+            self.met_limit = true;
+        }
+        self.waits_for = None;
+        self.is_read.store(true, Ordering::SeqCst);
+        match part(self.bytes, at, into.len()) {
+            Some(found) if found.len() == into.len() => {
+                into.copy_from_slice(found);
+                Ok(())
+            }
+            _ => {
+                self.faults = self.faults.saturating_add(1);
+                Err(Outage)
+            }
+        }
+    }
+
+    fn faults(&self) -> u64 {
+        self.faults
+    }
+}
+
+/// Whether something is so within the turns.
+fn is_soon(sign: &AtomicBool) -> bool {
+    for _ in 0..TURNS {
+        if sign.load(Ordering::SeqCst) {
+            return true;
+        }
+        for _ in 0..PAUSES {
+            thread::yield_now();
+        }
+    }
+    false
+}
+
+/// So many bytes from a place on, where there are as many, and none else.
+fn part(bytes: &[u8], at: u64, count: usize) -> Option<&[u8]> {
+    let from = at as usize;
+    let to = from.checked_add(count)?;
+    bytes.get(from..to)
+}

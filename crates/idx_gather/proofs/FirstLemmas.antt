@@ -1,0 +1,257 @@
+-- The files of a window are those of the step behind the first ones.
+use Rattle.std.proofs.Common.{◌≡◌, ◌≢◌, ℕ, ◌+◌, ◌≤◌, List, [], ◌∷◌, ◌++◌, length, get_or, map, take, drop, refl, sym, ap, subst, ◌∙◌, arith}
+use Rattle.std.specs.Prelude.{◌==◌, ◌&&◌, All, AllPairs, Contains, IfSome, Option, Some, None}
+use Rattle.std.specs.List.{list_any, range_with_len}
+use Rattle.std.proofs.lemmas.List.{length-append, length-map, map-append}
+use Rattle.std.proofs.lemmas.List.Elements.{All-cons, All-contains_itself, All-head, All-map, All-nil, All-same, All-tail, All-take, All-weaker}
+use Rattle.idx_outside.specs.Files.{entry_shown, known_files, known_with, shown}
+use Rattle.idx_outside.specs.declared.mem_file.MemFile.{MemFile}
+use Rattle.idx_header.specs.Header.{HeaderValue, IsHeader, volume_bytes}
+use Rattle.idx_header.specs.Names.{file_name}
+use Rattle.idx_layout.specs.declared.layout.Layout.TheVariants.{Hz}
+use Rattle.idx_layout.specs.Files.{file_bytes, length_of_file}
+use Rattle.idx_layout.specs.OfHeader.{placing_of}
+use Rattle.idx_layout.specs.Placing.{Placing, block_count, file_numbers, file_of, is_present}
+use Rattle.idx_layout.specs.Step.{step_file, volume_of_raw}
+use Rattle.idx_pieces.specs.Runs.{HasSamples}
+use Rattle.idx_pieces.specs.Samples.{raw_sample}
+use Rattle.idx_pieces.specs.declared.piece.Piece.{Piece}
+use Rattle.idx_dock.specs.Content.{dock_bytes, runs_in, sample_of}
+use Rattle.idx_dock.specs.Dock.{DockValue, IsDock, awaited_of, missing, new_dock, reaching}
+use Rattle.idx_dock.proofs.CompleteLemmas.{complete_bytes}
+use Rattle.idx_dock.proofs.ContentLemmas.{one_of}
+use Rattle.idx_seal.specs.Files.{dock_file}
+use Rattle.idx_volumes.specs.Volumes.{HaveOneFile, IsVolumeOf}
+use Rattle.idx_volumes.proofs.DockLemmas.{dock_volume}
+use Rattle.idx_volumes.proofs.JoinLemmas.{join}
+use Rattle.idx_gather.specs.Gather.{HasVolume}
+use Rattle.idx_gather.specs.States.{AreDocks, AreFirstFiles, AreFull, HaveSamples, IsDockOf, IsOpening}
+use Rattle.idx_gather.specs.Windows.{run_count}
+use Rattle.idx_gather.proofs.PairLemmas.{All-back, All-front, All-of_map, kept_apart, pairs_head, pairs_of_map, pairs_tail, pairs_take}
+use Rattle.idx_gather.proofs.RunLemmas.{run_within}
+use Rattle.idx_gather.proofs.SealLemmas.{length_take, take_more}
+
+-- ---- lists
+
+maps_agree : {X Y : Type 0} (f g : X → Y) (xs : List X) → All (λ x. f x ≡ g x) xs → map f xs ≡ map g xs
+maps_agree f g [] all = refl
+maps_agree f g (x ∷ xs) all =
+    ap (λ y. y ∷ map f xs) (All-head (λ x. f x ≡ g x) x xs all) ∙ ap (λ ys. g x ∷ ys) (maps_agree f g xs (All-tail (λ x. f x ≡ g x) x xs all))
+
+pairs_back : {X : Type 0} (R : X → X → Type 0) (xs ys : List X) → AllPairs R (xs ++ ys) → AllPairs R ys
+pairs_back R [] ys all = all
+pairs_back R (x ∷ xs) ys all = pairs_back R xs ys (pairs_tail R x (xs ++ ys) all)
+
+pairs_across : {X : Type 0} (R : X → X → Type 0) (xs ys : List X) → AllPairs R (xs ++ ys) → All (λ x. All (R x) ys) xs
+pairs_across R [] ys all = All-nil (λ x. All (R x) ys)
+pairs_across R (x ∷ xs) ys all =
+    All-cons (λ x. All (R x) ys) x xs (All-back (R x) xs ys (pairs_head R x (xs ++ ys) all)) (pairs_across R xs ys (pairs_tail R x (xs ++ ys) all))
+
+-- ---- volumes
+
+-- a volume u with the files of the docks, whose other files are those of v
+pub record IsGrown (h : HeaderValue) (docks : List DockValue) (v u : List (List (List ℕ))) : Type 0 where
+  pub volume : IsVolumeOf h u
+  pub kept : (file : ℕ) → Contains (file_numbers (placing_of h)) file → All (λ d. file ≢ d.file) docks → HaveOneFile h file u v
+  pub own : All (λ d. dock_bytes d ≡ file_bytes Hz (placing_of h) u d.file) docks
+
+-- some volume has the file of a dock
+volume_of_dock : (h : HeaderValue) (d : DockValue) → IsDock d → d.header ≡ h →
+    (w : List (List (List ℕ))) × (IsVolumeOf h w × (dock_bytes d ≡ file_bytes Hz (placing_of h) w d.file))
+volume_of_dock h d is same =
+    subst (λ (g : HeaderValue). (w : List (List (List ℕ))) × (IsVolumeOf g w × (dock_bytes d ≡ file_bytes Hz (placing_of g) w d.file))) same (dock_volume d is)
+
+-- some volume has the files of all
+grow : (h : HeaderValue) (docks : List DockValue) (v : List (List (List ℕ))) → All IsDock docks → All (λ d. d.header ≡ h) docks →
+    All (λ d. Contains (file_numbers (placing_of h)) d.file) docks → AllPairs (λ a b. a.file ≢ b.file) docks → IsVolumeOf h v → (u : List (List (List ℕ))) × IsGrown h docks v u
+grow h [] v are of_h among apart is =
+    (v, record { volume = is; kept = λ file inside others. refl; own = All-nil (λ d. dock_bytes d ≡ file_bytes Hz (placing_of h) v d.file) })
+grow h (d ∷ docks) v are of_h among apart is =
+    let dock : IsDock d = All-head IsDock d docks are in
+    let same : d.header ≡ h = All-head (λ e. e.header ≡ h) d docks of_h in
+    let w = volume_of_dock h d dock same in
+    let here : Contains (file_numbers (placing_of h)) d.file = All-head (λ e. Contains (file_numbers (placing_of h)) e.file) d docks among in
+    let one = join h v w.0 d.file (subst IsHeader same dock.header) is w.1.0 here in
+    let rest = grow h docks one.0 (All-tail IsDock d docks are) (All-tail (λ e. e.header ≡ h) d docks of_h)
+    (All-tail (λ e. Contains (file_numbers (placing_of h)) e.file) d docks among) (pairs_tail (λ a b. a.file ≢ b.file) d docks apart) one.1.volume in (
+      rest.0,
+      record {
+        volume = rest.1.volume;
+        kept = λ file inside others. rest.1.kept file inside (All-tail (λ e. file ≢ e.file) d docks others)
+            ∙ one.1.others file inside (All-head (λ e. file ≢ e.file) d docks others);
+        own = All-cons (λ e. dock_bytes e ≡ file_bytes Hz (placing_of h) rest.0 e.file) d docks
+            (w.1.1 ∙ sym one.1.own ∙ sym (rest.1.kept d.file here (pairs_head (λ a b. a.file ≢ b.file) d docks apart))) rest.1.own;
+      },
+    )
+
+-- a dock that has the samples of a raw volume has its file
+told_bytes : (h : HeaderValue) (raw : List ℕ) (v : List (List (List ℕ))) (d : DockValue) → v ≡ volume_of_raw h raw → IsVolumeOf h v → IsDock d → d.header ≡ h → missing d ≡ None →
+    All (HasSamples h (raw_sample h raw)) (runs_in d.awaited) → dock_bytes d ≡ file_bytes Hz (placing_of h) v d.file
+told_bytes h raw v d at are is same none given =
+    let samples : All (HasSamples h (sample_of h v)) (runs_in d.awaited) =
+    subst (λ (w : List (List (List ℕ))). All (HasSamples h (sample_of h w)) (runs_in d.awaited)) (sym at) given in
+    subst (λ (g : HeaderValue). dock_bytes d ≡ file_bytes Hz (placing_of g) v d.file) same
+    (complete_bytes d is none v (subst (λ (g : HeaderValue). IsVolumeOf g v) (sym same) are)
+    (λ r here. subst (λ (g : HeaderValue). HasSamples g (sample_of g v) r) (sym same) (one_of (HasSamples h (sample_of h v)) (runs_in d.awaited) r samples here)))
+
+-- a volume with the files of the docks, which is that of the raw input where this is told
+grown : (told : Option (List ℕ)) (h : HeaderValue) (docks : List DockValue) (v : List (List (List ℕ))) → IfSome told (λ raw. v ≡ volume_of_raw h raw) → IsVolumeOf h v →
+    All IsDock docks → All (λ d. d.header ≡ h) docks → All (λ d. Contains (file_numbers (placing_of h)) d.file) docks → AllPairs (λ a b. a.file ≢ b.file) docks → AreFull docks →
+    ((raw : List ℕ) → told ≡ Some raw → HaveSamples h (raw_sample h raw) docks) →
+    (u : List (List (List ℕ))) × (IsGrown h docks v u × IfSome told (λ raw. u ≡ volume_of_raw h raw))
+grown None h docks v at is are of_h among apart full samples =
+    let one = grow h docks v are of_h among apart is in
+    (one.0, (one.1, tt))
+grown (Some raw) h docks v at is are of_h among apart full samples = (
+  v,
+  (
+    record {
+      volume = is;
+      kept = λ file inside others. refl;
+      own = λ k d within.
+          told_bytes h raw v (get_or docks k d) at is (are k d within) (of_h k d within) (full k d within) (samples raw refl k d within);
+    },
+    at,
+  ),
+)
+
+-- ---- files
+
+-- the files of docks are those of a volume that has them
+files_of_docks : (h : HeaderValue) (step : ℕ) (u : List (List (List ℕ))) (docks : List DockValue) → All (λ d. dock_bytes d ≡ file_bytes Hz (placing_of h) u d.file) docks →
+    map (step_file Hz h u step) (map (λ d. d.file) docks) ≡ map (dock_file h step) docks
+files_of_docks h step u [] own = refl
+files_of_docks h step u (d ∷ docks) own =
+    ap (λ bytes. (file_name h step d.file, bytes) ∷ map (step_file Hz h u step) (map (λ e. e.file) docks)) (sym (All-head (λ e. dock_bytes e ≡ file_bytes Hz (placing_of h) u e.file) d docks own))
+    ∙ ap (λ rest. dock_file h step d ∷ rest) (files_of_docks h step u docks (All-tail (λ e. dock_bytes e ≡ file_bytes Hz (placing_of h) u e.file) d docks own))
+
+-- the numbers of files differ
+numbers_apart : (l : Placing) → AllPairs (λ x y. x ≢ y) (file_numbers l)
+numbers_apart l = kept_apart (λ file. list_any (λ block. is_present l block && (file_of l block == file)) (range_with_len 0 (block_count l))) 0 (block_count l)
+
+-- ---- new docks
+
+none_runs : (pieces : List Piece) → runs_in (map awaited_of pieces) ≡ []
+none_runs [] = refl
+none_runs (p ∷ ps) = none_runs ps
+
+-- what was delivered to new docks has any samples: it is nothing
+new_have : (h g : HeaderValue) (sample : ℕ → List ℕ → List ℕ) (pieces : List Piece) (files : List ℕ) (docks : List DockValue) → docks ≡ map (new_dock g pieces) files →
+    HaveSamples h sample docks
+new_have h g sample pieces files docks made =
+    All-same (λ (d : DockValue). All (HasSamples h sample) (runs_in d.awaited)) docks (map (new_dock g pieces) files) made
+    (All-map (λ (d : DockValue). All (HasSamples h sample) (runs_in d.awaited)) (new_dock g pieces) files
+    (λ k d within. All-same (HasSamples h sample) (runs_in (map awaited_of (reaching g (get_or files k d) pieces))) []
+    (none_runs (reaching g (get_or files k d) pieces)) (All-nil (HasSamples h sample))))
+
+-- what was delivered since has the samples of the raw input
+pub have_since : (e g h k : HeaderValue) (now told : Option (List ℕ)) (new docks : List DockValue) (pieces : List Piece) (files : List ℕ) → e ≡ h → g ≡ h → now ≡ told →
+    HasVolume h told → new ≡ map (new_dock k pieces) files →
+    ((bytes : List ℕ) → now ≡ Some bytes → length bytes ≡ volume_bytes e → HaveSamples e (raw_sample e bytes) new → HaveSamples e (raw_sample e bytes) docks) →
+    (raw : List ℕ) → told ≡ Some raw → HaveSamples g (raw_sample g raw) docks
+have_since e g h k now told new docks pieces files first last same has made samples raw is =
+    let whole : HasVolume h (Some raw) = subst (λ (o : Option (List ℕ)). HasVolume h o) is has in
+    let many : length raw ≡ volume_bytes e = subst (λ (x : HeaderValue). length raw ≡ volume_bytes x) (sym first) whole in
+    subst (λ (x : HeaderValue). HaveSamples x (raw_sample x raw) docks) (first ∙ sym last)
+    (samples raw (same ∙ is) many (new_have e k (raw_sample e raw) pieces files new made))
+
+-- ---- the next window
+
+module _ (h : HeaderValue) (step room : ℕ) (pieces : List Piece) (files : List ℕ) (sealed : List (List ℕ × Option (List ℕ))) (docks : List DockValue) (done : ℕ) (left : List Piece)
+    (known : Option (List MemFile)) (told : Option (List ℕ)) where
+  count : ℕ
+  count = run_count (length_of_file (placing_of h)) room (drop (length sealed) files)
+
+  window : List ℕ
+  window = map (λ (d : DockValue). d.file) docks
+
+  more : List (List ℕ × Option (List ℕ))
+  more = known_files known (map (dock_file h step) docks)
+
+  window_is : length sealed ≤ length files → AreDocks h room pieces (drop (length sealed) files) done left docks → take (length sealed) files ++ window ≡ take (length sealed + count) files
+  unfolding count window
+  window_is within are = ap (λ w. take (length sealed) files ++ w) are.window ∙ take_more (length sealed) count files within
+
+  number : length sealed ≤ length files → AreDocks h room pieces (drop (length sealed) files) done left docks → length (sealed ++ more) ≡ length sealed + count
+  unfolding count more
+  number within are =
+      length-append sealed more
+      ∙ ap (λ k. length sealed + k)
+      (length-map (map (dock_file h step) docks) (entry_shown (known_with known)) ∙ length-map docks (dock_file h step)
+      ∙ sym (length-map docks (λ (d : DockValue). d.file)) ∙ ap length are.window
+      ∙ length_take count (drop (length sealed) files) (run_within (length_of_file (placing_of h)) room (drop (length sealed) files)))
+
+  numbers : files ≡ file_numbers (placing_of h) → length sealed ≤ length files → AreDocks h room pieces (drop (length sealed) files) done left docks →
+      All (Contains (file_numbers (placing_of h))) (take (length sealed) files ++ window)
+  numbers is within are =
+      All-same (Contains (file_numbers (placing_of h))) (take (length sealed) files ++ window) (take (length sealed + count) files) (window_is within are)
+      (All-take (Contains (file_numbers (placing_of h))) (length sealed + count) files
+      (All-same (Contains (file_numbers (placing_of h))) files (file_numbers (placing_of h)) is (All-contains_itself (file_numbers (placing_of h)))))
+
+  differ : files ≡ file_numbers (placing_of h) → length sealed ≤ length files → AreDocks h room pieces (drop (length sealed) files) done left docks →
+      AllPairs (λ x y. x ≢ y) (take (length sealed) files ++ window)
+  differ is within are =
+      subst (AllPairs (λ (x y : ℕ). x ≢ y)) (sym (window_is within are))
+      (pairs_take (λ x y. x ≢ y) (length sealed + count) files (subst (AllPairs (λ (x y : ℕ). x ≢ y)) (sym is) (numbers_apart (placing_of h))))
+
+  -- the step has the files of the window behind the first ones
+  pub first_more : files ≡ file_numbers (placing_of h) → length sealed ≤ length files → AreDocks h room pieces (drop (length sealed) files) done left docks →
+      All IsDock docks → AreFull docks → ((raw : List ℕ) → told ≡ Some raw → HaveSamples h (raw_sample h raw) docks) → AreFirstFiles h step known told files sealed →
+      AreFirstFiles h step known told files (sealed ++ known_files known (map (dock_file h step) docks))
+  unfolding window more
+  first_more is within are docks_are full samples first =
+      let n : ℕ = length sealed in
+      let before : List ℕ = take n files in
+      let P : ℕ → Type 0 = Contains (file_numbers (placing_of h)) in
+      let v : List (List (List ℕ)) = first.volume in
+      let apart = differ is within are in
+      let among = numbers is within are in
+      let all = grown told h docks v first.told_is first.is docks_are (All-weaker (IsDockOf h pieces) (λ d. d.header ≡ h) (λ d of. of.header) docks are.docks_are)
+      (All-of_map P (λ (d : DockValue). d.file) docks (All-back P before window among))
+      (pairs_of_map (λ x y. x ≢ y) (λ (d : DockValue). d.file) docks (pairs_back (λ x y. x ≢ y) before window apart)) full samples in
+      let u : List (List (List ℕ)) = all.0 in
+      let earlier : map (step_file Hz h u step) before ≡ map (step_file Hz h v step) before =
+      maps_agree (step_file Hz h u step) (step_file Hz h v step) before
+      (λ k d inside. ap (λ bytes. (file_name h step (get_or before k d), bytes))
+      (all.1.0.kept (get_or before k d) (All-front P before window among k d inside)
+      (All-of_map (λ y. get_or before k d ≢ y) (λ (d : DockValue). d.file) docks (pairs_across (λ x y. x ≢ y) before window apart k d inside)))) in
+      let new : map (step_file Hz h u step) window ≡ map (dock_file h step) docks = files_of_docks h step u docks all.1.0.own in
+      record {
+        volume = u;
+        is = all.1.0.volume;
+        told_is = all.1.1;
+        same =
+            ap (λ entries. entries ++ more) (first.same ∙ ap (known_files known) (sym earlier))
+            ∙ ap (λ entries. known_files known (map (step_file Hz h u step) before) ++ known_files known entries) (sym new)
+            ∙ sym (map-append (entry_shown (known_with known)) (map (step_file Hz h u step) before) (map (step_file Hz h u step) window))
+            ∙ ap (known_files known) (sym (map-append (step_file Hz h u step) before window))
+            ∙ ap (λ xs. known_files known (map (step_file Hz h u step) xs)) (window_is within are ∙ ap (λ k. take k files) (sym (number within are)));
+      }
+
+-- the same of what equals these
+moved : (h g : HeaderValue) (step s : ℕ) (known k : Option (List MemFile)) (told : Option (List ℕ)) (files fs : List ℕ) (sealed entries : List (List ℕ × Option (List ℕ))) →
+    h ≡ g → step ≡ s → known ≡ k → files ≡ fs → sealed ≡ entries → AreFirstFiles h step known told files sealed → AreFirstFiles g s k told fs entries
+moved h g step s known k told files fs sealed entries hg ss ks all same first =
+    subst (λ (x : List (List ℕ × Option (List ℕ))). AreFirstFiles g s k told fs x) same
+    (subst (λ (x : List ℕ). AreFirstFiles g s k told x sealed) all
+    (subst (λ (x : Option (List MemFile)). AreFirstFiles g s x told files sealed) ks
+    (subst (λ (x : ℕ). AreFirstFiles g x known told files sealed) ss
+    (subst (λ (x : HeaderValue). AreFirstFiles x step known told files sealed) hg first))))
+
+module _ {L : Type 0} (contents : L → Option (List ℕ)) (h g : HeaderValue) (step s ranks room : ℕ) (pieces : List Piece) (files fs : List ℕ) (leaves now next : List (List ℕ × L)) (docks : List DockValue)
+    (done : ℕ) (left : List Piece) (known k : Option (List MemFile)) (told : Option (List ℕ)) where
+  -- after a window the files so far are the first ones
+  pub first_next : g ≡ h → s ≡ step → k ≡ known → fs ≡ files → now ≡ leaves → IsOpening g s ranks room pieces fs (map (λ leaf. leaf.0) now) →
+      AreDocks g room pieces (drop (length now) fs) done left docks → All IsDock docks → AreFull docks → ((raw : List ℕ) → told ≡ Some raw → HaveSamples g (raw_sample g raw) docks) →
+      shown contents next ≡ shown contents now ++ known_files k (map (dock_file g s) docks) → AreFirstFiles h step known told files (shown contents leaves) →
+      AreFirstFiles h step known told files (shown contents next)
+  first_next gh ss ks all same opening are docks_are full samples after first =
+      let sealed : List (List ℕ × Option (List ℕ)) = shown contents now in
+      let many : length sealed ≡ length now = length-map now (entry_shown contents) in
+      let first_of : List ℕ × L → List ℕ = λ leaf. leaf.0 in
+      let within : length sealed ≤ length fs = omega (arith, many, opening.few, length-map now first_of) in
+      let before : AreFirstFiles g s k told fs sealed =
+      moved h g step s known k told files fs (shown contents leaves) sealed (sym gh) (sym ss) (sym ks) (sym all) (ap (shown contents) (sym same)) first in
+      moved g h s step k known told fs files (sealed ++ known_files k (map (dock_file g s) docks)) (shown contents next) gh ss ks all (sym after)
+      (first_more g s room pieces fs sealed docks done left k told opening.files_are within
+      (subst (λ (n : ℕ). AreDocks g room pieces (drop n fs) done left docks) (sym many) are) docks_are full samples before)

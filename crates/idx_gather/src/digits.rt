@@ -1,0 +1,37 @@
+ghost use Rattle.std.specs.Prelude.{◌≡◌, ◌≤◌, length};
+ghost use Rattle.idx_gather.specs.Windows.{piece_digits, point_bytes};
+
+use idx_header::Header;
+
+/// The most pieces of a box have a number of so many digits, where the room is large enough.
+const FRONT_DIGITS: u32 = 6;
+
+/// How many last digits of the Z addresses of a piece's points are free: as many as let four such pieces fit into so many
+/// bytes, and make at most 64 pieces.
+pub(crate) fn piece_digits(header: &Header, room: u64) -> u32
+    ensures digits { result ≡ piece_digits header.now room }
+    ensures within { result ≤ length header.now.mask }
+{
+    let size = point_bytes(header);
+    let digits = header.max_level();
+    let most = digits - digits.min(FRONT_DIGITS);
+    for less in 0..most {
+        let e = most - less;
+        if 4 * (1 << e) * size <= room {
+            return e;
+        }
+    }
+    0
+}
+
+/// How many bytes the samples of a point have, those of all fields together.
+pub(crate) fn point_bytes(header: &Header) -> u64
+    ensures bytes { result ≡ point_bytes header.now }
+    ensures few { result ≤ 4096 }
+{
+    let mut size = 0;
+    for field in 0..header.field_count() {
+        size += header.sample_bytes(field);
+    }
+    size
+}

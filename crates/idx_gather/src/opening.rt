@@ -1,0 +1,20 @@
+ghost use Rattle.std.specs.Prelude.{map};
+ghost use Rattle.idx_gather.specs.States.{IsOpening};
+
+use idx_header::Header;
+use idx_outside::{Bytes, Leaf};
+use idx_pieces::Piece;
+
+/// A step that is gathered: the files that are sealed so far, which are the first ones, and what it takes to make the
+/// others.
+#[derive(Drop)]
+pub struct Opening<L: Leaf> {
+    pub(crate) header: Header,
+    pub(crate) step: u64,
+    pub(crate) ranks: u32,
+    pub(crate) room: u64,
+    pub(crate) pieces: Vec<Piece>,
+    pub(crate) files: Vec<u64>,
+    pub(crate) leaves: Vec<(Bytes, L)>,
+    ghost valid: { IsOpening header step ranks room pieces.items files.items (map (λ leaf. leaf.0) leaves.items) },
+}

@@ -1,4 +1,0 @@
-pub mod Refusals
-pub mod Windows
-pub mod States
-pub mod Causes
