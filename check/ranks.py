@@ -1,0 +1,78 @@
+#!/usr/bin/env python3
+"""Converts a volume of real size by several numbers of ranks, and looks at whether the files are the same.
+
+    check/ranks.py PROGRAM [--side 256]
+
+The volume has SIDE^3 samples of four bytes, each its own number in row-major order. The file of one rank is held against
+what the format says of it: its length, and the samples of a coarse slice; those of the others against it, byte for byte.
+The last line is `N passed, M failed`.
+"""
+import argparse
+import array
+import subprocess
+import sys
+import tempfile
+from pathlib import Path
+
+RANKS = (1, 2, 3, 4, 8)
+BLOCK_BITS = 16
+
+
+def words(program, dataset, raw, side, ranks):
+    """The words of a conversion into one file."""
+    digits = (side - 1).bit_length()
+    box = " ".join([f"0 {side - 1}"] * 3)
+    blocks = 2 ** (3 * digits - BLOCK_BITS)
+    texts = [box, "n float32", "V" + "012" * digits, str(BLOCK_BITS), str(blocks), "./%04x.bin", "0 9 time%04d/", "0"]
+    return [program, "convert", str(dataset), str(raw), *texts, "--ranks", str(ranks)]
+
+
+def slice_words(program, dataset, side):
+    """The words that ask for every fourth sample on two axes in the middle of the third."""
+    digits = (side - 1).bit_length()
+    region = f"0 {side - 1} 0 {side - 1} {side // 2} {side // 2}"
+    return [program, "query", str(dataset), "0", "n", region, "0", str(3 * digits - 6)]
+
+
+def slice_of(side):
+    """The bytes of that slice."""
+    plane = side // 2 * side * side
+    rows = range(0, side, 4)
+    return array.array("I", [plane + y * side + x for y in rows for x in rows]).tobytes()
+
+
+def main():
+    parser = argparse.ArgumentParser(description=__doc__, formatter_class=argparse.RawDescriptionHelpFormatter)
+    parser.add_argument("program")
+    parser.add_argument("--side", type=int, default=256, help="a power of two from 64")
+    given = parser.parse_args()
+    side = given.side
+    blocks = side ** 3 >> BLOCK_BITS
+    results = []
+    with tempfile.TemporaryDirectory() as folder:
+        top = Path(folder)
+        raw = top / "n.raw"
+        raw.write_bytes(array.array("I", range(side ** 3)).tobytes())
+        first = None
+        for ranks in RANKS:
+            dataset = top / f"of{ranks}" / "n.idx"
+            dataset.parent.mkdir()
+            run = subprocess.run(words(given.program, dataset, raw, side, ranks), capture_output=True, timeout=120)
+            files = {file.name: file.read_bytes() for file in sorted((dataset.parent / "time0000").glob("*"))}
+            if first is None:
+                first = files
+                length = 40 + 40 * blocks + 4 * side ** 3
+                results.append(("the file's length", [len(bytes_) for bytes_ in files.values()] == [length]))
+                asked = subprocess.run(slice_words(given.program, dataset, side), capture_output=True, timeout=120)
+                results.append(("a coarse slice", asked.returncode == 0 and asked.stdout == slice_of(side)))
+            results.append((f"the files of {ranks} ranks", run.returncode == 0 and not run.stderr and files == first))
+    for name, is_right in results:
+        if not is_right:
+            print(f"{name}: wrong")
+    passed = sum(is_right for _, is_right in results)
+    print(f"{passed} passed, {len(results) - passed} failed")
+    sys.exit(0 if passed == len(results) else 1)
+
+
+if __name__ == "__main__":
+    main()

@@ -1,0 +1,3 @@
+pub mod ReadyLemmas
+pub mod PartLemmas
+pub mod StateLemmas

@@ -1,0 +1,17 @@
+use Rattle.std.proofs.Common.{rules, ◌∙◌}
+use Rattle.idx_gather.proofs.BatchLemmas.{same_number}
+use Rattle.idx_gather.proofs.FillLemmas.{alike_still}
+use Rattle.idx_gather_cases.specs.Ready.{told}
+use Rattle.idx_gather_cases.proofs.states.fill.Goals as goal
+
+pub batches-preserved : goal.batches-preserved
+batches-preserved g c =
+    let inv = c.batches.invariant in
+    record {
+      opening = c.in_ok-docking.ensures.opening ∙ c.in_ok-parcel.ensures.opening ∙ inv.opening;
+      number = same_number told c.batches.raws.items c.parcel.new.raws.items c.parcel.ensures.same ∙ inv.number;
+      alike = alike_still told c.batches.raws.items c.parcel.new.raws.items c.parcel.ensures.same inv.alike;
+    }
+
+pub returns-clause-full : goal.returns-clause-full
+returns-clause-full g c = c.is_full.ensures.full.0 (search rules)
