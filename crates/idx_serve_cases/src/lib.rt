@@ -15,3 +15,5 @@ mod questions;
 mod refusals;
 #[cfg(test)]
 mod serving;
+#[cfg(test)]
+mod workers;

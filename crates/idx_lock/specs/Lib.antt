@@ -1,0 +1,2 @@
+pub mod LockRule
+pub mod Seats

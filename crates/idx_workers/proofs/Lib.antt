@@ -1,0 +1,3 @@
+pub mod TotalLemmas
+pub mod MovingLemmas
+pub mod WorkLemmas
