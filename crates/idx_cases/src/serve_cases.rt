@@ -2,7 +2,7 @@
 use crate::convert_cases::STEP;
 use crate::query_cases::{DAMAGES, first_damaged, second_damaged};
 use crate::revision_cases::SECOND_AGAIN;
-use crate::setting::{Case, Fails, HEADER, NONE_FAILS, calls, door_after};
+use crate::setting::{Case, Fails, HEADER, NONE_FAILS, Step, calls, door_after};
 use idx_commands::Cause;
 use idx_header::HeaderKind;
 use idx_memory::{MemDoor, MemLink};
@@ -349,6 +349,122 @@ static BREAKS: [Serving; 4] = [
     },
 ];
 
+/// A run without a link that publishes the step 0 of the bytes 0 to 15, which ends well. Nothing stands before.
+const LIVE_CASE: Case = Case {
+    words: "serve|v.idx|a|--ingest|0|--raw|r",
+    raw: (0, 16),
+    step: None,
+    fails: NONE_FAILS,
+    written: b"links 0 replies 0\n",
+    reads: 0,
+    ..CASE
+};
+
+const LIVE: Serving = Serving {
+    case: LIVE_CASE,
+    door: 0,
+    links: &[],
+    written: &[],
+};
+
+/// The same where a fault ends it before a link is asked for, and nothing is published or written.
+const NOT_LIVE: Case = Case {
+    written: b"",
+    step_after: None,
+    ..LIVE_CASE
+};
+
+/// A step is published at its first revision and at its second one, whose bytes are 16 to 31. It is not where the header
+/// lacks it, where the raw volume has another length, or where a call fails: the first of the raw volume, the calls of the bay
+/// for the header and for beginning the step, and the first and the last write of its files.
+static LIVES: [Serving; 9] = [
+    LIVE,
+    Serving {
+        case: Case {
+            raw: (16, 16),
+            step: Some(STEP),
+            reads: 2,
+            step_after: Some(Step {
+                behind: 2,
+                ..SECOND_AGAIN
+            }),
+            ..LIVE_CASE
+        },
+        ..LIVE
+    },
+    Serving {
+        case: Case {
+            words: "serve|v.idx|a|--raw|r|--ingest|10",
+            cause: Cause::NoStep { time: 10 },
+            ..NOT_LIVE
+        },
+        ..LIVE
+    },
+    Serving {
+        case: Case {
+            raw: (0, 15),
+            cause: Cause::RawWrongSize {
+                want: 16,
+                found: 15,
+            },
+            ..NOT_LIVE
+        },
+        ..LIVE
+    },
+    Serving {
+        case: Case {
+            fails: Fails {
+                raw: 1,
+                ..NONE_FAILS
+            },
+            cause: Cause::RawFault,
+            ..NOT_LIVE
+        },
+        ..LIVE
+    },
+    Serving {
+        case: Case {
+            fails: Fails {
+                raw: 2,
+                ..NONE_FAILS
+            },
+            cause: Cause::RawFault,
+            ..NOT_LIVE
+        },
+        ..LIVE
+    },
+    Serving {
+        case: Case {
+            fails: Fails {
+                bay: 1,
+                ..NONE_FAILS
+            },
+            cause: Cause::StoreFault,
+            ..NOT_LIVE
+        },
+        ..LIVE
+    },
+    Serving {
+        case: Case {
+            fails: Fails {
+                drafts: (1, 0),
+                ..NONE_FAILS
+            },
+            cause: Cause::StoreFault,
+            ..NOT_LIVE
+        },
+        ..LIVE
+    },
+    Serving {
+        case: Case {
+            words: "serve|v.idx|a|--ingest|0",
+            cause: Cause::Usage { at: 5 },
+            ..NOT_LIVE
+        },
+        ..LIVE
+    },
+];
+
 /// The calls of the bay and of the reader that fail, and how many reads are made.
 type Failure = (u64, u64, u64);
 
@@ -504,5 +620,11 @@ fn a_failed_call_ends_serve_before_any_link(rt: HostRuntime) -> Result<(), Fail>
 #[test]
 fn the_first_faulty_row_ends_serve(rt: HostRuntime) -> Result<(), Fail> {
     assert_eq!(rt; first_other_damage(&rt, rt.alloc())?, None);
+    Ok(())
+}
+
+#[test]
+fn a_step_is_published_meanwhile(rt: HostRuntime) -> Result<(), Fail> {
+    assert_eq!(rt; first_other(&rt, rt.alloc(), &LIVES)?, None);
     Ok(())
 }

@@ -13,3 +13,4 @@ mod standing;
 pub use asked::{MAX_FILE, MAX_VOLUME};
 pub use convert_fault::ConvertFault;
 pub use converting::convert;
+pub use first_raws::move_last;
