@@ -3,6 +3,7 @@ use crate::setting::{Case, Fails, HEADER, NONE_FAILS, Step, Stored, WHOLE, first
 use idx_commands::Cause;
 use idx_header::HeaderKind;
 use std::alloc::{AllocError, Global};
+use std::sync::Wait;
 use std::test::Fail;
 use std::thread::Threads;
 
@@ -386,7 +387,7 @@ static FAILURES: [Failure; 14] = [
 ];
 
 /// The number of the first failure that does not end as it is to, if there is one.
-fn first_other_failure<T: Threads + Sync>(
+fn first_other_failure<T: Threads + Wait + Sync>(
     rt: &T,
     alloc: Global,
 ) -> Result<Option<usize>, AllocError> {

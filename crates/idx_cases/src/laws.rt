@@ -8,12 +8,20 @@ ghost use Rattle.idx_commands.specs.Run.{WroteAnswer};
 use idx_commands::{Done, run};
 use idx_outside::{Bay, Door, Reader, Sink, Source};
 use std::alloc::Global;
+use std::sync::Wait;
 use std::thread::Threads;
 
 /// Runs a command that is not `convert` twice, each time over a sink of its own, and says how each run ended. Both are
 /// answered from what there was before the first: a question changes nothing that a later one is answered from. A sink is
 /// untouched where its run ends with neither 0 nor 9.
-pub fn ask_twice<V: Source + Send, B: Bay, R: Reader<B::Leaf>, K: Sink, D: Door, T: Threads + Sync>(
+pub fn ask_twice<
+    V: Source + Send,
+    B: Bay,
+    R: Reader<B::Leaf> + Send,
+    K: Sink,
+    D: Door + Send,
+    T: Threads + Wait + Sync,
+>(
     rt: &T,
     alloc: Global,
     words: &[String],
@@ -26,7 +34,8 @@ pub fn ask_twice<V: Source + Send, B: Bay, R: Reader<B::Leaf>, K: Sink, D: Door,
 ) -> (Done, Done)
 where
     B::Draft: Send,
-    B::Leaf: Send,
+    B::Leaf: Send + Sync,
+    D::Link: Send,
     requires some { 0 < vec_len raws.old }
     requires reader { 0 < vec_len readers.old }
     requires door { 0 < vec_len doors.old }

@@ -21,6 +21,12 @@ mod serve_cases;
 #[cfg(test)]
 mod setting;
 #[cfg(test)]
+mod turns;
+#[cfg(test)]
+mod waiting_link;
+#[cfg(test)]
 mod waiting_source;
+#[cfg(test)]
+mod worker_cases;
 
 pub use laws::ask_twice;

@@ -5,6 +5,7 @@ use idx_commands::Cause;
 use idx_header::HeaderKind;
 use idx_table::TableKind;
 use std::alloc::{AllocError, Global};
+use std::sync::Wait;
 use std::test::Fail;
 use std::thread::Threads;
 
@@ -311,7 +312,7 @@ static FAILURES: [Failure; 13] = [
 ];
 
 /// The number of the first failure that does not end as it is to, if there is one.
-fn first_other_failure<T: Threads + Sync>(
+fn first_other_failure<T: Threads + Wait + Sync>(
     rt: &T,
     alloc: Global,
 ) -> Result<Option<usize>, AllocError> {
@@ -348,7 +349,7 @@ pub(crate) static DAMAGES: [Damage; 8] = [
 ];
 
 /// The number of the first damage, to the first file or to the second, that is not answered as it is to be.
-fn first_other_damage<T: Threads + Sync>(
+fn first_other_damage<T: Threads + Wait + Sync>(
     rt: &T,
     alloc: Global,
 ) -> Result<Option<usize>, AllocError> {

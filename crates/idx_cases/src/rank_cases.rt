@@ -6,6 +6,7 @@ use idx_commands::{Cause, Done, run};
 use idx_memory::{MemBay, MemDoor, MemReader, MemSink};
 use idx_outside::Bytes;
 use std::alloc::{AllocError, Global};
+use std::sync::Wait;
 use std::sync::atomic::AtomicBool;
 use std::test::Fail;
 use std::thread::Threads;
@@ -25,7 +26,7 @@ fn words_for(alloc: Global, ranks: u32) -> Result<Vec<String>, AllocError> {
 }
 
 /// How `convert` by so many ranks out of these raw volumes ends over an empty bay, and whether exactly the step stands.
-fn converted<T: Threads + Sync>(
+fn converted<T: Threads + Wait + Sync>(
     rt: &T,
     alloc: Global,
     ranks: u32,

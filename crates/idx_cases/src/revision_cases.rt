@@ -9,6 +9,7 @@ use idx_commands::{Cause, Done};
 use idx_memory::MemBay;
 use idx_outside::{Bay, Bytes};
 use std::alloc::{AllocError, Global};
+use std::sync::Wait;
 use std::test::Fail;
 use std::thread::Threads;
 
@@ -141,7 +142,7 @@ fn revised(alloc: Global, count: u32) -> Result<MemBay, AllocError> {
 }
 
 /// How a conversion ends of which this call of the raw volume fails.
-fn converted<T: Threads + Sync>(
+fn converted<T: Threads + Wait + Sync>(
     rt: &T,
     alloc: Global,
     bay: &mut MemBay,

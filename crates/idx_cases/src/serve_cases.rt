@@ -8,6 +8,7 @@ use idx_header::HeaderKind;
 use idx_memory::{MemDoor, MemLink};
 use idx_outside::{Bytes, Served};
 use std::alloc::{AllocError, Global};
+use std::sync::Wait;
 use std::test::Fail;
 use std::thread::Threads;
 
@@ -399,7 +400,7 @@ fn came_back(door: &MemDoor, written: &[Replies]) -> bool {
 }
 
 /// Whether a run ends as it is to.
-fn ends_as_wanted<T: Threads + Sync>(
+fn ends_as_wanted<T: Threads + Wait + Sync>(
     rt: &T,
     alloc: Global,
     serving: &Serving,
@@ -412,7 +413,7 @@ fn ends_as_wanted<T: Threads + Sync>(
 }
 
 /// The number of the first run that does not end as it is to, if there is one.
-fn first_other<T: Threads + Sync>(
+fn first_other<T: Threads + Wait + Sync>(
     rt: &T,
     alloc: Global,
     servings: &[Serving],
@@ -426,7 +427,7 @@ fn first_other<T: Threads + Sync>(
 }
 
 /// The number of the first failure that does not end as it is to, if there is one.
-fn first_other_failure<T: Threads + Sync>(
+fn first_other_failure<T: Threads + Wait + Sync>(
     rt: &T,
     alloc: Global,
 ) -> Result<Option<usize>, AllocError> {
@@ -449,7 +450,11 @@ fn first_other_failure<T: Threads + Sync>(
 }
 
 /// Whether a case of `query` that ends before a block is read ends so as one of `serve` too.
-fn ends_as_query<T: Threads + Sync>(rt: &T, alloc: Global, case: Case) -> Result<bool, AllocError> {
+fn ends_as_query<T: Threads + Wait + Sync>(
+    rt: &T,
+    alloc: Global,
+    case: Case,
+) -> Result<bool, AllocError> {
     let case = Case {
         words: CASE.words,
         ..case
@@ -458,7 +463,7 @@ fn ends_as_query<T: Threads + Sync>(rt: &T, alloc: Global, case: Case) -> Result
 }
 
 /// The number of the first damage, to the first file or to the second, that is not answered as it is to be.
-fn first_other_damage<T: Threads + Sync>(
+fn first_other_damage<T: Threads + Wait + Sync>(
     rt: &T,
     alloc: Global,
 ) -> Result<Option<usize>, AllocError> {

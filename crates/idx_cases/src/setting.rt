@@ -3,6 +3,7 @@ use idx_commands::{Cause, Done, run};
 use idx_memory::{MemBay, MemDoor, MemReader, MemSink, MemSource};
 use idx_outside::{Bytes, MemFile};
 use std::alloc::{AllocError, Global};
+use std::sync::Wait;
 use std::thread::Threads;
 
 /// The header text of a dataset of one byte a sample: two axes of two bits each, blocks of four samples, files of two
@@ -80,7 +81,7 @@ pub(crate) struct Case {
 }
 
 /// The number of the first case that does not end as it is to, if there is one.
-pub(crate) fn first_other<T: Threads + Sync>(
+pub(crate) fn first_other<T: Threads + Wait + Sync>(
     rt: &T,
     alloc: Global,
     cases: &[Case],
@@ -94,7 +95,7 @@ pub(crate) fn first_other<T: Threads + Sync>(
 }
 
 /// Whether a case that uses no door ends as it is to.
-fn ends_as_wanted<T: Threads + Sync>(
+fn ends_as_wanted<T: Threads + Wait + Sync>(
     rt: &T,
     alloc: Global,
     case: &Case,
@@ -103,7 +104,7 @@ fn ends_as_wanted<T: Threads + Sync>(
 }
 
 /// The door after the run of a case over it. `None` where the run does not end as it is to.
-pub(crate) fn door_after<T: Threads + Sync>(
+pub(crate) fn door_after<T: Threads + Wait + Sync>(
     rt: &T,
     alloc: Global,
     case: &Case,
@@ -199,7 +200,7 @@ fn is_same(found: &MemFile, wanted: &MemFile) -> bool {
 }
 
 /// A run on these words over a bay, this raw volume, a reader, a sink and a door.
-pub(crate) fn run_over<T: Threads + Sync>(
+pub(crate) fn run_over<T: Threads + Wait + Sync>(
     rt: &T,
     alloc: Global,
     line: &str,
@@ -286,7 +287,7 @@ fn standing_files(alloc: Global, case: &Case) -> Result<Vec<MemFile>, AllocError
 }
 
 /// The files of a step.
-fn files_of(alloc: Global, step: Step) -> Result<Vec<MemFile>, AllocError> {
+pub(crate) fn files_of(alloc: Global, step: Step) -> Result<Vec<MemFile>, AllocError> {
     let mut files = Vec::new(alloc);
     if let Some(stored) = step.files.0 {
         files.push(file_of(alloc, step.folder, "0.bin", stored)?)?;

@@ -1,13 +1,8 @@
 ghost use Rattle.std.specs.Prelude.{None};
 
+use crate::turns::is_soon;
 use idx_outside::{Outage, Source};
 use std::sync::atomic::{AtomicBool, Ordering};
-use std::thread;
-
-/// How often a source that waits looks whether it is over, and how often it looks away in between.
-const TURNS: u32 = 1_000_000;
-
-const PAUSES: u32 = 64;
 
 /// A raw volume whose first read waits until another one was read, for at most a million turns, and which says when it is
 /// read itself. It tells nothing of its bytes.
@@ -79,19 +74,6 @@ impl Source for WaitingSource<'_> {
     fn faults(&self) -> u64 {
         self.faults
     }
-}
-
-/// Whether something is so within the turns.
-fn is_soon(sign: &AtomicBool) -> bool {
-    for _ in 0..TURNS {
-        if sign.load(Ordering::SeqCst) {
-            return true;
-        }
-        for _ in 0..PAUSES {
-            thread::yield_now();
-        }
-    }
-    false
 }
 
 /// So many bytes from a place on, where there are as many, and none else.

@@ -9,3 +9,4 @@ pub mod ServeLemmas
 pub mod SiteNameLemmas
 pub mod RunLemmas
 pub mod AnswerLemmas
+pub mod HostedLemmas

@@ -24,14 +24,15 @@ use Rattle.idx_commands.specs.ConvertRun.{ConvertEnds, ConvertMeans}
 use Rattle.idx_commands.specs.QueryRun.{IsBayOutage, IsReaderOutage, QueryEnds, QueryMeans}
 use Rattle.idx_commands.specs.ServeRun.{ServeEnds, ServeMeans}
 use Rattle.idx_commands.specs.Known.{Known, known}
-use Rattle.idx_commands.specs.Seen.{BaySeen, IsUnchanged, door_pair, raw_after, raw_before, raw_bytes, reader_counts}
+use Rattle.idx_commands.specs.Seen.{BaySeen, IsUnchanged, raw_after, raw_before, raw_bytes, reader_counts}
 use Rattle.idx_commands.specs.Run.{AreNamed, CommandEnds, CountsFaults, LeavesRest, RunSeen, Writes, WroteAnswer, WrotePrefix}
 use Rattle.idx_commands.proofs.CauseLemmas.{done_is, door_fault_is, raw_fault_is, sink_fault_is, store_fault_is, usage_is}
 use Rattle.idx_commands.proofs.CutLemmas.{cut_silent}
 use Rattle.idx_commands.proofs.InfoLemmas.{info_silent}
 use Rattle.idx_commands.proofs.ConvertLemmas.{raw_cause, store_cause}
 use Rattle.idx_commands.proofs.QueryLemmas.{query_silent, query_writes}
-use Rattle.idx_commands.proofs.ServeLemmas.{door_rose, serve_silent, totals_begun, totals_written}
+use Rattle.idx_commands.proofs.ServeLemmas.{serve_silent, totals_begun, totals_written}
+use Rattle.idx_commands.proofs.HostedLemmas.{first_counts_fall, others_same}
 
 -- ---- the command that words give
 
@@ -72,9 +73,6 @@ not_more count old new same more = let equal : count new ≡ count old = ap coun
 
 not_less : {T : Type 0} (count : T → ℕ) (old new : T) → new ≡ old → count old ≤ count new
 not_less count old new same = let equal : count new ≡ count old = ap count same in omega (arith, equal)
-
-others_same : {T : Type 0} (old new : List T) → new ≡ old → OthersUntouched old new 0
-others_same old new same = record { before = ap (λ xs. take 0 xs) same; behind = ap (λ xs. drop (0 + 1) xs) same }
 
 none_fell : {T : Type 0} (count : T → ℕ) (old new : List T) → new ≡ old → NoneFalls (map count old) (map count new)
 none_fell count old new same = subst (λ xs. NoneFalls (map count old) (map count xs)) (sym same) (refl, λ i within. omega arith)
@@ -156,7 +154,7 @@ module _ {V B R K D L : Type 0} (words : List (List ℕ)) (seen : RunSeen V B R 
   -- ---- what is written
 
   abbrev Serves : ServeValue → Cause → Type 0
-  Serves v cause = ServeMeans v seen.bay (reader_counts seen.readers) seen.sink seen.doors.links (door_pair seen.doors) (seen.doors.new ≡ seen.doors.old) cause
+  Serves v cause = ServeMeans v seen.bay seen.readers seen.sink seen.doors cause
 
   pub no_usage : (command : Command) (cause : Cause) → E command cause → status_of cause ≡ 1 → ⊥
   no_usage (Cut c) cause e one = subst (CutMeans c (raw_bytes seen.raws) (raw_before seen.raws) (raw_after seen.raws) seen.sink) (usage_is cause one).1 e.0.means
@@ -216,8 +214,8 @@ module _ {V B R K D L : Type 0} (words : List (List ℕ)) (seen : RunSeen V B R 
   not_higher : seen.raws.new ≡ seen.raws.old → SomeHigher (map seen.raws.faults seen.raws.old) (map seen.raws.faults seen.raws.new) → ⊥
   not_higher same = none_higher (map seen.raws.faults seen.raws.old) (map seen.raws.faults seen.raws.new) (ap (map seen.raws.faults) same)
 
-  abbrev door_count : List D → ℕ
-  door_count doors = faults_at seen.doors.faults doors 0
+  not_opened : seen.doors.new ≡ seen.doors.old → SomeHigher (map seen.doors.faults seen.doors.old) (map seen.doors.faults seen.doors.new) → ⊥
+  not_opened same = none_higher (map seen.doors.faults seen.doors.old) (map seen.doors.faults seen.doors.new) (ap (map seen.doors.faults) same)
 
   pub counts_faults : (command : Command) → Give words command → (cause : Cause) → E command cause → CountsFaults words seen cause
   counts_faults (Cut c) gives cause e =
@@ -236,7 +234,7 @@ module _ {V B R K D L : Type 0} (words : List (List ℕ)) (seen : RunSeen V B R 
         store_answered = λ more. absurd (not_more seen.bay.faults seen.bay.old seen.bay.new e.1 more);
         reader_answered = λ other more. absurd (not_more reader_count seen.readers.old seen.readers.new e.2 more);
         sink_answered = λ more. ap status_of (e.0.sink_answered more);
-        door_answered = λ more. absurd (not_more door_count seen.doors.old seen.doors.new e.3 more);
+        door_answered = λ more. absurd (not_opened e.3 more);
       }
   counts_faults Info gives cause e =
       let m : (other : Cause) → cause ≡ other → InfoMeans seen.bay seen.sink other = λ other is. subst (InfoMeans seen.bay seen.sink) is e.0.means in
@@ -252,7 +250,7 @@ module _ {V B R K D L : Type 0} (words : List (List ℕ)) (seen : RunSeen V B R 
         store_answered = λ more. ap status_of (e.0.store_answered more);
         reader_answered = λ other more. absurd (not_more reader_count seen.readers.old seen.readers.new e.2 more);
         sink_answered = λ more. ap status_of (e.0.sink_answered more);
-        door_answered = λ more. absurd (not_more door_count seen.doors.old seen.doors.new e.3 more);
+        door_answered = λ more. absurd (not_opened e.3 more);
       }
   counts_faults (Convert c) gives cause e =
       let k : Known = known seen.raws seen.bay in
@@ -269,7 +267,7 @@ module _ {V B R K D L : Type 0} (words : List (List ℕ)) (seen : RunSeen V B R 
         store_answered = λ more. ap status_of (e.0.store_answered more);
         reader_answered = λ other more. absurd (not_more reader_count seen.readers.old seen.readers.new e.1 more);
         sink_answered = λ more. absurd (not_more seen.sink.faults seen.sink.old seen.sink.new e.2 more);
-        door_answered = λ more. absurd (not_more door_count seen.doors.old seen.doors.new e.3 more);
+        door_answered = λ more. absurd (not_opened e.3 more);
       }
   counts_faults (Query q) gives cause e =
       let m : (other : Cause) → cause ≡ other → QueryMeans q seen.bay (reader_counts seen.readers) seen.sink other =
@@ -286,7 +284,7 @@ module _ {V B R K D L : Type 0} (words : List (List ℕ)) (seen : RunSeen V B R 
         store_answered = λ more. ap status_of (e.0.store_answered more);
         reader_answered = λ other more. ap status_of (e.0.reader_answered more);
         sink_answered = λ more. ap status_of (e.0.sink_answered more);
-        door_answered = λ more. absurd (not_more door_count seen.doors.old seen.doors.new e.2 more);
+        door_answered = λ more. absurd (not_opened e.2 more);
       }
     where
       outage : IsBayOutage seen.bay ⊎ IsReaderOutage seen.bay seen.readers →
@@ -302,7 +300,7 @@ module _ {V B R K D L : Type 0} (words : List (List ℕ)) (seen : RunSeen V B R 
         store_fault = λ five. outage (e.0.store_outage five);
         store_used = λ five. inr (inr (inr (v, gives)));
         sink_fault = λ nine. (m causes.SinkFault (sink_fault_is cause nine)).0;
-        door_fault = λ twelve. door_rose v seen.bay seen.readers seen.sink seen.doors (m causes.DoorFault (door_fault_is cause twelve));
+        door_fault = e.0.door_rose;
         door_used = λ twelve. (v, gives);
         raw_answered = λ more. absurd (not_higher e.1 more);
         store_answered = λ more. ap status_of (e.0.store_answered more);
@@ -345,14 +343,15 @@ module _ {V B R K D L : Type 0} (words : List (List ℕ)) (seen : RunSeen V B R 
         raw_counts = first_falls seen.raws.contents seen.raws.faults seen.raws.old seen.raws.new e.0.raws_kept;
         other_raws = λ never. e.0.raws_kept.others;
         idle_raws = λ asked given. (of_convert (Cut c) only cause e asked given).raws_idle;
-        readers = others_same seen.readers.old seen.readers.new e.2;
+        other_readers = λ never. others_same seen.readers.old seen.readers.new e.2;
+        idle_readers = λ v given. absurd (is_serve (Cut c) only (v, given));
         reader_list = ap length e.2;
-        reader_count = not_less reader_count seen.readers.old seen.readers.new e.2;
+        reader_counts = none_fell seen.readers.faults seen.readers.old seen.readers.new e.2;
         bay_count = not_less seen.bay.faults seen.bay.old seen.bay.new e.1;
         sink_count = e.0.sink_count;
-        doors = others_same seen.doors.old seen.doors.new e.3;
+        idle_doors = λ v given. absurd (is_serve (Cut c) only (v, given));
         door_list = ap length e.3;
-        door_count = not_less door_count seen.doors.old seen.doors.new e.3;
+        door_counts = none_fell seen.doors.faults seen.doors.old seen.doors.new e.3;
         unchanged = λ never. not_changed seen.bay e.1;
         convert_silent = λ given. absurd (is_convert (Cut c) only given);
         cut_alone = λ given. e.1;
@@ -368,14 +367,15 @@ module _ {V B R K D L : Type 0} (words : List (List ℕ)) (seen : RunSeen V B R 
         raw_counts = none_fell seen.raws.faults seen.raws.old seen.raws.new e.1;
         other_raws = λ never. others_same seen.raws.old seen.raws.new e.1;
         idle_raws = λ asked given. (of_convert Info only cause e asked given).raws_idle;
-        readers = others_same seen.readers.old seen.readers.new e.2;
+        other_readers = λ never. others_same seen.readers.old seen.readers.new e.2;
+        idle_readers = λ v given. absurd (is_serve Info only (v, given));
         reader_list = ap length e.2;
-        reader_count = not_less reader_count seen.readers.old seen.readers.new e.2;
+        reader_counts = none_fell seen.readers.faults seen.readers.old seen.readers.new e.2;
         bay_count = e.0.bay_count;
         sink_count = e.0.sink_count;
-        doors = others_same seen.doors.old seen.doors.new e.3;
+        idle_doors = λ v given. absurd (is_serve Info only (v, given));
         door_list = ap length e.3;
-        door_count = not_less door_count seen.doors.old seen.doors.new e.3;
+        door_counts = none_fell seen.doors.faults seen.doors.old seen.doors.new e.3;
         unchanged = λ never. e.0.unchanged;
         convert_silent = λ given. absurd (is_convert Info only given);
         cut_alone = λ given. absurd (is_cut Info only given);
@@ -391,14 +391,15 @@ module _ {V B R K D L : Type 0} (words : List (List ℕ)) (seen : RunSeen V B R 
         raw_counts = e.0.raw_counts;
         other_raws = λ never. absurd (never (c, gives));
         idle_raws = λ asked given. (of_convert (Convert c) only cause e asked given).raws_idle;
-        readers = others_same seen.readers.old seen.readers.new e.1;
+        other_readers = λ never. others_same seen.readers.old seen.readers.new e.1;
+        idle_readers = λ v given. absurd (is_serve (Convert c) only (v, given));
         reader_list = ap length e.1;
-        reader_count = not_less reader_count seen.readers.old seen.readers.new e.1;
+        reader_counts = none_fell seen.readers.faults seen.readers.old seen.readers.new e.1;
         bay_count = e.0.bay_count;
         sink_count = not_less seen.sink.faults seen.sink.old seen.sink.new e.2;
-        doors = others_same seen.doors.old seen.doors.new e.3;
+        idle_doors = λ v given. absurd (is_serve (Convert c) only (v, given));
         door_list = ap length e.3;
-        door_count = not_less door_count seen.doors.old seen.doors.new e.3;
+        door_counts = none_fell seen.doors.faults seen.doors.old seen.doors.new e.3;
         unchanged = λ never. absurd (never (c, gives));
         convert_silent = λ given. e.2;
         cut_alone = λ given. absurd (is_cut (Convert c) only given);
@@ -414,14 +415,15 @@ module _ {V B R K D L : Type 0} (words : List (List ℕ)) (seen : RunSeen V B R 
         raw_counts = none_fell seen.raws.faults seen.raws.old seen.raws.new e.1;
         other_raws = λ never. others_same seen.raws.old seen.raws.new e.1;
         idle_raws = λ asked given. (of_convert (Query q) only cause e asked given).raws_idle;
-        readers = e.0.others;
+        other_readers = λ never. e.0.others;
+        idle_readers = λ v given. absurd (is_serve (Query q) only (v, given));
         reader_list = e.0.reader_list;
-        reader_count = e.0.reader_count;
+        reader_counts = first_counts_fall seen.readers.faults seen.readers.old seen.readers.new e.0.reader_list e.0.others e.0.reader_count;
         bay_count = e.0.bay_count;
         sink_count = e.0.sink_count;
-        doors = others_same seen.doors.old seen.doors.new e.2;
+        idle_doors = λ v given. absurd (is_serve (Query q) only (v, given));
         door_list = ap length e.2;
-        door_count = not_less door_count seen.doors.old seen.doors.new e.2;
+        door_counts = none_fell seen.doors.faults seen.doors.old seen.doors.new e.2;
         unchanged = λ never. e.0.unchanged;
         convert_silent = λ given. absurd (is_convert (Query q) only given);
         cut_alone = λ given. absurd (is_cut (Query q) only given);
@@ -437,14 +439,15 @@ module _ {V B R K D L : Type 0} (words : List (List ℕ)) (seen : RunSeen V B R 
         raw_counts = none_fell seen.raws.faults seen.raws.old seen.raws.new e.1;
         other_raws = λ never. others_same seen.raws.old seen.raws.new e.1;
         idle_raws = λ asked given. (of_convert (Serve v) only cause e asked given).raws_idle;
-        readers = e.0.others;
-        reader_list = e.0.reader_list;
-        reader_count = e.0.reader_count;
+        other_readers = λ never. absurd (never (v, gives));
+        idle_readers = λ asked given. (of_serve (Serve v) only cause e asked given).idle_readers;
+        reader_list = e.0.idle_readers.number;
+        reader_counts = e.0.reader_counts;
         bay_count = e.0.bay_count;
         sink_count = e.0.sink_count;
-        doors = e.0.other_doors;
-        door_list = e.0.door_list;
-        door_count = e.0.door_count;
+        idle_doors = λ asked given. (of_serve (Serve v) only cause e asked given).idle_doors;
+        door_list = e.0.idle_doors.number;
+        door_counts = e.0.door_counts;
         unchanged = λ never. e.0.unchanged;
         convert_silent = λ given. absurd (is_convert (Serve v) only given);
         cut_alone = λ given. absurd (is_cut (Serve v) only given);

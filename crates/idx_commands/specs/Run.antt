@@ -8,8 +8,10 @@ use Rattle.idx_words.specs.declared.command.Command.{Command}
 use Rattle.idx_words.specs.declared.command.Command.TheVariants.{Cut, Info, Convert, Query, Serve}
 use Rattle.idx_words.specs.Words.{Give, GiveConvert, GiveCut, GiveInfo, GiveQuery, GiveServe}
 use Rattle.idx_words.specs.ConvertValue.{ConvertValue}
+use Rattle.idx_words.specs.ServeValue.{ServeValue}
 use Rattle.idx_gather.specs.Gather.{NoneFalls}
 use Rattle.idx_convert.specs.Counts.{SomeHigher, SomeRose}
+use Rattle.idx_workers.specs.Workers.{KeepsBehind}
 use Rattle.idx_extract.specs.Extract.{Asks}
 use Rattle.idx_commands.specs.declared.causes.Cause.{Cause}
 use Rattle.idx_commands.specs.Cause.{status_of}
@@ -19,9 +21,9 @@ use Rattle.idx_commands.specs.InfoRun.{InfoEnds, KnownReads}
 use Rattle.idx_commands.specs.CutRun.{CutEnds}
 use Rattle.idx_commands.specs.ConvertRun.{ConvertEnds}
 use Rattle.idx_commands.specs.QueryRun.{AnswersStored, QueryEnds, question_of}
-use Rattle.idx_commands.specs.ServeRun.{ServeEnds}
+use Rattle.idx_commands.specs.ServeRun.{ServeEnds, workers_in}
 use Rattle.idx_commands.specs.Totals.{totals}
-use Rattle.idx_commands.specs.Seen.{BaySeen, DoorsSeen, IsUnchanged, RawsSeen, ReadersSeen, SinkSeen, bay_after, bay_before, door_after, door_before, raws_after, raws_before, reader_after, reader_before, sink_after, sink_before}
+use Rattle.idx_commands.specs.Seen.{BaySeen, DoorsSeen, IsUnchanged, RawsSeen, ReadersSeen, SinkSeen, bay_after, bay_before, doors_after, doors_before, raws_after, raws_before, reader_after, reader_before, readers_after, readers_before, sink_after, sink_before}
 
 -- the first word is this name of a command
 abbrev pub AreNamed : List (List ℕ) → List ℕ → Type 0
@@ -86,32 +88,36 @@ pub record CountsFaults {V B R K D L : Type 0} (words : List (List ℕ)) (seen :
       ⊎ ((GiveQuery words ⊎ GiveServe words) × Rose (reader_before seen.readers) (reader_after seen.readers))
   pub store_used : status_of cause ≡ 5 → GiveInfo words ⊎ (GiveConvert words ⊎ (GiveQuery words ⊎ GiveServe words))
   pub sink_fault : status_of cause ≡ 9 → Rose (sink_before seen.sink) (sink_after seen.sink)
-  pub door_fault : status_of cause ≡ 12 → Rose (door_before seen.doors) (door_after seen.doors)
+  pub door_fault : status_of cause ≡ 12 → SomeRose (doors_before seen.doors) (doors_after seen.doors)
   pub door_used : status_of cause ≡ 12 → GiveServe words
   pub raw_answered : SomeHigher (raws_before seen.raws) (raws_after seen.raws) → status_of cause ≡ 4
   pub store_answered : bay_before seen.bay < bay_after seen.bay → status_of cause ≡ 5
   -- a reader's fault while `serve` answers links is told to the peer, as the record of `serve` says
   pub reader_answered : ¬ GiveServe words → reader_before seen.readers < reader_after seen.readers → status_of cause ≡ 5
   pub sink_answered : sink_before seen.sink < sink_after seen.sink → status_of cause ≡ 9
-  pub door_answered : door_before seen.doors < door_after seen.doors → (status_of cause ≡ 12) ⊎ (status_of cause ≡ 11)
+  pub door_answered : SomeHigher (doors_before seen.doors) (doors_after seen.doors) → (status_of cause ≡ 12) ⊎ (status_of cause ≡ 11)
 
 -- What a run leaves as it was.
 pub record LeavesRest {V B R K D L : Type 0} (words : List (List ℕ)) (seen : RunSeen V B R K D L) : Type 0 where
   -- what is known of the raw volumes' bytes stays; none but the first was touched, but for `convert`, and by that none behind the
-  -- first, one for each rank; no reader and no door but the first was touched, and no count fell
+  -- first, one for each rank; no reader but the first was touched, but for `serve`, and by that no reader and no door behind the
+  -- first, one for each worker; and no count fell
   pub raws : SameContents seen.raws.contents seen.raws.old seen.raws.new
   pub raw_counts : NoneFalls (raws_before seen.raws) (raws_after seen.raws)
   pub other_raws : ¬ GiveConvert words → OthersUntouched seen.raws.old seen.raws.new 0
   pub idle_raws : (c : ConvertValue) → Give words (Convert c) →
       drop (min c.ranks (length seen.raws.old)) seen.raws.new ≡ drop (min c.ranks (length seen.raws.old)) seen.raws.old
-  pub readers : OthersUntouched seen.readers.old seen.readers.new 0
+  pub other_readers : ¬ GiveServe words → OthersUntouched seen.readers.old seen.readers.new 0
+  pub idle_readers : (v : ServeValue) → Give words (Serve v) →
+      KeepsBehind (workers_in v seen.readers seen.doors) seen.readers.old seen.readers.new
   pub reader_list : length seen.readers.new ≡ length seen.readers.old
-  pub reader_count : NeverFalls (reader_before seen.readers) (reader_after seen.readers)
+  pub reader_counts : NoneFalls (readers_before seen.readers) (readers_after seen.readers)
   pub bay_count : NeverFalls (bay_before seen.bay) (bay_after seen.bay)
   pub sink_count : NeverFalls (sink_before seen.sink) (sink_after seen.sink)
-  pub doors : OthersUntouched seen.doors.old seen.doors.new 0
+  pub idle_doors : (v : ServeValue) → Give words (Serve v) →
+      KeepsBehind (workers_in v seen.readers seen.doors) seen.doors.old seen.doors.new
   pub door_list : length seen.doors.new ≡ length seen.doors.old
-  pub door_count : NeverFalls (door_before seen.doors) (door_after seen.doors)
+  pub door_counts : NoneFalls (doors_before seen.doors) (doors_after seen.doors)
   -- `convert` alone changes the bay: its header text, its committed files and the folder last begun, and makes calls that change
   -- it at all; and it writes nothing to the sink
   pub unchanged : ¬ GiveConvert words → IsUnchanged seen.bay

@@ -1,5 +1,5 @@
 -- What is seen of the objects of a run: each object as it was before and as it is after, with the ghost members of its trait.
-use Rattle.std.specs.Prelude.{◌≡◌, ℕ, List, Option, None, map, slice_index_or}
+use Rattle.std.specs.Prelude.{◌≡◌, ℕ, List, Option, map}
 use Rattle.idx_outside.specs.Doors.{DoorTold}
 use Rattle.idx_outside.specs.Objects.{contents_at, faults_at}
 use Rattle.idx_outside.specs.declared.bay_call.BayCall.{BayCall}
@@ -124,32 +124,19 @@ sink_before sink = sink.faults sink.old
 abbrev pub sink_after : {K : Type 0} → SinkSeen K → ℕ
 sink_after sink = sink.faults sink.new
 
--- What a door tells, and its count of faults, before and after.
-pub record DoorPair (L : Type 0) : Type 0 where
-  pub told_before : Option (DoorTold L)
-  pub told_after : Option (DoorTold L)
-  pub faults_before : ℕ
-  pub faults_after : ℕ
+-- the counts of faults of all readers, before and after
+abbrev pub readers_before : {R : Type 0} → ReadersSeen R → List ℕ
+readers_before readers = map readers.faults readers.old
 
--- what the door of this number tells, where it is known
-abbrev pub told_at : {D L : Type 0} → (D → Option (DoorTold L)) → List D → ℕ → Option (DoorTold L)
-told_at told doors number = slice_index_or (map told doors) number None
+abbrev pub readers_after : {R : Type 0} → ReadersSeen R → List ℕ
+readers_after readers = map readers.faults readers.new
 
--- those of the first door
-abbrev pub door_pair : {D L : Type 0} → DoorsSeen D L → DoorPair L
-door_pair doors =
-    record {
-      told_before = told_at doors.told doors.old 0;
-      told_after = told_at doors.told doors.new 0;
-      faults_before = faults_at doors.faults doors.old 0;
-      faults_after = faults_at doors.faults doors.new 0;
-    }
+-- those of all doors
+abbrev pub doors_before : {D L : Type 0} → DoorsSeen D L → List ℕ
+doors_before doors = map doors.faults doors.old
 
-abbrev pub door_before : {D L : Type 0} → DoorsSeen D L → ℕ
-door_before doors = faults_at doors.faults doors.old 0
-
-abbrev pub door_after : {D L : Type 0} → DoorsSeen D L → ℕ
-door_after doors = faults_at doors.faults doors.new 0
+abbrev pub doors_after : {D L : Type 0} → DoorsSeen D L → List ℕ
+doors_after doors = map doors.faults doors.new
 
 -- what is seen of these objects, by the ghost members of their traits
 abbrev pub raws_seen : {V : Type 0} → (V → Option (List ℕ)) → (V → ℕ) → (V → ℕ) → List V → List V → RawsSeen V

@@ -25,12 +25,21 @@ use crate::serve::run_serve;
 use idx_outside::{Bay, Door, Reader, Sink, Source};
 use idx_words::{Command, read_words};
 use std::alloc::Global;
+use std::sync::Wait;
 use std::thread::Threads;
 
 /// Does what the words ask for, and says how it ended: as `run_cut`, `run_info` and `run_query` do, and likewise for
 /// `convert` and `serve`. The first refusal ends it. `convert` uses the first of `raws`, one for each rank, each of which is
-/// a worker thread. `serve` returns when the first door hands out no more links or fails.
-pub fn run<V: Source + Send, B: Bay, R: Reader<B::Leaf>, K: Sink, D: Door, T: Threads + Sync>(
+/// a worker thread. `serve` uses the first of `readers` and of `doors`, one for each worker, each of which is a thread; it
+/// returns when each of these doors hands out no more links or fails.
+pub fn run<
+    V: Source + Send,
+    B: Bay,
+    R: Reader<B::Leaf> + Send,
+    K: Sink,
+    D: Door + Send,
+    T: Threads + Wait + Sync,
+>(
     rt: &T,
     alloc: Global,
     words: &[String],
@@ -42,7 +51,8 @@ pub fn run<V: Source + Send, B: Bay, R: Reader<B::Leaf>, K: Sink, D: Door, T: Th
 ) -> Done
 where
     B::Draft: Send,
-    B::Leaf: Send,
+    B::Leaf: Send + Sync,
+    D::Link: Send,
     requires some { 0 < vec_len raws.old }
     requires reader { 0 < vec_len readers.old }
     requires door { 0 < vec_len doors.old }
@@ -115,7 +125,14 @@ where
 }
 
 /// Does what the words ask for, which give this command, and says how it ended.
-fn run_command<V: Source + Send, B: Bay, R: Reader<B::Leaf>, K: Sink, D: Door, T: Threads + Sync>(
+fn run_command<
+    V: Source + Send,
+    B: Bay,
+    R: Reader<B::Leaf> + Send,
+    K: Sink,
+    D: Door + Send,
+    T: Threads + Wait + Sync,
+>(
     rt: &T,
     alloc: Global,
     words: &[String],
@@ -128,7 +145,8 @@ fn run_command<V: Source + Send, B: Bay, R: Reader<B::Leaf>, K: Sink, D: Door, T
 ) -> Done
 where
     B::Draft: Send,
-    B::Leaf: Send,
+    B::Leaf: Send + Sync,
+    D::Link: Send,
     requires some { 0 < vec_len raws.old }
     requires reader { 0 < vec_len readers.old }
     requires door { 0 < vec_len doors.old }
@@ -147,6 +165,6 @@ where
         Command::Info => run_info(alloc, words, bay, out),
         Command::Convert(_) => run_convert(rt, alloc, words, raws, bay),
         Command::Query(_) => run_query(alloc, words, bay, readers, out),
-        Command::Serve(_) => run_serve(alloc, words, bay, readers, out, doors),
+        Command::Serve(_) => run_serve(rt, alloc, words, bay, readers, out, doors),
     }
 }

@@ -1,31 +1,40 @@
-ghost use Rattle.std.specs.Prelude.{◌≡◌, ◌≢◌, ◌↔◌, ◌⊎◌, ℕ, ◌<◌, ◌≤◌, codes, map, string_bytes, vec_len};
+ghost use Rattle.std.specs.Prelude.{◌≡◌, ◌≢◌, ◌↔◌, ◌⊎◌, ℕ, ◌<◌, ◌≤◌, codes, map, min, string_bytes, vec_len};
 ghost use Rattle.idx_outside.specs.Cause.{NeverFalls, Rose};
 ghost use Rattle.idx_outside.specs.Contents.{appended, AppendsPrefix};
 ghost use Rattle.idx_words.specs.declared.command.Command.{Command};
 ghost use Rattle.idx_words.specs.ServeGrammar.{IsSoundServe};
 ghost use Rattle.idx_words.specs.ServeValue.{ServeValue};
 ghost use Rattle.idx_words.specs.Words.{Give, GiveServe, IsUsagePlace};
-ghost use Rattle.idx_serve.specs.Visits.{link_tells};
 ghost use Rattle.idx_commands.specs.Cause.{status_of};
 ghost use Rattle.idx_commands.specs.Run.{AreNamed};
 ghost use Rattle.idx_commands.specs.Seen.{bay_seen, doors_seen, readers_seen, sink_seen};
-ghost use Rattle.idx_commands.specs.ServeRun.{HasServed, ServeEnds, ServeMeans, cause_of_host};
+ghost use Rattle.idx_commands.specs.ServeRun.{ServeEnds, ServeMeans, cause_of_host};
 ghost use Rattle.idx_commands.specs.Totals.{totals};
 
 use crate::causes::{Cause, Done};
 use crate::site_name::site_name;
 use crate::totals::totals;
 use idx_host::{HostFault, host};
-use idx_outside::{Bay, Door, Reader, Sink};
+use idx_outside::{Bay, Door, FreeGate, Reader, Sink};
 use idx_serve::{ServeEnd, Summary};
 use idx_words::{Command, ServeWords, read_words};
 use std::alloc::Global;
+use std::sync::Wait;
+use std::thread::Threads;
 
 /// Does what the words ask for, whose first is `serve`, and says how it ended. The first refusal ends it, in this order:
 /// the words, the header, the tables of the files of the steps that stand, by rising steps. Then the links of the first
-/// door are served, one after another, until it hands out no more or fails, and the line is written that says how many
-/// they were. It uses the bay, the first reader and the first door.
-pub(crate) fn run_serve<B: Bay, R: Reader<B::Leaf>, K: Sink, D: Door>(
+/// doors are served, each door by a worker of its own with a reader of its own, until it hands out no more or fails, and the
+/// line is written that says how many they were. There are as many workers as the words say, and no more than doors and
+/// readers.
+pub(crate) fn run_serve<
+    B: Bay,
+    R: Reader<B::Leaf> + Send,
+    K: Sink,
+    D: Door + Send,
+    H: Threads + Wait + Sync,
+>(
+    rt: &H,
     alloc: Global,
     words: &[String],
     bay: &mut B,
@@ -33,6 +42,9 @@ pub(crate) fn run_serve<B: Bay, R: Reader<B::Leaf>, K: Sink, D: Door>(
     out: &mut K,
     doors: &mut Vec<D>,
 ) -> Done
+where
+    D::Link: Send,
+    B::Leaf: Send + Sync,
     requires reader { 0 < vec_len readers.old }
     requires door { 0 < vec_len doors.old }
     requires named { AreNamed (map string_bytes words.now) (codes "serve") }
@@ -54,7 +66,7 @@ pub(crate) fn run_serve<B: Bay, R: Reader<B::Leaf>, K: Sink, D: Door>(
 {
     match read_words(words) {
         Ok(Command::Serve(serve)) => {
-            Done::of(serve_first(alloc, &serve, bay, readers, out, doors))
+            Done::of(serve_words(rt, alloc, &serve, bay, readers, out, doors))
         }
         Ok(Command::Cut(_)) => unreachable!(),
         Ok(Command::Info) => unreachable!(),
@@ -64,9 +76,16 @@ pub(crate) fn run_serve<B: Bay, R: Reader<B::Leaf>, K: Sink, D: Door>(
     }
 }
 
-/// Does what the values of the words ask for, with the first reader and the first door.
+/// Does what the values of the words ask for.
 #[tactic(auto, using(crate::proofs::ServeLemmas::serve_ends))]
-fn serve_first<B: Bay, R: Reader<B::Leaf>, K: Sink, D: Door>(
+fn serve_words<
+    B: Bay,
+    R: Reader<B::Leaf> + Send,
+    K: Sink,
+    D: Door + Send,
+    H: Threads + Wait + Sync,
+>(
+    rt: &H,
     alloc: Global,
     words: &ServeWords<'_>,
     bay: &mut B,
@@ -74,6 +93,9 @@ fn serve_first<B: Bay, R: Reader<B::Leaf>, K: Sink, D: Door>(
     out: &mut K,
     doors: &mut Vec<D>,
 ) -> Cause
+where
+    D::Link: Send,
+    B::Leaf: Send + Sync,
     requires reader { 0 < vec_len readers.old }
     requires door { 0 < vec_len doors.old }
     requires sound { IsSoundServe words.now }
@@ -83,32 +105,42 @@ fn serve_first<B: Bay, R: Reader<B::Leaf>, K: Sink, D: Door>(
         (doors_seen D.told D.faults D.Link.incoming D.Link.written D.Link.faults doors.old.items doors.new.items)
         result }
 {
-    serve(alloc, words, bay, &mut readers[0], out, &mut doors[0])
+    serve(rt, alloc, words, bay, readers, out, doors)
 }
 
-/// Serves the dataset of the words at a door, and then writes how many links and heads there were.
-fn serve<B: Bay, R: Reader<B::Leaf>, K: Sink, D: Door>(
+/// How many workers serve: as many as the words say, and no more than there are doors and readers.
+fn workers_for(words: &ServeWords<'_>, doors: usize, readers: usize) -> u32
+    requires sound { IsSoundServe words.now }
+    requires door { 0 < doors }
+    requires reader { 0 < readers }
+    ensures number { result ≡ min words.now.workers (min doors readers) }
+    ensures some { 0 < result }
+    ensures few { result ≤ 64 }
+{
+    (words.workers as usize).min(doors.min(readers)) as u32
+}
+
+/// Serves the dataset of the words at the first doors, and then writes how many links and heads there were.
+fn serve<B: Bay, R: Reader<B::Leaf> + Send, K: Sink, D: Door + Send, H: Threads + Wait + Sync>(
+    rt: &H,
     alloc: Global,
     words: &ServeWords<'_>,
     bay: &mut B,
-    reader: &mut R,
+    readers: &mut Vec<R>,
     out: &mut K,
-    door: &mut D,
+    doors: &mut Vec<D>,
 ) -> Cause
+where
+    D::Link: Send,
+    B::Leaf: Send + Sync,
+    requires reader { 0 < vec_len readers.old }
+    requires door { 0 < vec_len doors.old }
     requires sound { IsSoundServe words.now }
     ensures means { ServeMeans words.now
-        (bay_seen B.header B.files B.begun B.changes B.failed B.faults bay.old bay.new) (record {
-          faults_before = R.faults reader.old;
-          faults_after = R.faults reader.new;
-          reads_before = R.reads reader.old;
-          reads_after = R.reads reader.new;
-        }) (sink_seen K.contents K.faults out.old out.new)
-        (link_tells D.Link.incoming D.Link.written D.Link.faults) (record {
-          told_before = D.told door.old;
-          told_after = D.told door.new;
-          faults_before = D.faults door.old;
-          faults_after = D.faults door.new;
-        }) (door.new ≡ door.old) result }
+        (bay_seen B.header B.files B.begun B.changes B.failed B.faults bay.old bay.new)
+        (readers_seen R.faults R.reads readers.old.items readers.new.items)
+        (sink_seen K.contents K.faults out.old out.new)
+        (doors_seen D.told D.faults D.Link.incoming D.Link.written D.Link.faults doors.old.items doors.new.items) result }
     ensures unfailed { status_of result ≢ 5 → B.failed bay.new ≡ B.failed bay.old }
     ensures bay_answered { B.faults bay.old < B.faults bay.new → result ≡ Cause.StoreFault }
     ensures sink_answered { K.faults out.old < K.faults out.new → result ≡ Cause.SinkFault }
@@ -117,24 +149,26 @@ fn serve<B: Bay, R: Reader<B::Leaf>, K: Sink, D: Door>(
     ensures begun { B.begun bay.new ≡ B.begun bay.old }
     ensures changes { B.changes bay.new ≡ B.changes bay.old }
     ensures bay_count { NeverFalls (B.faults bay.old) (B.faults bay.new) }
-    ensures reader_count { NeverFalls (R.faults reader.old) (R.faults reader.new) }
     ensures sink_count { NeverFalls (K.faults out.old) (K.faults out.new) }
-    ensures door_count { NeverFalls (D.faults door.old) (D.faults door.new) }
 {
+    let workers = workers_for(words, doors.len(), readers.len());
     match host(
+        rt,
         alloc,
         site_name(words.dataset),
         words.cache,
+        workers,
         bay,
-        reader,
-        door,
+        readers,
+        doors,
+        &FreeGate,
     ) {
         Ok(summary) => conclude(alloc, &summary, out),
         Err(fault) => cause_of(fault),
     }
 }
 
-/// Writes how many links and heads there were, where the door handed out all its links and there was memory for each head.
+/// Writes how many links and heads there were, where each door handed out all its links and there was memory for each head.
 fn conclude<K: Sink>(alloc: Global, summary: &Summary, out: &mut K) -> Cause
     ensures done { result ≡ Cause.Done → (summary.now.end ≡ ServeEnd.Done)
         × (K.contents out.new ≡ appended (K.contents out.old) (totals summary.now.links summary.now.replies)) }

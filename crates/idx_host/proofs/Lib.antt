@@ -1,1 +1,1 @@
-pub mod ServedLemmas
+pub mod HostLemmas

@@ -6,7 +6,7 @@ ghost use Rattle.idx_serve.specs.Visits.{AtDoor, IsEnd, is_starving, link_tells}
 
 use crate::{Site, serve_link};
 use idx_hall::Hall;
-use idx_outside::{Blocks, Door, Reader};
+use idx_outside::{Blocks, Door, Gate, GatePlace, Reader};
 use idx_session::LinkEnd;
 use idx_turn::Turn;
 use std::alloc::Global;
@@ -32,13 +32,15 @@ pub struct Summary {
 
 /// Serves the links of a door, one after another, until it hands out no more or fails. Each link is handed back with its
 /// entries. How a link ends does not end the serving; where there was no memory for a head of one, this is told at the
-/// end.
-pub fn serve_door<E: Blocks + Drop, T: Turn<Hall<E>>, R: Reader<E::Leaf>, D: Door>(
+/// end. The worker of this number passes the gate when it has accepted a link, and again when it has handed it back.
+pub fn serve_door<E: Blocks + Drop, T: Turn<Hall<E>>, R: Reader<E::Leaf>, D: Door, G: Gate>(
     alloc: Global,
     site: &Site,
     turn: &mut T,
     reader: &mut R,
     door: &mut D,
+    gate: &G,
+    worker: u32,
 ) -> Summary
     requires shape { T.shape turn.old ≡ shape_of site.now.header }
     requires given { T.given turn.old ≡ None }
@@ -68,11 +70,13 @@ pub fn serve_door<E: Blocks + Drop, T: Turn<Hall<E>>, R: Reader<E::Leaf>, D: Doo
                 return conclude(links, replies, starved, ServeEnd::DoorFault { faults });
             }
         };
+        gate.pass(GatePlace::Accepted, worker);
         let mut served = Vec::new(alloc);
         let end = serve_link(alloc, site, turn, reader, &mut link, &mut served);
         starved |= is_starving(end);
         replies = replies.saturating_add(served.len() as u64);
         door.finish(link, served);
+        gate.pass(GatePlace::Answered, worker);
     }
     conclude(u64::MAX, replies, starved, ServeEnd::NoMemory)
 }

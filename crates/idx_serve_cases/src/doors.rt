@@ -3,7 +3,7 @@ use crate::dataset::{BASE, STEP, Stage, reader_of, stage_of};
 use crate::questions::{REPLIES, TWO};
 use crate::serving::{Noted, are_noted, link_of};
 use idx_memory::{MemDoor, MemLink};
-use idx_outside::{NoMemory, Served};
+use idx_outside::{FreeGate, NoMemory, Served};
 use idx_serve::{ServeEnd, Summary, serve_door};
 use idx_turn::Solo;
 use std::alloc::Global;
@@ -21,7 +21,15 @@ struct Outcome {
 fn serve(alloc: Global, stage: Stage, mut door: MemDoor) -> Result<Outcome, NoMemory> {
     let mut reader = reader_of(alloc, &[])?;
     let mut solo = Solo::new(stage.hall);
-    let summary = serve_door(alloc, &stage.site, &mut solo, &mut reader, &mut door);
+    let summary = serve_door(
+        alloc,
+        &stage.site,
+        &mut solo,
+        &mut reader,
+        &mut door,
+        &FreeGate,
+        0,
+    );
     Ok(Outcome { summary, door })
 }
 

@@ -1,3 +1,4 @@
 pub mod TotalLemmas
 pub mod MovingLemmas
 pub mod WorkLemmas
+pub mod CountLemmas

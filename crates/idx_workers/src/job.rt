@@ -4,11 +4,10 @@ ghost use Rattle.idx_serve.specs.Visits.{link_tells};
 ghost use Rattle.idx_workers.specs.Jobs.{AllWork, IsReady, Works};
 ghost use Rattle.idx_workers.specs.Workers.{tells};
 
-use crate::serving::serve_gated;
 use idx_hall::Hall;
 use idx_lock::{Seat, TurnLock};
 use idx_outside::{Blocks, Door, Gate, Reader};
-use idx_serve::{Site, Summary};
+use idx_serve::{Site, Summary, serve_door};
 use std::alloc::Global;
 use std::sync::Wait;
 use std::thread;
@@ -41,7 +40,7 @@ impl<E: Blocks + Drop, D: Door, R: Reader<E::Leaf>> Job<Hall<E>, D, R> {
     {
         let seat = self.place.take().unwrap();
         let mut chair = lock.chair(rt, seat);
-        self.summary = serve_gated(
+        self.summary = serve_door(
             alloc,
             site,
             &mut chair,

@@ -4,7 +4,6 @@
 mod job;
 mod laws;
 mod moving;
-mod serving;
 mod total;
 mod workers;
 

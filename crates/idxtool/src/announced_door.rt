@@ -10,7 +10,8 @@ use std::io::Write;
 use std::marker::{Model, PhantomData};
 use std::net::TcpStream;
 
-/// A door over TCP that says where it listens, once, before it waits for its first link. A contract sees the door.
+/// A door over TCP that says where it listens, once, before it waits for its first link; or one that shares what listens
+/// with such a door, and says nothing. A contract sees the door.
 #[derive(Drop)]
 pub struct AnnouncedDoor<R: Sockets, B: Bay + Drop, W: Write + Drop> {
     notice: Option<Notice<R, B, W>>,
@@ -28,12 +29,12 @@ impl<R: Sockets, B: Bay + Drop, W: Write + Drop> Model for AnnouncedDoor<R, B, W
 }
 
 impl<R: Sockets, B: Bay + Drop, W: Write + Drop> AnnouncedDoor<R, B, W> {
-    /// The notice speaks of the address of the door.
-    pub fn new(notice: Notice<R, B, W>, door: TcpDoor<R>) -> AnnouncedDoor<R, B, W>
+    /// The notice, where there is one, speaks of the address of the door.
+    pub fn new(notice: Option<Notice<R, B, W>>, door: TcpDoor<R>) -> AnnouncedDoor<R, B, W>
         ensures { result ≡ door }
     {
         AnnouncedDoor {
-            notice: Some(notice),
+            notice,
             door,
             links: PhantomData,
         }

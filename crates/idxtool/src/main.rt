@@ -24,6 +24,7 @@ use report::report;
 use std::alloc::AllocError;
 use std::io::ErrorKind;
 use std::process::ExitCode;
+use std::sync::Wait;
 use std::thread::Threads;
 use std::{env, io};
 use usage::{text_asked_for, write_text};
@@ -56,7 +57,7 @@ fn give_text(rt: &HostRuntime, text: &str) -> ExitCode {
 }
 
 /// Does what the words ask for, over files, standard output and these doors, with threads of this runtime.
-fn give_run<T: Threads + Sync, R: Sockets>(
+fn give_run<T: Threads + Wait + Sync, R: Sockets + Send>(
     rt: &HostRuntime,
     threads: &T,
     words: &[String],
@@ -71,7 +72,7 @@ fn give_run<T: Threads + Sync, R: Sockets>(
 }
 
 /// The same, where there is memory for the objects of the outside.
-fn run_over_files<T: Threads + Sync, R: Sockets>(
+fn run_over_files<T: Threads + Wait + Sync, R: Sockets + Send>(
     rt: &HostRuntime,
     threads: &T,
     words: &[String],
@@ -81,7 +82,7 @@ fn run_over_files<T: Threads + Sync, R: Sockets>(
 {
     let mut raws = raw_files(rt, words)?;
     let mut bay = dataset_files(rt, words)?;
-    let mut readers = file_readers(rt)?;
+    let mut readers = file_readers(rt, words)?;
     let mut out = StdSink::new(rt.stdout());
     let mut err = rt.stderr();
     let is_shown = show_work(rt.alloc(), &mut err, words);

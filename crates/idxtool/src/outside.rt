@@ -1,5 +1,5 @@
 //! The objects of the outside that a run uses: files, standard output and sockets, as the words name them.
-ghost use Rattle.std.specs.Prelude.{◌≡◌, ◌<◌, ◌≤◌, IfOk, map, string_bytes, vec_len};
+ghost use Rattle.std.specs.Prelude.{◌≡◌, ◌+◌, ◌/◌, ◌%◌, ◌<◌, ◌≤◌, IfOk, if◌then◌else◌, map, nat_lt, option_map, string_bytes, vec_len};
 ghost use Rattle.idx_words.specs.declared.command.Command.{Command};
 ghost use Rattle.idx_words.specs.ConvertValue.{ConvertValue};
 ghost use Rattle.idx_words.specs.ServeValue.{ServeValue};
@@ -59,40 +59,83 @@ pub fn dataset_files(
     Ok(FolderBay::new(rt.clone()?, path))
 }
 
-/// The readers of the dataset's files: one.
-pub fn file_readers(rt: &HostRuntime) -> Result<Vec<FileReader<HostRuntime>>, AllocError>
-    ensures { IfOk result (λ readers. vec_len readers ≡ 1) }
+/// The readers of the dataset's files: one for each worker that the words say.
+pub fn file_readers(
+    rt: &HostRuntime,
+    words: &[String],
+) -> Result<Vec<FileReader<HostRuntime>>, AllocError>
+    ensures some { IfOk result (λ readers. 0 < vec_len readers) }
+    ensures workers { (v : ServeValue) → Give (map string_bytes words.now) (Command.Serve v) →
+        IfOk result (λ readers. vec_len readers ≡ v.workers) }
 {
-    let mut readers = Vec::with_capacity(rt.alloc(), 1)?;
-    readers.push(FileReader::new(rt.clone()?, rt.alloc()))?;
+    let workers = workers_of(words);
+    let mut readers = Vec::with_capacity(rt.alloc(), workers as usize)?;
+    for worker in 0..workers {
+        readers.push(FileReader::new(rt.clone()?, rt.alloc()))?;
+    }
     Ok(readers)
 }
 
-/// The doors at the address that the words name: one, which hands out as many links as they say.
+/// The doors at the address that the words name, one for each worker that they say. They share what listens there, and
+/// hand out as many links in all as the words say. The first says where it listens.
 pub fn tcp_doors<R: Sockets>(
     rt: &HostRuntime,
     sockets: R,
     words: &[String],
 ) -> Result<Vec<StdDoor<R>>, AllocError>
-    ensures { IfOk result (λ doors. vec_len doors ≡ 1) }
+    ensures some { IfOk result (λ doors. 0 < vec_len doors) }
+    ensures workers { (v : ServeValue) → Give (map string_bytes words.now) (Command.Serve v) →
+        IfOk result (λ doors. vec_len doors ≡ v.workers) }
 {
     let address = String::from_str(rt.alloc(), door_address(words))?;
     let shared = Arc::new(rt.alloc(), SharedListener::new(address))?;
-    let notice = Notice {
+    let mut notice = Some(Notice {
         rt: sockets,
         alloc: rt.alloc(),
         shared: Arc::try_clone(&shared)?,
         dataset: String::from_str(rt.alloc(), dataset_path(words))?,
         bay: dataset_files(rt, words)?,
         err: rt.stderr(),
-    };
-    let door = TcpDoor::new(sockets, shared, links_of(words), Patience::of_a_server());
-    let mut doors = Vec::with_capacity(rt.alloc(), 1)?;
-    doors.push(AnnouncedDoor::new(notice, door))?;
+    });
+    let workers = workers_of(words);
+    let links = links_of(words);
+    let mut doors = Vec::with_capacity(rt.alloc(), workers as usize)?;
+    for worker in 0..workers {
+        let door = TcpDoor::new(
+            sockets,
+            Arc::try_clone(&shared)?,
+            share_of(links, workers, worker),
+            Patience::of_a_server(),
+        );
+        doors.push(AnnouncedDoor::new(notice.take(), door))?;
+    }
     Ok(doors)
 }
 
-/// How many links the words let a door hand out; `None` for as many as come.
+/// How many links the door of this worker hands out, of so many in all: as many as each other door, and one more at the
+/// first doors where they cannot be shared out evenly.
+pub fn share_of(links: Option<u64>, workers: u32, worker: u32) -> Option<u64>
+    requires { worker < workers }
+    ensures { result ≡ option_map (λ links. links / workers + (if nat_lt worker (links % workers) then 1 else 0)) links }
+{
+    let links = links?;
+    let workers = u64::from(workers);
+    let more = u64::from(u64::from(worker) < links % workers);
+    Some(links / workers + more)
+}
+
+/// How many workers serve by the words; 1 where they do not say.
+fn workers_of(words: &[String]) -> u32
+    ensures some { 1 ≤ result }
+    ensures serve { (v : ServeValue) → Give (map string_bytes words.now) (Command.Serve v) → result ≡ v.workers }
+{
+    match read_words(words) {
+        Ok(Command::Serve(serve)) => serve.workers,
+        _ => 1,
+    }
+}
+
+/// How many links the words let the doors hand out; `None` for as many as come.
 fn links_of(words: &[String]) -> Option<u64>
     ensures serve { (v : ServeValue) → Give (map string_bytes words.now) (Command.Serve v) → result ≡ v.links }
 {
@@ -115,10 +158,10 @@ pub fn last_fault<'o, R: Sockets>(
         Cause::RawFault => first_fault(raws),
         Cause::StoreFault => match bay.last_fault() {
             Some(fault) => Some(fault),
-            None => readers.first()?.last_fault(),
+            None => first_read_fault(readers),
         },
         Cause::SinkFault => out.last_fault(),
-        Cause::DoorFault => doors.first()?.last_fault(),
+        Cause::DoorFault => first_door_fault(doors),
         _ => None,
     }
 }
@@ -127,6 +170,26 @@ pub fn last_fault<'o, R: Sockets>(
 fn first_fault<'o>(raws: &'o [FileSource<HostRuntime>]) -> Option<Fault<'o>> {
     for raw in raws {
         if let Some(fault) = raw.last_fault() {
+            return Some(fault);
+        }
+    }
+    None
+}
+
+/// Why a read of the dataset's files failed, of the first reader of which one did.
+fn first_read_fault<'o>(readers: &'o [FileReader<HostRuntime>]) -> Option<Fault<'o>> {
+    for reader in readers {
+        if let Some(fault) = reader.last_fault() {
+            return Some(fault);
+        }
+    }
+    None
+}
+
+/// Why no links could be accepted, at the first door where none could.
+fn first_door_fault<'o, R: Sockets>(doors: &'o [StdDoor<R>]) -> Option<Fault<'o>> {
+    for door in doors {
+        if let Some(fault) = door.last_fault() {
             return Some(fault);
         }
     }

@@ -82,7 +82,7 @@ idxtool: samples, headers and files of ViSUS IDX data, with proved answers
       DATASET  the header file, as run.idx; NAME is its last part without .idx
       ADDRESS  as 127.0.0.1:8080 or [::1]:8080; port 0 takes a free one
       BLOCKS   as for query
-      WORKERS  1 to 64, else 1; it has no effect yet
+      WORKERS  how many links are served side by side, 1 to 64, else 1
       LINKS    how many links are served; then it writes `links N replies Q` to
                standard output and ends. Else it serves until it is stopped
 
