@@ -712,7 +712,7 @@ def hostile_words(random: Random) -> list[bytes]:
     """Words that are wrong in most places."""
     return [b"", b" ", b"\t", b"-", b"-1", b"+1", b"0", b"1", b"1.0", b"0x1", b"--help", b"--version", b"-h", b"64",
             b"65", b"(box)", b"(", b"auto", b"V", b"V5", b"V0101", b"v0101", b"V" + b"0" * 40, b"V" + b"01" * 21,
-            b"--cache", b"--ranks", b"--links", b"--workers", b"--cache=64", b"--",
+            b"--cache", b"--ranks", b"--links", b"--workers", b"--ingest", b"--raw", b"--cache=64", b"--",
             b"9" * 19, b"9" * 20, b"0" * 20, b"4294967295", b"4294967296", b"0 3 0 3", b"0 3", b"3 0 0 3",
             b"0 3 0 3 0", b"0\n3 0 3", b"0 3 0 1099511627776", b"0 3\t0 3", b" 0 3 0 3 ", b"0 0 " * 6, b"0 0 " * 5,
             b"0 1099511627775 0 0", b"0 1099511627775 0 1", b"a" * 4096, b"a" * 4097, b"a" * 100_000,

@@ -106,6 +106,8 @@ OPTIONS: dict[bytes, dict[bytes, int]] = {
     b"serve": {b"--cache": 65_536, b"--workers": 64, b"--links": LARGEST_NUMBER},
 }
 """For each command that has options their names, each with the greatest number that may stand behind it."""
+MEANWHILE = {b"--ingest": number_rule, b"--raw": path_rule}
+"""The further options of `serve`, both or neither: a step, and its raw volume."""
 
 
 def is_utf8(text: bytes) -> bool:
@@ -117,17 +119,24 @@ def is_utf8(text: bytes) -> bool:
     return True
 
 
+def option_rules(command: bytes) -> dict[bytes, Rule]:
+    """The options of a command, each with what may stand behind it."""
+    def counts(most: int) -> Rule:
+        return lambda words: (value := number(words[-1])) is not None and 1 <= value <= most
+    rules = {name: counts(most) for name, most in OPTIONS.get(command, {}).items()}
+    return {**rules, **MEANWHILE} if command == b"serve" else rules
+
+
 def option_fault(words: Sequence[bytes], place: int) -> int | None:
     """The place of the first fault in the options, which begin at a place."""
-    left = dict(OPTIONS.get(words[0], {}))
+    left = option_rules(words[0])
     for name in range(place, len(words), 2):
-        most = left.pop(words[name], None)
-        if most is None:
+        rule = left.pop(words[name], None)
+        if rule is None:
             return name
-        value = number(words[name + 1]) if name + 1 < len(words) else None
-        if value is None or not 1 <= value <= most:
+        if name + 1 == len(words) or not rule(words[:name + 2]):
             return name + 1
-    return None
+    return len(words) if len(left.keys() & MEANWHILE.keys()) == 1 else None
 
 
 def usage_fault(words: Sequence[bytes]) -> int | None:

@@ -448,7 +448,7 @@ def draw_options(random: Random) -> list[bytes]:
     """Options of a server that may be wrong."""
     values = [b"0", b"00", b"1", b"01", b"64", b"65", b"65536", b"65537", b"9" * 19, b"9" * 20, b"-1", b"x", b"",
               b"0" * 18 + b"1", b"0" * 19 + b"1", b"1.0"]
-    right = [b"--cache", b"--workers", b"--links"]
+    right = [b"--cache", b"--workers", b"--links", b"--ingest", b"--raw"]
     wrong = [b"--ranks", b"--Cache", b"--cache=64", b"--", b"-c", b"cache", b""]
     options = []
     for _ in range(random.randint(0, 4)):

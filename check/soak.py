@@ -2,11 +2,13 @@
 """Asks a server of many workers random questions over kept links for a minute, and looks at every byte.
 
     check/soak.py PROGRAM [--seconds 60] [--links 64] [--questions 256] [--workers 64] [--cache 256] [--steps 16] [--seed 1]
+        [--ingest]
 
 The dataset has 16 steps of 64^3 samples of four bytes, 64 blocks of 16 KiB each: sample n of step t in row-major order is
 n + t * 2^18. Each link asks for random boxes between random levels of random steps, one question after another, and after so
 many questions the next one takes its place. What a reply with status 200 has is compared with the samples that the format
-says; the cache is smaller than the data. The memory of the server is looked at each second.
+says; the cache is smaller than the data. With --ingest the server gathers a further revision of a step meanwhile, whose
+samples are n + (t + 1000) * 2^18. The memory of the server is looked at each second.
 
 The last line is `N requests, W wrong, ...`; the exit status is 1 where a byte was wrong, a link ended early, or the
 memory grew by more than a tenth behind the first ten seconds. It is no part of the quick checks.
@@ -27,6 +29,8 @@ from pathlib import Path
 AXES, DIGITS, SIDE = 3, 6, 64
 VOLUME = SIDE ** AXES
 LEVELS = AXES * DIGITS
+AGAIN = 1000
+"""What is added to a step's number in the samples of the revision that is gathered while the server runs."""
 PROCESSES = 4
 LINKS_A_SECOND = 8
 
@@ -93,7 +97,7 @@ def head_of(box, low, high, step):
 
 
 def read_reply(link, kept):
-    """The status and the body of the next reply, and what was read behind it."""
+    """The status, the number of the post and the body of the next reply, and what was read behind it."""
     while b"\r\n\r\n" not in kept:
         piece = link.recv(65536)
         if not piece:
@@ -111,7 +115,7 @@ def read_reply(link, kept):
         pieces.append(piece)
         have += len(piece)
     kept = b"".join(pieces)
-    return int(lines[0].split()[1]), kept[:length], kept[length:]
+    return int(lines[0].split()[1]), int(fields.get(b"visus-post", b"-1")), kept[:length], kept[length:]
 
 
 def talk(address, chance, steps, end, questions, found):
@@ -131,10 +135,13 @@ def talk_once(address, chance, steps, end, questions, found):
                     break
                 box, low, high, step = question(chance, steps)
                 link.sendall(head_of(box, low, high, step))
-                status, body, kept = read_reply(link, kept)
+                status, post, body, kept = read_reply(link, kept)
                 found[status] += 1
                 found["bytes"] += len(body)
-                if status != 200 or body != wanted(box, low, high, step):
+                of = step if post < steps else step + AGAIN
+                if post >= steps:
+                    found["of the new revision"] += 1
+                if status != 200 or body != wanted(box, low, high, of):
                     found["wrong"] += 1
             link.shutdown(socket.SHUT_WR)
             while link.recv(65536):
@@ -169,17 +176,22 @@ def main():
     for name, value in (("seconds", 60), ("links", 64), ("questions", 256), ("workers", 64), ("cache", 256), ("steps", 16),
                         ("seed", 1)):
         parser.add_argument(f"--{name}", type=int, default=value)
+    parser.add_argument("--ingest", action="store_true")
     given = parser.parse_args()
     with tempfile.TemporaryDirectory() as folder:
         top = Path(folder)
-        dataset, raw = top / "n.idx", top / "n.raw"
+        dataset, raw, again = top / "n.idx", top / "n.raw", top / "again.raw"
         for step in range(given.steps):
             raw.write_bytes(samples(step))
             convert(given.program, dataset, raw, step)
+        new = given.steps // 2
+        again.write_bytes(samples(new + AGAIN))
         # as many links as are asked over, and empty ones up to these
         links = given.links * given.seconds * LINKS_A_SECOND
         words = [given.program, "serve", str(dataset), "127.0.0.1:0", "--cache", str(given.cache),
                  "--workers", str(given.workers), "--links", str(links)]
+        if given.ingest:
+            words += ["--ingest", str(new), "--raw", str(again)]
         with subprocess.Popen(words, stdout=subprocess.PIPE, stderr=subprocess.PIPE) as server:
             try:
                 line = server.stderr.readline().decode()

@@ -3,7 +3,7 @@ ghost use Rattle.std.specs.Prelude.{◌≡◌, ◌≢◌, ◌↔◌, ◌<◌, ma
 ghost use Rattle.idx_outside.specs.Objects.{SameContents, contents_at};
 ghost use Rattle.idx_gather.specs.Gather.{HaveSame};
 ghost use Rattle.idx_words.specs.Words.{GiveCommand, GiveConvert};
-ghost use Rattle.idx_commands.specs.Run.{WroteAnswer};
+ghost use Rattle.idx_commands.specs.Run.{GiveIngest, WroteAnswer};
 
 use idx_commands::{Done, run};
 use idx_outside::{Bay, Door, Reader, Sink, Source};
@@ -11,12 +11,12 @@ use std::alloc::Global;
 use std::sync::Wait;
 use std::thread::Threads;
 
-/// Runs a command that is not `convert` twice, each time over a sink of its own, and says how each run ended. Both are
+/// Runs a command that writes no step twice, each time over a sink of its own, and says how each run ended. Both are
 /// answered from what there was before the first: a question changes nothing that a later one is answered from. A sink is
 /// untouched where its run ends with neither 0 nor 9.
 pub fn ask_twice<
     V: Source + Send,
-    B: Bay,
+    B: Bay + Send,
     R: Reader<B::Leaf> + Send,
     K: Sink,
     D: Door + Send,
@@ -41,6 +41,7 @@ where
     requires door { 0 < vec_len doors.old }
     requires same { HaveSame V.contents raws.old.items }
     requires asks { ¬ GiveConvert (map string_bytes words.now) }
+    requires only { ¬ GiveIngest (map string_bytes words.now) }
     ensures first { result.0.status ≡ 0 → WroteAnswer (map string_bytes words.now)
         (contents_at V.contents raws.old.items 0) (B.header bay.old) (B.files bay.old)
         (K.contents first.old) (K.contents first.new) }

@@ -2,7 +2,7 @@
 use crate::convert_cases::STEP;
 use crate::query_cases::{DAMAGES, first_damaged, second_damaged};
 use crate::revision_cases::SECOND_AGAIN;
-use crate::setting::{Case, Fails, HEADER, NONE_FAILS, calls, door_after};
+use crate::setting::{Case, Fails, HEADER, NONE_FAILS, Step, calls, door_after};
 use idx_commands::Cause;
 use idx_header::HeaderKind;
 use idx_memory::{MemDoor, MemLink};
@@ -14,7 +14,7 @@ use std::thread::Threads;
 
 /// The input of a link.
 #[derive(Clone, Copy)]
-enum Heads {
+pub(crate) enum Heads {
     /// For the levels up to 2 of the step 0, and of the step 9.
     Two,
     /// Twice for all of the step 0.
@@ -32,7 +32,7 @@ impl Heads {
 
 /// What was written to a link.
 #[derive(Clone, Copy)]
-enum Replies {
+pub(crate) enum Replies {
     Nothing,
     /// The reply to the first of two heads where the step 0 stands.
     First,
@@ -40,6 +40,8 @@ enum Replies {
     Both,
     /// The same where the step 0 has the bytes 16 to 31.
     Newest,
+    /// The replies to both where no block of the step 0 can be read.
+    Unread,
     /// The replies to both where no step stands.
     Neither,
     /// Twice all of the step 0.
@@ -53,6 +55,7 @@ impl Replies {
             Replies::First => FIRST,
             Replies::Both => BOTH,
             Replies::Newest => NEWEST,
+            Replies::Unread => UNREAD,
             Replies::Neither => NEITHER,
             Replies::Every => EVERY,
         }
@@ -60,7 +63,7 @@ impl Replies {
 }
 
 /// A link: its input, and the number of its call that fails, or 0.
-type Coming = (Heads, u64);
+pub(crate) type Coming = (Heads, u64);
 
 /// A run over a door: the number of its call that fails, or 0, its links, and what was written to each link that came
 /// back.
@@ -109,6 +112,17 @@ const NEWEST: &[u8] = b"HTTP/1.1 200 OK\r\n\
     visus-post: 0\r\n\
     \r\n\
     \x10\x12\x18\x1aHTTP/1.1 404 Not Found\r\n\
+    Content-Type: text/plain\r\n\
+    Content-Length: 13\r\n\
+    \r\n\
+    NotPublished\n";
+
+const UNREAD: &[u8] = b"HTTP/1.1 500 Internal Server Error\r\n\
+    Content-Type: text/plain\r\n\
+    Content-Length: 11\r\n\
+    \r\n\
+    StoreFault\n\
+    HTTP/1.1 404 Not Found\r\n\
     Content-Type: text/plain\r\n\
     Content-Length: 13\r\n\
     \r\n\
@@ -349,6 +363,122 @@ static BREAKS: [Serving; 4] = [
     },
 ];
 
+/// A run without a link that publishes the step 0 of the bytes 0 to 15, which ends well. Nothing stands before.
+const LIVE_CASE: Case = Case {
+    words: "serve|v.idx|a|--ingest|0|--raw|r",
+    raw: (0, 16),
+    step: None,
+    fails: NONE_FAILS,
+    written: b"links 0 replies 0\n",
+    reads: 0,
+    ..CASE
+};
+
+const LIVE: Serving = Serving {
+    case: LIVE_CASE,
+    door: 0,
+    links: &[],
+    written: &[],
+};
+
+/// The same where a fault ends it before a link is asked for, and nothing is published or written.
+const NOT_LIVE: Case = Case {
+    written: b"",
+    step_after: None,
+    ..LIVE_CASE
+};
+
+/// A step is published at its first revision and at its second one, whose bytes are 16 to 31. It is not where the header
+/// lacks it, where the raw volume has another length, or where a call fails: the first of the raw volume, the calls of the bay
+/// for the header and for beginning the step, and the first and the last write of its files.
+static LIVES: [Serving; 9] = [
+    LIVE,
+    Serving {
+        case: Case {
+            raw: (16, 16),
+            step: Some(STEP),
+            reads: 2,
+            step_after: Some(Step {
+                behind: 2,
+                ..SECOND_AGAIN
+            }),
+            ..LIVE_CASE
+        },
+        ..LIVE
+    },
+    Serving {
+        case: Case {
+            words: "serve|v.idx|a|--raw|r|--ingest|10",
+            cause: Cause::NoStep { time: 10 },
+            ..NOT_LIVE
+        },
+        ..LIVE
+    },
+    Serving {
+        case: Case {
+            raw: (0, 15),
+            cause: Cause::RawWrongSize {
+                want: 16,
+                found: 15,
+            },
+            ..NOT_LIVE
+        },
+        ..LIVE
+    },
+    Serving {
+        case: Case {
+            fails: Fails {
+                raw: 1,
+                ..NONE_FAILS
+            },
+            cause: Cause::RawFault,
+            ..NOT_LIVE
+        },
+        ..LIVE
+    },
+    Serving {
+        case: Case {
+            fails: Fails {
+                raw: 2,
+                ..NONE_FAILS
+            },
+            cause: Cause::RawFault,
+            ..NOT_LIVE
+        },
+        ..LIVE
+    },
+    Serving {
+        case: Case {
+            fails: Fails {
+                bay: 1,
+                ..NONE_FAILS
+            },
+            cause: Cause::StoreFault,
+            ..NOT_LIVE
+        },
+        ..LIVE
+    },
+    Serving {
+        case: Case {
+            fails: Fails {
+                drafts: (1, 0),
+                ..NONE_FAILS
+            },
+            cause: Cause::StoreFault,
+            ..NOT_LIVE
+        },
+        ..LIVE
+    },
+    Serving {
+        case: Case {
+            words: "serve|v.idx|a|--ingest|0",
+            cause: Cause::Usage { at: 5 },
+            ..NOT_LIVE
+        },
+        ..LIVE
+    },
+];
+
 /// The calls of the bay and of the reader that fail, and how many reads are made.
 type Failure = (u64, u64, u64);
 
@@ -374,7 +504,7 @@ static FAILURES: [Failure; 17] = [
 ];
 
 /// A door with these links, whose call of this number fails.
-fn door_of(alloc: Global, coming: &[Coming], fail: u64) -> Result<MemDoor, AllocError> {
+pub(crate) fn door_of(alloc: Global, coming: &[Coming], fail: u64) -> Result<MemDoor, AllocError> {
     let mut links = Vec::new(alloc);
     for (heads, fail) in coming {
         let input = Bytes::from_vec(Vec::from_slice(alloc, heads.bytes())?);
@@ -389,7 +519,7 @@ fn is_back(back: &(MemLink, Vec<Served>), replies: Replies) -> bool {
 }
 
 /// Whether exactly these links were handed out and came back, by what was written to them.
-fn came_back(door: &MemDoor, written: &[Replies]) -> bool {
+pub(crate) fn came_back(door: &MemDoor, written: &[Replies]) -> bool {
     let finished = door.finished();
     door.handed().len() == written.len()
         && finished.len() == written.len()
@@ -504,5 +634,11 @@ fn a_failed_call_ends_serve_before_any_link(rt: HostRuntime) -> Result<(), Fail>
 #[test]
 fn the_first_faulty_row_ends_serve(rt: HostRuntime) -> Result<(), Fail> {
     assert_eq!(rt; first_other_damage(&rt, rt.alloc())?, None);
+    Ok(())
+}
+
+#[test]
+fn a_step_is_published_meanwhile(rt: HostRuntime) -> Result<(), Fail> {
+    assert_eq!(rt; first_other(&rt, rt.alloc(), &LIVES)?, None);
     Ok(())
 }

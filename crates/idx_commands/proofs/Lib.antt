@@ -10,3 +10,4 @@ pub mod SiteNameLemmas
 pub mod RunLemmas
 pub mod AnswerLemmas
 pub mod HostedLemmas
+pub mod LiveLemmas

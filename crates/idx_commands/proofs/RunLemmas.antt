@@ -1,5 +1,5 @@
 -- What a run comes to, by the command that its words give and by how that command ended.
-use Rattle.std.proofs.Common.{◌≡◌, ◌≢◌, ◌⊎◌, ℕ, zero, suc, ◌+◌, ◌<◌, ◌≤◌, List, [], ◌∷◌, Option, Result, Ok, inl, inr, refl, sym, ◌∙◌, ap, subst, length, map, take, drop, slice_index, bytes_eq, codes, arith}
+use Rattle.std.proofs.Common.{◌≡◌, ◌≢◌, ◌⊎◌, ℕ, zero, suc, ◌+◌, ◌<◌, ◌≤◌, List, [], ◌∷◌, Option, None, Some, IsSome, Result, Ok, inl, inr, refl, sym, ◌∙◌, ap, subst, length, map, take, drop, slice_index, bytes_eq, codes, arith}
 use Rattle.std.proofs.lemmas.Bool.{false≢true}
 use Rattle.std.proofs.lemmas.List.{length-map}
 use Rattle.idx_outside.specs.Cause.{Rose}
@@ -8,10 +8,11 @@ use Rattle.idx_outside.specs.Objects.{OthersUntouched, SameContents, UsesOnly, f
 use Rattle.idx_gather.specs.Gather.{NoneFalls}
 use Rattle.idx_convert.specs.Counts.{SomeHigher, SomeRose}
 use Rattle.idx_convert.proofs.StageLemmas.{none_higher}
+use Rattle.idx_workers.specs.Workers.{KeepsBehind}
 use Rattle.idx_words.specs.declared.cut_words.CutWords.{CutWords}
 use Rattle.idx_words.specs.ConvertValue.{ConvertValue}
 use Rattle.idx_words.specs.QueryValue.{QueryValue}
-use Rattle.idx_words.specs.ServeValue.{ServeValue}
+use Rattle.idx_words.specs.ServeValue.{IngestValue, ServeValue}
 use Rattle.idx_words.specs.declared.command.Command.{Command}
 use Rattle.idx_words.specs.declared.command.Command.TheVariants.{Cut, Info, Convert, Query, Serve}
 use Rattle.idx_words.specs.Words.{Give, GiveConvert, GiveCut, GiveInfo, GiveQuery, GiveServe, IsConvert, IsCut, IsInfo, IsQuery, IsServe}
@@ -22,16 +23,19 @@ use Rattle.idx_commands.specs.CutRun.{CutEnds, CutMeans}
 use Rattle.idx_commands.specs.InfoRun.{InfoEnds, InfoMeans}
 use Rattle.idx_commands.specs.ConvertRun.{ConvertEnds, ConvertMeans}
 use Rattle.idx_commands.specs.QueryRun.{IsBayOutage, IsReaderOutage, QueryEnds, QueryMeans}
-use Rattle.idx_commands.specs.ServeRun.{ServeEnds, ServeMeans}
+use Rattle.idx_commands.specs.ServeRun.{ServeMeans, workers_in}
+use Rattle.idx_commands.specs.LiveRun.{EndsServing, LiveMeans, seen_of}
+use Rattle.idx_commands.specs.Totals.{totals}
 use Rattle.idx_commands.specs.Known.{Known, known}
 use Rattle.idx_commands.specs.Seen.{BaySeen, IsUnchanged, raw_after, raw_before, raw_bytes, reader_counts}
-use Rattle.idx_commands.specs.Run.{AreNamed, CommandEnds, CountsFaults, LeavesRest, RunSeen, Writes, WroteAnswer, WrotePrefix}
+use Rattle.idx_commands.specs.Run.{AreNamed, CommandEnds, CountsFaults, GiveIngest, LeavesRest, RunSeen, Writes, WroteAnswer, WrotePrefix}
 use Rattle.idx_commands.proofs.CauseLemmas.{done_is, door_fault_is, raw_fault_is, sink_fault_is, store_fault_is, usage_is}
 use Rattle.idx_commands.proofs.CutLemmas.{cut_silent}
 use Rattle.idx_commands.proofs.InfoLemmas.{info_silent}
 use Rattle.idx_commands.proofs.ConvertLemmas.{raw_cause, store_cause}
 use Rattle.idx_commands.proofs.QueryLemmas.{query_silent, query_writes}
 use Rattle.idx_commands.proofs.ServeLemmas.{serve_silent, totals_begun, totals_written}
+use Rattle.idx_commands.proofs.LiveLemmas.{live_begun, live_not_usage, live_silent, live_written}
 use Rattle.idx_commands.proofs.HostedLemmas.{first_counts_fall, others_same}
 
 -- ---- the command that words give
@@ -47,6 +51,19 @@ name_of Info = codes "info"
 name_of (Convert c) = codes "convert"
 name_of (Query q) = codes "query"
 name_of (Serve v) = codes "serve"
+
+-- the step that a command publishes meanwhile
+abbrev ingest_in : Command → Option IngestValue
+ingest_in (Serve v) = v.ingest
+ingest_in command = None
+
+-- the values of one command `serve`
+abbrev values_in : ServeValue → Command → ServeValue
+values_in other (Serve v) = v
+values_in other command = other
+
+same_serve : (a b : ServeValue) → Serve a ≡ Serve b → a ≡ b
+same_serve a b same = ap (values_in a) same
 
 -- two names of as many letters differ
 pub query_not_serve : codes "query" ≡ codes "serve" → ⊥
@@ -123,6 +140,9 @@ module _ {V B R K D L : Type 0} (words : List (List ℕ)) (seen : RunSeen V B R 
   abbrev E : Command → Cause → Type 0
   E command cause = CommandEnds seen command cause
 
+  abbrev Serving : Option IngestValue → ServeValue → Cause → Type 0
+  Serving ingest v cause = EndsServing ingest v seen.raws seen.bay seen.readers seen.sink seen.doors cause
+
   abbrev Only : Command → Type 0
   Only command = (other : Command) → Give words other → other ≡ command
 
@@ -148,20 +168,46 @@ module _ {V B R K D L : Type 0} (words : List (List ℕ)) (seen : RunSeen V B R 
   of_query command only cause e q given = let all : E (Query q) cause = ended command only cause e (Query q) given in all.0
 
   pub of_serve : (command : Command) → Only command → (cause : Cause) → E command cause → (v : ServeValue) → Give words (Serve v) →
-      ServeEnds v seen.bay seen.readers seen.sink seen.doors cause
-  of_serve command only cause e v given = let all : E (Serve v) cause = ended command only cause e (Serve v) given in all.0
+      Serving v.ingest v cause
+  of_serve command only cause e v given = ended command only cause e (Serve v) given
 
   -- ---- what is written
 
   abbrev Serves : ServeValue → Cause → Type 0
   Serves v cause = ServeMeans v seen.bay seen.readers seen.sink seen.doors cause
 
+  serving_no_usage : (ingest : Option IngestValue) (v : ServeValue) (cause : Cause) → Serving ingest v cause → status_of cause ≡ 1 → ⊥
+  serving_no_usage None v cause e one = subst (Serves v) (usage_is cause one).1 e.0.means
+  serving_no_usage (Some i) v cause e one =
+      let usage = usage_is cause one in
+      live_not_usage v i (seen_of seen.raws e.first e.after) seen.bay seen.readers seen.sink seen.doors usage.0
+      (subst (LiveMeans v i (seen_of seen.raws e.first e.after) seen.bay seen.readers seen.sink seen.doors) usage.1 e.means)
+
+  abbrev WroteTotals : Type 0
+  WroteTotals = (links : ℕ) × (replies : ℕ) × (seen.sink.contents seen.sink.new ≡ appended (seen.sink.contents seen.sink.old) (totals links replies))
+
+  serving_written : (ingest : Option IngestValue) (v : ServeValue) → Serving ingest v causes.Done → WroteTotals
+  serving_written None v e = totals_written v seen.bay seen.readers seen.sink seen.doors e.0.means
+  serving_written (Some i) v e = live_written v i (seen_of seen.raws e.first e.after) seen.bay seen.readers seen.sink seen.doors e.means
+
+  abbrev BeganTotals : Type 0
+  BeganTotals = (links : ℕ) × (replies : ℕ) × AppendsPrefix (seen.sink.contents seen.sink.old) (seen.sink.contents seen.sink.new) (totals links replies)
+
+  serving_begun : (ingest : Option IngestValue) (v : ServeValue) → Serving ingest v causes.SinkFault → BeganTotals
+  serving_begun None v e = totals_begun v seen.bay seen.readers seen.sink seen.doors e.0.means
+  serving_begun (Some i) v e = live_begun v i (seen_of seen.raws e.first e.after) seen.bay seen.readers seen.sink seen.doors e.means
+
+  serving_silent : (ingest : Option IngestValue) (v : ServeValue) (cause : Cause) → Serving ingest v cause → status_of cause ≢ 0 → status_of cause ≢ 9 →
+      seen.sink.new ≡ seen.sink.old
+  serving_silent None v cause e = serve_silent v seen.bay seen.readers seen.sink seen.doors cause e.0.means
+  serving_silent (Some i) v cause e = live_silent v i (seen_of seen.raws e.first e.after) seen.bay seen.readers seen.sink seen.doors cause e.means
+
   pub no_usage : (command : Command) (cause : Cause) → E command cause → status_of cause ≡ 1 → ⊥
   no_usage (Cut c) cause e one = subst (CutMeans c (raw_bytes seen.raws) (raw_before seen.raws) (raw_after seen.raws) seen.sink) (usage_is cause one).1 e.0.means
   no_usage Info cause e one = let m = subst (InfoMeans seen.bay seen.sink) (usage_is cause one).1 e.0.means in m.0
   no_usage (Convert c) cause e one = subst (ConvertMeans c (known seen.raws seen.bay)) (usage_is cause one).1 e.0.means
   no_usage (Query q) cause e one = subst (QueryMeans q seen.bay (reader_counts seen.readers) seen.sink) (usage_is cause one).1 e.0.means
-  no_usage (Serve v) cause e one = subst (Serves v) (usage_is cause one).1 e.0.means
+  no_usage (Serve v) cause e one = serving_no_usage v.ingest v cause e one
 
   writes : (command : Command) → E command causes.Done →
       Writes command (raw_bytes seen.raws) (seen.bay.header seen.bay.old) (seen.bay.files seen.bay.old)
@@ -170,7 +216,7 @@ module _ {V B R K D L : Type 0} (words : List (List ℕ)) (seen : RunSeen V B R 
   writes (Cut c) e = e.0.means.1
   writes Info e = e.0.means
   writes (Convert c) e = ap seen.sink.contents e.2
-  writes (Serve v) e = totals_written v seen.bay seen.readers seen.sink seen.doors e.0.means
+  writes (Serve v) e = serving_written v.ingest v e
   writes (Query q) e =
       let m = e.0.means in
       query_writes (λ answer. seen.sink.contents seen.sink.new ≡ appended (seen.sink.contents seen.sink.old) answer) q
@@ -182,7 +228,7 @@ module _ {V B R K D L : Type 0} (words : List (List ℕ)) (seen : RunSeen V B R 
   writes_prefix (Cut c) e = e.0.means.2
   writes_prefix Info e = e.0.means.1
   writes_prefix (Convert c) e = e.0.means
-  writes_prefix (Serve v) e = totals_begun v seen.bay seen.readers seen.sink seen.doors e.0.means
+  writes_prefix (Serve v) e = serving_begun v.ingest v e
   writes_prefix (Query q) e =
       let m = e.0.means in
       query_writes (λ answer. AppendsPrefix (seen.sink.contents seen.sink.old) (seen.sink.contents seen.sink.new) answer) q
@@ -204,7 +250,7 @@ module _ {V B R K D L : Type 0} (words : List (List ℕ)) (seen : RunSeen V B R 
   silent Info cause e = info_silent seen.bay seen.sink cause e.0.means
   silent (Convert c) cause e = λ none nine. e.2
   silent (Query q) cause e = query_silent q seen.bay seen.readers seen.sink cause e.0.means
-  silent (Serve v) cause e = serve_silent v seen.bay seen.readers seen.sink seen.doors cause e.0.means
+  silent (Serve v) cause e = serving_silent v.ingest v cause e
 
   -- ---- the faults
 
@@ -216,6 +262,63 @@ module _ {V B R K D L : Type 0} (words : List (List ℕ)) (seen : RunSeen V B R 
 
   not_opened : seen.doors.new ≡ seen.doors.old → SomeHigher (map seen.doors.faults seen.doors.old) (map seen.doors.faults seen.doors.new) → ⊥
   not_opened same = none_higher (map seen.doors.faults seen.doors.old) (map seen.doors.faults seen.doors.new) (ap (map seen.doors.faults) same)
+
+  serving_counts : (ingest : Option IngestValue) (v : ServeValue) → v.ingest ≡ ingest → Give words (Serve v) → (cause : Cause) → Serving ingest v cause → CountsFaults words seen cause
+  serving_counts None v asked gives cause e =
+      let m : (other : Cause) → cause ≡ other → Serves v other = λ other is. subst (Serves v) is e.0.means in
+      record {
+        raw_fault = λ four. absurd (m causes.RawFault (raw_fault_is cause four));
+        raw_used = λ four. absurd (m causes.RawFault (raw_fault_is cause four));
+        store_fault = λ five. outage (e.0.store_outage five);
+        store_used = λ five. inr (inr (inr (v, gives)));
+        sink_fault = λ nine. (m causes.SinkFault (sink_fault_is cause nine)).0;
+        door_fault = e.0.door_rose;
+        door_used = λ twelve. (v, gives);
+        raw_answered = λ more. absurd (not_higher e.1 more);
+        store_answered = λ more. inl (ap status_of (e.0.store_answered more));
+        reader_answered = λ other more. absurd (other (v, gives));
+        sink_answered = λ more. ap status_of (e.0.sink_answered more);
+        door_answered = λ more. inl (answered (e.0.door_answered more));
+      }
+    where
+      outage : IsBayOutage seen.bay ⊎ IsReaderOutage seen.bay seen.readers →
+          Rose (seen.bay.faults seen.bay.old) (seen.bay.faults seen.bay.new)
+          ⊎ ((GiveQuery words ⊎ GiveServe words) × Rose (reader_count seen.readers.old) (reader_count seen.readers.new))
+      outage (inl bay) = inl bay.rose
+      outage (inr reader) = inr (inr (v, gives), reader.rose)
+
+      answered : (cause ≡ causes.DoorFault) ⊎ (cause ≡ causes.NoMemory) → (status_of cause ≡ 12) ⊎ (status_of cause ≡ 11)
+      answered (inl door) = inl (ap status_of door)
+      answered (inr memory) = inr (ap status_of memory)
+  serving_counts (Some i) v asked gives cause e = record {
+    raw_fault = e.raw_rose;
+    raw_used = λ four. inr (inr ingests);
+    store_fault = λ five. outage (e.store_rose five);
+    store_used = λ five. inr (inr (inr (v, gives)));
+    sink_fault = e.sink_rose;
+    door_fault = e.door_rose;
+    door_used = λ twelve. (v, gives);
+    raw_answered = λ more. told causes.RawFault (e.raw_answered more);
+    store_answered = λ more. told causes.StoreFault (e.store_answered more);
+    reader_answered = λ other more. absurd (other (v, gives));
+    sink_answered = λ more. ap status_of (e.sink_answered more);
+    door_answered = λ more.
+        let said = (e.door_answered more).0 in
+        inr (ingests, (λ zero. said.0 (done_is cause zero)), (λ nine. said.1 (sink_fault_is cause nine)));
+  }
+    where
+      ingests : GiveIngest words
+      ingests = (v, (gives, subst IsSome (sym asked) refl))
+
+      outage : Rose (seen.bay.faults seen.bay.old) (seen.bay.faults seen.bay.new) ⊎ Rose (reader_count seen.readers.old) (reader_count seen.readers.new) →
+          Rose (seen.bay.faults seen.bay.old) (seen.bay.faults seen.bay.new)
+          ⊎ ((GiveQuery words ⊎ GiveServe words) × Rose (reader_count seen.readers.old) (reader_count seen.readers.new))
+      outage (inl bay) = inl bay
+      outage (inr reader) = inr (inr (v, gives), reader)
+
+      told : (other : Cause) → (cause ≡ other) ⊎ (cause ≡ causes.NoMemory) → (status_of cause ≡ status_of other) ⊎ (GiveIngest words × (status_of cause ≡ 11))
+      told other (inl is) = inl (ap status_of is)
+      told other (inr is) = inr (ingests, ap status_of is)
 
   pub counts_faults : (command : Command) → Give words command → (cause : Cause) → E command cause → CountsFaults words seen cause
   counts_faults (Cut c) gives cause e =
@@ -229,8 +332,8 @@ module _ {V B R K D L : Type 0} (words : List (List ℕ)) (seen : RunSeen V B R 
         sink_fault = λ nine. (m causes.SinkFault (sink_fault_is cause nine)).1;
         door_fault = λ twelve. absurd (m causes.DoorFault (door_fault_is cause twelve));
         door_used = λ twelve. absurd (m causes.DoorFault (door_fault_is cause twelve));
-        raw_answered = λ more. ap status_of (e.0.raw_answered
-            (first_higher seen.raws.contents seen.raws.faults seen.raws.old seen.raws.new e.0.raws_kept more));
+        raw_answered = λ more. inl (ap status_of (e.0.raw_answered
+            (first_higher seen.raws.contents seen.raws.faults seen.raws.old seen.raws.new e.0.raws_kept more)));
         store_answered = λ more. absurd (not_more seen.bay.faults seen.bay.old seen.bay.new e.1 more);
         reader_answered = λ other more. absurd (not_more reader_count seen.readers.old seen.readers.new e.2 more);
         sink_answered = λ more. ap status_of (e.0.sink_answered more);
@@ -247,7 +350,7 @@ module _ {V B R K D L : Type 0} (words : List (List ℕ)) (seen : RunSeen V B R 
         door_fault = λ twelve. absurd (m causes.DoorFault (door_fault_is cause twelve)).0;
         door_used = λ twelve. absurd (m causes.DoorFault (door_fault_is cause twelve)).0;
         raw_answered = λ more. absurd (not_higher e.1 more);
-        store_answered = λ more. ap status_of (e.0.store_answered more);
+        store_answered = λ more. inl (ap status_of (e.0.store_answered more));
         reader_answered = λ other more. absurd (not_more reader_count seen.readers.old seen.readers.new e.2 more);
         sink_answered = λ more. ap status_of (e.0.sink_answered more);
         door_answered = λ more. absurd (not_opened e.3 more);
@@ -257,14 +360,14 @@ module _ {V B R K D L : Type 0} (words : List (List ℕ)) (seen : RunSeen V B R 
       let m : (other : Cause) → cause ≡ other → ConvertMeans c k other = λ other is. subst (ConvertMeans c k) is e.0.means in
       record {
         raw_fault = λ four. raw_cause c k (m causes.RawFault (raw_fault_is cause four));
-        raw_used = λ four. inr (c, gives);
+        raw_used = λ four. inr (inl (c, gives));
         store_fault = λ five. inl (store_cause c k (m causes.StoreFault (store_fault_is cause five)));
         store_used = λ five. inr (inl (c, gives));
         sink_fault = λ nine. absurd (m causes.SinkFault (sink_fault_is cause nine));
         door_fault = λ twelve. absurd (m causes.DoorFault (door_fault_is cause twelve));
         door_used = λ twelve. absurd (m causes.DoorFault (door_fault_is cause twelve));
-        raw_answered = λ more. ap status_of (e.0.raw_answered more);
-        store_answered = λ more. ap status_of (e.0.store_answered more);
+        raw_answered = λ more. inl (ap status_of (e.0.raw_answered more));
+        store_answered = λ more. inl (ap status_of (e.0.store_answered more));
         reader_answered = λ other more. absurd (not_more reader_count seen.readers.old seen.readers.new e.1 more);
         sink_answered = λ more. absurd (not_more seen.sink.faults seen.sink.old seen.sink.new e.2 more);
         door_answered = λ more. absurd (not_opened e.3 more);
@@ -281,7 +384,7 @@ module _ {V B R K D L : Type 0} (words : List (List ℕ)) (seen : RunSeen V B R 
         door_fault = λ twelve. absurd (m causes.DoorFault (door_fault_is cause twelve));
         door_used = λ twelve. absurd (m causes.DoorFault (door_fault_is cause twelve));
         raw_answered = λ more. absurd (not_higher e.1 more);
-        store_answered = λ more. ap status_of (e.0.store_answered more);
+        store_answered = λ more. inl (ap status_of (e.0.store_answered more));
         reader_answered = λ other more. ap status_of (e.0.reader_answered more);
         sink_answered = λ more. ap status_of (e.0.sink_answered more);
         door_answered = λ more. absurd (not_opened e.2 more);
@@ -292,32 +395,7 @@ module _ {V B R K D L : Type 0} (words : List (List ℕ)) (seen : RunSeen V B R 
           ⊎ ((GiveQuery words ⊎ GiveServe words) × Rose (reader_count seen.readers.old) (reader_count seen.readers.new))
       outage (inl bay) = inl bay.rose
       outage (inr reader) = inr (inl (q, gives), reader.rose)
-  counts_faults (Serve v) gives cause e =
-      let m : (other : Cause) → cause ≡ other → Serves v other = λ other is. subst (Serves v) is e.0.means in
-      record {
-        raw_fault = λ four. absurd (m causes.RawFault (raw_fault_is cause four));
-        raw_used = λ four. absurd (m causes.RawFault (raw_fault_is cause four));
-        store_fault = λ five. outage (e.0.store_outage five);
-        store_used = λ five. inr (inr (inr (v, gives)));
-        sink_fault = λ nine. (m causes.SinkFault (sink_fault_is cause nine)).0;
-        door_fault = e.0.door_rose;
-        door_used = λ twelve. (v, gives);
-        raw_answered = λ more. absurd (not_higher e.1 more);
-        store_answered = λ more. ap status_of (e.0.store_answered more);
-        reader_answered = λ other more. absurd (other (v, gives));
-        sink_answered = λ more. ap status_of (e.0.sink_answered more);
-        door_answered = λ more. answered (e.0.door_answered more);
-      }
-    where
-      outage : IsBayOutage seen.bay ⊎ IsReaderOutage seen.bay seen.readers →
-          Rose (seen.bay.faults seen.bay.old) (seen.bay.faults seen.bay.new)
-          ⊎ ((GiveQuery words ⊎ GiveServe words) × Rose (reader_count seen.readers.old) (reader_count seen.readers.new))
-      outage (inl bay) = inl bay.rose
-      outage (inr reader) = inr (inr (v, gives), reader.rose)
-
-      answered : (cause ≡ causes.DoorFault) ⊎ (cause ≡ causes.NoMemory) → (status_of cause ≡ 12) ⊎ (status_of cause ≡ 11)
-      answered (inl door) = inl (ap status_of door)
-      answered (inr memory) = inr (ap status_of memory)
+  counts_faults (Serve v) gives cause e = serving_counts v.ingest v refl gives cause e
 
   -- ---- what is left
 
@@ -336,13 +414,70 @@ module _ {V B R K D L : Type 0} (words : List (List ℕ)) (seen : RunSeen V B R 
   is_serve : (command : Command) → Only command → GiveServe words → IsServe command
   is_serve command only (v, given) = subst IsServe (only (Serve v) given) tt
 
+  serving_rest : (ingest : Option IngestValue) (v : ServeValue) → v.ingest ≡ ingest → Give words (Serve v) → Only (Serve v) → (cause : Cause) → Serving ingest v cause → LeavesRest words seen
+  serving_rest None v asked gives only cause e =
+      let no_ingest : GiveIngest words → ⊥ = λ other. false≢true (subst IsSome (ap ingest_in (only (Serve other.0) other.1.0) ∙ asked) other.1.1) in
+      record {
+        raws = ap (map seen.raws.contents) e.1;
+        raw_counts = none_fell seen.raws.faults seen.raws.old seen.raws.new e.1;
+        other_raws = λ never none. others_same seen.raws.old seen.raws.new e.1;
+        idle_raws = λ asked given. absurd (is_convert (Serve v) only (asked, given));
+        far_raws = λ other. absurd (no_ingest other);
+        other_readers = λ never. absurd (never (v, gives));
+        idle_readers = λ other given. subst (λ w. KeepsBehind (workers_in w seen.readers seen.doors) seen.readers.old seen.readers.new) (sym (same_serve other v (only (Serve other) given))) e.0.idle_readers;
+        reader_list = e.0.idle_readers.number;
+        reader_counts = e.0.reader_counts;
+        bay_count = e.0.bay_count;
+        sink_count = e.0.sink_count;
+        idle_doors = λ other given. subst (λ w. KeepsBehind (workers_in w seen.readers seen.doors) seen.doors.old seen.doors.new) (sym (same_serve other v (only (Serve other) given))) e.0.idle_doors;
+        door_list = e.0.idle_doors.number;
+        door_counts = e.0.door_counts;
+        unchanged = λ never none. e.0.unchanged;
+        header = λ never. e.0.unchanged.header;
+        convert_silent = λ given. absurd (is_convert (Serve v) only given);
+        cut_alone = λ given. absurd (is_cut (Serve v) only given);
+        info_alone = λ given. absurd (is_info (Serve v) only given);
+        query_alone = λ given. absurd (is_query (Serve v) only given);
+        serve_alone = λ given none. e.1;
+        query_reads = λ never other. absurd (other (v, gives));
+        serve_opens = λ other. absurd (other (v, gives));
+      }
+  serving_rest (Some i) v asked gives only cause e =
+      let ingests : GiveIngest words = (v, (gives, subst IsSome (sym asked) refl)) in
+      record {
+        raws = e.raws_kept;
+        raw_counts = e.raw_counts;
+        other_raws = λ never none. absurd (none ingests);
+        idle_raws = λ asked given. absurd (is_convert (Serve v) only (asked, given));
+        far_raws = λ other. e.raws_idle;
+        other_readers = λ never. absurd (never (v, gives));
+        idle_readers = λ other given. subst (λ w. KeepsBehind (workers_in w seen.readers seen.doors) seen.readers.old seen.readers.new) (sym (same_serve other v (only (Serve other) given))) e.idle_readers;
+        reader_list = e.idle_readers.number;
+        reader_counts = e.reader_counts;
+        bay_count = e.bay_count;
+        sink_count = e.sink_count;
+        idle_doors = λ other given. subst (λ w. KeepsBehind (workers_in w seen.readers seen.doors) seen.doors.old seen.doors.new) (sym (same_serve other v (only (Serve other) given))) e.idle_doors;
+        door_list = e.idle_doors.number;
+        door_counts = e.door_counts;
+        unchanged = λ never none. absurd (none ingests);
+        header = λ never. e.header;
+        convert_silent = λ given. absurd (is_convert (Serve v) only given);
+        cut_alone = λ given. absurd (is_cut (Serve v) only given);
+        info_alone = λ given. absurd (is_info (Serve v) only given);
+        query_alone = λ given. absurd (is_query (Serve v) only given);
+        serve_alone = λ given none. absurd (none ingests);
+        query_reads = λ never other. absurd (other (v, gives));
+        serve_opens = λ other. absurd (other (v, gives));
+      }
+
   pub leaves_rest : (command : Command) → Give words command → Only command → (cause : Cause) → E command cause → LeavesRest words seen
   leaves_rest (Cut c) gives only cause e =
       record {
         raws = e.0.raws_kept.same;
         raw_counts = first_falls seen.raws.contents seen.raws.faults seen.raws.old seen.raws.new e.0.raws_kept;
-        other_raws = λ never. e.0.raws_kept.others;
+        other_raws = λ never none. e.0.raws_kept.others;
         idle_raws = λ asked given. (of_convert (Cut c) only cause e asked given).raws_idle;
+        far_raws = λ ingest. absurd (is_serve (Cut c) only (ingest.0, ingest.1.0));
         other_readers = λ never. others_same seen.readers.old seen.readers.new e.2;
         idle_readers = λ v given. absurd (is_serve (Cut c) only (v, given));
         reader_list = ap length e.2;
@@ -352,12 +487,13 @@ module _ {V B R K D L : Type 0} (words : List (List ℕ)) (seen : RunSeen V B R 
         idle_doors = λ v given. absurd (is_serve (Cut c) only (v, given));
         door_list = ap length e.3;
         door_counts = none_fell seen.doors.faults seen.doors.old seen.doors.new e.3;
-        unchanged = λ never. not_changed seen.bay e.1;
+        unchanged = λ never none. not_changed seen.bay e.1;
+        header = λ never. ap seen.bay.header e.1;
         convert_silent = λ given. absurd (is_convert (Cut c) only given);
         cut_alone = λ given. e.1;
         info_alone = λ given. absurd (is_info (Cut c) only given);
         query_alone = λ given. absurd (is_query (Cut c) only given);
-        serve_alone = λ given. absurd (is_serve (Cut c) only given);
+        serve_alone = λ given none. absurd (is_serve (Cut c) only given);
         query_reads = λ never other. e.2;
         serve_opens = λ other. e.3;
       }
@@ -365,8 +501,9 @@ module _ {V B R K D L : Type 0} (words : List (List ℕ)) (seen : RunSeen V B R 
       record {
         raws = ap (map seen.raws.contents) e.1;
         raw_counts = none_fell seen.raws.faults seen.raws.old seen.raws.new e.1;
-        other_raws = λ never. others_same seen.raws.old seen.raws.new e.1;
+        other_raws = λ never none. others_same seen.raws.old seen.raws.new e.1;
         idle_raws = λ asked given. (of_convert Info only cause e asked given).raws_idle;
+        far_raws = λ ingest. absurd (is_serve Info only (ingest.0, ingest.1.0));
         other_readers = λ never. others_same seen.readers.old seen.readers.new e.2;
         idle_readers = λ v given. absurd (is_serve Info only (v, given));
         reader_list = ap length e.2;
@@ -376,12 +513,13 @@ module _ {V B R K D L : Type 0} (words : List (List ℕ)) (seen : RunSeen V B R 
         idle_doors = λ v given. absurd (is_serve Info only (v, given));
         door_list = ap length e.3;
         door_counts = none_fell seen.doors.faults seen.doors.old seen.doors.new e.3;
-        unchanged = λ never. e.0.unchanged;
+        unchanged = λ never none. e.0.unchanged;
+        header = λ never. e.0.unchanged.header;
         convert_silent = λ given. absurd (is_convert Info only given);
         cut_alone = λ given. absurd (is_cut Info only given);
         info_alone = λ given. e.1;
         query_alone = λ given. absurd (is_query Info only given);
-        serve_alone = λ given. absurd (is_serve Info only given);
+        serve_alone = λ given none. absurd (is_serve Info only given);
         query_reads = λ never other. e.2;
         serve_opens = λ other. e.3;
       }
@@ -389,8 +527,9 @@ module _ {V B R K D L : Type 0} (words : List (List ℕ)) (seen : RunSeen V B R 
       record {
         raws = e.0.raws_kept;
         raw_counts = e.0.raw_counts;
-        other_raws = λ never. absurd (never (c, gives));
+        other_raws = λ never none. absurd (never (c, gives));
         idle_raws = λ asked given. (of_convert (Convert c) only cause e asked given).raws_idle;
+        far_raws = λ ingest. absurd (is_serve (Convert c) only (ingest.0, ingest.1.0));
         other_readers = λ never. others_same seen.readers.old seen.readers.new e.1;
         idle_readers = λ v given. absurd (is_serve (Convert c) only (v, given));
         reader_list = ap length e.1;
@@ -400,12 +539,13 @@ module _ {V B R K D L : Type 0} (words : List (List ℕ)) (seen : RunSeen V B R 
         idle_doors = λ v given. absurd (is_serve (Convert c) only (v, given));
         door_list = ap length e.3;
         door_counts = none_fell seen.doors.faults seen.doors.old seen.doors.new e.3;
-        unchanged = λ never. absurd (never (c, gives));
+        unchanged = λ never none. absurd (never (c, gives));
+        header = λ never. absurd (never (c, gives));
         convert_silent = λ given. e.2;
         cut_alone = λ given. absurd (is_cut (Convert c) only given);
         info_alone = λ given. absurd (is_info (Convert c) only given);
         query_alone = λ given. absurd (is_query (Convert c) only given);
-        serve_alone = λ given. absurd (is_serve (Convert c) only given);
+        serve_alone = λ given none. absurd (is_serve (Convert c) only given);
         query_reads = λ never other. e.1;
         serve_opens = λ other. e.3;
       }
@@ -413,8 +553,9 @@ module _ {V B R K D L : Type 0} (words : List (List ℕ)) (seen : RunSeen V B R 
       record {
         raws = ap (map seen.raws.contents) e.1;
         raw_counts = none_fell seen.raws.faults seen.raws.old seen.raws.new e.1;
-        other_raws = λ never. others_same seen.raws.old seen.raws.new e.1;
+        other_raws = λ never none. others_same seen.raws.old seen.raws.new e.1;
         idle_raws = λ asked given. (of_convert (Query q) only cause e asked given).raws_idle;
+        far_raws = λ ingest. absurd (is_serve (Query q) only (ingest.0, ingest.1.0));
         other_readers = λ never. e.0.others;
         idle_readers = λ v given. absurd (is_serve (Query q) only (v, given));
         reader_list = e.0.reader_list;
@@ -424,36 +565,14 @@ module _ {V B R K D L : Type 0} (words : List (List ℕ)) (seen : RunSeen V B R 
         idle_doors = λ v given. absurd (is_serve (Query q) only (v, given));
         door_list = ap length e.2;
         door_counts = none_fell seen.doors.faults seen.doors.old seen.doors.new e.2;
-        unchanged = λ never. e.0.unchanged;
+        unchanged = λ never none. e.0.unchanged;
+        header = λ never. e.0.unchanged.header;
         convert_silent = λ given. absurd (is_convert (Query q) only given);
         cut_alone = λ given. absurd (is_cut (Query q) only given);
         info_alone = λ given. absurd (is_info (Query q) only given);
         query_alone = λ given. e.1;
-        serve_alone = λ given. absurd (is_serve (Query q) only given);
+        serve_alone = λ given none. absurd (is_serve (Query q) only given);
         query_reads = λ never other. absurd (never (q, gives));
         serve_opens = λ other. e.2;
       }
-  leaves_rest (Serve v) gives only cause e =
-      record {
-        raws = ap (map seen.raws.contents) e.1;
-        raw_counts = none_fell seen.raws.faults seen.raws.old seen.raws.new e.1;
-        other_raws = λ never. others_same seen.raws.old seen.raws.new e.1;
-        idle_raws = λ asked given. (of_convert (Serve v) only cause e asked given).raws_idle;
-        other_readers = λ never. absurd (never (v, gives));
-        idle_readers = λ asked given. (of_serve (Serve v) only cause e asked given).idle_readers;
-        reader_list = e.0.idle_readers.number;
-        reader_counts = e.0.reader_counts;
-        bay_count = e.0.bay_count;
-        sink_count = e.0.sink_count;
-        idle_doors = λ asked given. (of_serve (Serve v) only cause e asked given).idle_doors;
-        door_list = e.0.idle_doors.number;
-        door_counts = e.0.door_counts;
-        unchanged = λ never. e.0.unchanged;
-        convert_silent = λ given. absurd (is_convert (Serve v) only given);
-        cut_alone = λ given. absurd (is_cut (Serve v) only given);
-        info_alone = λ given. absurd (is_info (Serve v) only given);
-        query_alone = λ given. absurd (is_query (Serve v) only given);
-        serve_alone = λ given. e.1;
-        query_reads = λ never other. absurd (other (v, gives));
-        serve_opens = λ other. absurd (other (v, gives));
-      }
+  leaves_rest (Serve v) gives only cause e = serving_rest v.ingest v refl gives only cause e

@@ -13,3 +13,4 @@ pub mod SiteName
 pub mod Totals
 pub mod ServeRun
 pub mod Run
+pub mod LiveRun

@@ -1,5 +1,5 @@
 -- What a run promises, by its words and by what is seen of the raw volumes, the bay, the readers, the sink and the doors.
-use Rattle.std.specs.Prelude.{◌≡◌, ◌⊎◌, ℕ, ◌<◌, List, [], ◌∷◌, drop, length, min, Option, IfSome}
+use Rattle.std.specs.Prelude.{◌≡◌, ◌≢◌, ◌⊎◌, ℕ, ◌<◌, List, [], ◌∷◌, drop, length, min, Option, IfSome, IsSome}
 use Rattle.idx_outside.specs.Cause.{NeverFalls, Rose}
 use Rattle.idx_outside.specs.Contents.{appended, AppendsPrefix}
 use Rattle.idx_outside.specs.Objects.{OthersUntouched, SameContents}
@@ -21,7 +21,8 @@ use Rattle.idx_commands.specs.InfoRun.{InfoEnds, KnownReads}
 use Rattle.idx_commands.specs.CutRun.{CutEnds}
 use Rattle.idx_commands.specs.ConvertRun.{ConvertEnds}
 use Rattle.idx_commands.specs.QueryRun.{AnswersStored, QueryEnds, question_of}
-use Rattle.idx_commands.specs.ServeRun.{ServeEnds, workers_in}
+use Rattle.idx_commands.specs.ServeRun.{workers_in}
+use Rattle.idx_commands.specs.LiveRun.{EndsServing}
 use Rattle.idx_commands.specs.Totals.{totals}
 use Rattle.idx_commands.specs.Seen.{BaySeen, DoorsSeen, IsUnchanged, RawsSeen, ReadersSeen, SinkSeen, bay_after, bay_before, doors_after, doors_before, raws_after, raws_before, reader_after, reader_before, readers_after, readers_before, sink_after, sink_before}
 
@@ -76,35 +77,43 @@ CommandEnds seen (Convert c) cause =
     × (seen.doors.new ≡ seen.doors.old)
 CommandEnds seen (Query q) cause =
     QueryEnds q seen.bay seen.readers seen.sink cause × (seen.raws.new ≡ seen.raws.old) × (seen.doors.new ≡ seen.doors.old)
-CommandEnds seen (Serve v) cause =
-    ServeEnds v seen.bay seen.readers seen.sink seen.doors cause × (seen.raws.new ≡ seen.raws.old)
+CommandEnds seen (Serve v) cause = EndsServing v.ingest v seen.raws seen.bay seen.readers seen.sink seen.doors cause
+
+-- The words are those of `serve` and ask for a step to be published meanwhile.
+abbrev pub GiveIngest : List (List ℕ) → Type 0
+GiveIngest words = (v : ServeValue) × (Give words (Serve v) × IsSome v.ingest)
 
 -- A fault of an object comes only where it was counted in this call, by a command that uses the object; and one that was counted
 -- is answered.
 pub record CountsFaults {V B R K D L : Type 0} (words : List (List ℕ)) (seen : RunSeen V B R K D L) (cause : Cause) : Type 0 where
   pub raw_fault : status_of cause ≡ 4 → SomeRose (raws_before seen.raws) (raws_after seen.raws)
-  pub raw_used : status_of cause ≡ 4 → GiveCut words ⊎ GiveConvert words
+  pub raw_used : status_of cause ≡ 4 → GiveCut words ⊎ (GiveConvert words ⊎ GiveIngest words)
   pub store_fault : status_of cause ≡ 5 → Rose (bay_before seen.bay) (bay_after seen.bay)
       ⊎ ((GiveQuery words ⊎ GiveServe words) × Rose (reader_before seen.readers) (reader_after seen.readers))
   pub store_used : status_of cause ≡ 5 → GiveInfo words ⊎ (GiveConvert words ⊎ (GiveQuery words ⊎ GiveServe words))
   pub sink_fault : status_of cause ≡ 9 → Rose (sink_before seen.sink) (sink_after seen.sink)
   pub door_fault : status_of cause ≡ 12 → SomeRose (doors_before seen.doors) (doors_after seen.doors)
   pub door_used : status_of cause ≡ 12 → GiveServe words
-  pub raw_answered : SomeHigher (raws_before seen.raws) (raws_after seen.raws) → status_of cause ≡ 4
-  pub store_answered : bay_before seen.bay < bay_after seen.bay → status_of cause ≡ 5
+  -- where a step is published meanwhile, want of memory for a head goes before why it was refused
+  pub raw_answered : SomeHigher (raws_before seen.raws) (raws_after seen.raws) →
+      (status_of cause ≡ 4) ⊎ (GiveIngest words × (status_of cause ≡ 11))
+  pub store_answered : bay_before seen.bay < bay_after seen.bay → (status_of cause ≡ 5) ⊎ (GiveIngest words × (status_of cause ≡ 11))
   -- a reader's fault while `serve` answers links is told to the peer, as the record of `serve` says
   pub reader_answered : ¬ GiveServe words → reader_before seen.readers < reader_after seen.readers → status_of cause ≡ 5
   pub sink_answered : sink_before seen.sink < sink_after seen.sink → status_of cause ≡ 9
-  pub door_answered : SomeHigher (doors_before seen.doors) (doors_after seen.doors) → (status_of cause ≡ 12) ⊎ (status_of cause ≡ 11)
+  -- and why it was refused goes before how the doors ended
+  pub door_answered : SomeHigher (doors_before seen.doors) (doors_after seen.doors) →
+      ((status_of cause ≡ 12) ⊎ (status_of cause ≡ 11)) ⊎ (GiveIngest words × (status_of cause ≢ 0) × (status_of cause ≢ 9))
 
 -- What a run leaves as it was.
 pub record LeavesRest {V B R K D L : Type 0} (words : List (List ℕ)) (seen : RunSeen V B R K D L) : Type 0 where
-  -- what is known of the raw volumes' bytes stays; none but the first was touched, but for `convert`, and by that none behind the
-  -- first, one for each rank; no reader but the first was touched, but for `serve`, and by that no reader and no door behind the
+  -- what is known of the raw volumes' bytes stays; none but the first was touched, but for `convert` and for a `serve` that publishes a
+  -- step, and by these none behind the first, one for each rank, or the first 256; no reader but the first was touched, but for `serve`, and by that no reader and no door behind the
   -- first, one for each worker; and no count fell
   pub raws : SameContents seen.raws.contents seen.raws.old seen.raws.new
   pub raw_counts : NoneFalls (raws_before seen.raws) (raws_after seen.raws)
-  pub other_raws : ¬ GiveConvert words → OthersUntouched seen.raws.old seen.raws.new 0
+  pub other_raws : ¬ GiveConvert words → ¬ GiveIngest words → OthersUntouched seen.raws.old seen.raws.new 0
+  pub far_raws : GiveIngest words → drop (min 256 (length seen.raws.old)) seen.raws.new ≡ drop (min 256 (length seen.raws.old)) seen.raws.old
   pub idle_raws : (c : ConvertValue) → Give words (Convert c) →
       drop (min c.ranks (length seen.raws.old)) seen.raws.new ≡ drop (min c.ranks (length seen.raws.old)) seen.raws.old
   pub other_readers : ¬ GiveServe words → OthersUntouched seen.readers.old seen.readers.new 0
@@ -118,16 +127,17 @@ pub record LeavesRest {V B R K D L : Type 0} (words : List (List ℕ)) (seen : R
       KeepsBehind (workers_in v seen.readers seen.doors) seen.doors.old seen.doors.new
   pub door_list : length seen.doors.new ≡ length seen.doors.old
   pub door_counts : NoneFalls (doors_before seen.doors) (doors_after seen.doors)
-  -- `convert` alone changes the bay: its header text, its committed files and the folder last begun, and makes calls that change
-  -- it at all; and it writes nothing to the sink
-  pub unchanged : ¬ GiveConvert words → IsUnchanged seen.bay
+  -- `convert` and a `serve` that publishes a step alone change the bay: its committed files and the folder last begun, and make calls that
+  -- change it at all; and `convert` alone its header text, and it writes nothing to the sink
+  pub unchanged : ¬ GiveConvert words → ¬ GiveIngest words → IsUnchanged seen.bay
+  pub header : ¬ GiveConvert words → seen.bay.header seen.bay.new ≡ seen.bay.header seen.bay.old
   pub convert_silent : GiveConvert words → seen.sink.new ≡ seen.sink.old
-  -- `cut` leaves the bay as it was, `info`, `query` and `serve` the raw volumes, none but `query` and `serve` reads a leaf, and none
+  -- `cut` leaves the bay as it was, `info`, `query` and a `serve` that publishes no step the raw volumes, none but `query` and `serve` reads a leaf, and none
   -- but `serve` uses a door
   pub cut_alone : GiveCut words → seen.bay.new ≡ seen.bay.old
   pub info_alone : GiveInfo words → seen.raws.new ≡ seen.raws.old
   pub query_alone : GiveQuery words → seen.raws.new ≡ seen.raws.old
-  pub serve_alone : GiveServe words → seen.raws.new ≡ seen.raws.old
+  pub serve_alone : GiveServe words → ¬ GiveIngest words → seen.raws.new ≡ seen.raws.old
   pub query_reads : ¬ GiveQuery words → ¬ GiveServe words → seen.readers.new ≡ seen.readers.old
   pub serve_opens : ¬ GiveServe words → seen.doors.new ≡ seen.doors.old
 

@@ -7,6 +7,7 @@ mod cut;
 mod examples;
 mod info;
 mod kind_text;
+mod live;
 mod query;
 mod running;
 mod serve;

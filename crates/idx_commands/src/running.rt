@@ -12,7 +12,7 @@ ghost use Rattle.idx_commands.specs.ConvertRun.{ConvertEnds};
 ghost use Rattle.idx_commands.specs.CutRun.{CutEnds};
 ghost use Rattle.idx_commands.specs.InfoRun.{InfoEnds};
 ghost use Rattle.idx_commands.specs.QueryRun.{QueryEnds};
-ghost use Rattle.idx_commands.specs.ServeRun.{ServeEnds};
+ghost use Rattle.idx_commands.specs.LiveRun.{EndsServing};
 ghost use Rattle.idx_commands.specs.Run.{CommandEnds, CountsFaults, LeavesRest, Unasked, WroteAnswer, WrotePrefix, run_seen};
 ghost use Rattle.idx_commands.specs.Seen.{bay_seen, doors_seen, raws_seen, readers_seen, sink_seen};
 
@@ -34,7 +34,7 @@ use std::thread::Threads;
 /// returns when each of these doors hands out no more links or fails.
 pub fn run<
     V: Source + Send,
-    B: Bay,
+    B: Bay + Send,
     R: Reader<B::Leaf> + Send,
     K: Sink,
     D: Door + Send,
@@ -85,7 +85,8 @@ where
         (readers_seen R.faults R.reads readers.old.items readers.new.items)
         (sink_seen K.contents K.faults out.old out.new) result.cause }
     ensures serve { (v : ServeValue) → Give (map string_bytes words.now) (Command.Serve v) →
-        ServeEnds v (bay_seen B.header B.files B.begun B.changes B.failed B.faults bay.old bay.new)
+        EndsServing v.ingest v (raws_seen V.contents V.faults V.asked raws.old.items raws.new.items)
+        (bay_seen B.header B.files B.begun B.changes B.failed B.faults bay.old bay.new)
         (readers_seen R.faults R.reads readers.old.items readers.new.items)
         (sink_seen K.contents K.faults out.old out.new)
         (doors_seen D.told D.faults D.Link.incoming D.Link.written D.Link.faults doors.old.items doors.new.items)
@@ -127,7 +128,7 @@ where
 /// Does what the words ask for, which give this command, and says how it ended.
 fn run_command<
     V: Source + Send,
-    B: Bay,
+    B: Bay + Send,
     R: Reader<B::Leaf> + Send,
     K: Sink,
     D: Door + Send,
@@ -165,6 +166,6 @@ where
         Command::Info => run_info(alloc, words, bay, out),
         Command::Convert(_) => run_convert(rt, alloc, words, raws, bay),
         Command::Query(_) => run_query(alloc, words, bay, readers, out),
-        Command::Serve(_) => run_serve(rt, alloc, words, bay, readers, out, doors),
+        Command::Serve(_) => run_serve(rt, alloc, words, raws, bay, readers, out, doors),
     }
 }

@@ -7,15 +7,18 @@ ghost use Rattle.idx_words.specs.ServeValue.{ServeValue};
 ghost use Rattle.idx_words.specs.Words.{Give, GiveServe, IsUsagePlace};
 ghost use Rattle.idx_commands.specs.Cause.{status_of};
 ghost use Rattle.idx_commands.specs.Run.{AreNamed};
-ghost use Rattle.idx_commands.specs.Seen.{bay_seen, doors_seen, readers_seen, sink_seen};
+ghost use Rattle.idx_commands.specs.Seen.{bay_seen, doors_seen, raws_seen, readers_seen, sink_seen};
+ghost use Rattle.idx_gather.specs.Gather.{HaveSame};
+ghost use Rattle.idx_commands.specs.LiveRun.{EndsServing};
 ghost use Rattle.idx_commands.specs.ServeRun.{ServeEnds, ServeMeans, cause_of_host};
 ghost use Rattle.idx_commands.specs.Totals.{totals};
 
 use crate::causes::{Cause, Done};
+use crate::live::serve_live;
 use crate::site_name::site_name;
 use crate::totals::totals;
 use idx_host::{HostFault, host};
-use idx_outside::{Bay, Door, FreeGate, Reader, Sink};
+use idx_outside::{Bay, Door, FreeGate, Reader, Sink, Source};
 use idx_serve::{ServeEnd, Summary};
 use idx_words::{Command, ServeWords, read_words};
 use std::alloc::Global;
@@ -26,9 +29,11 @@ use std::thread::Threads;
 /// the words, the header, the tables of the files of the steps that stand, by rising steps. Then the links of the first
 /// doors are served, each door by a worker of its own with a reader of its own, until it hands out no more or fails, and the
 /// line is written that says how many they were. There are as many workers as the words say, and no more than doors and
-/// readers.
+/// readers. Where the words ask for a step to be published meanwhile, `host_live` has the order, and the step is gathered out of
+/// the first raw volumes.
 pub(crate) fn run_serve<
-    B: Bay,
+    V: Source + Send,
+    B: Bay + Send,
     R: Reader<B::Leaf> + Send,
     K: Sink,
     D: Door + Send,
@@ -37,20 +42,25 @@ pub(crate) fn run_serve<
     rt: &H,
     alloc: Global,
     words: &[String],
+    raws: &mut Vec<V>,
     bay: &mut B,
     readers: &mut Vec<R>,
     out: &mut K,
     doors: &mut Vec<D>,
 ) -> Done
 where
-    D::Link: Send,
+    B::Draft: Send,
     B::Leaf: Send + Sync,
+    D::Link: Send,
+    requires some { 0 < vec_len raws.old }
+    requires alike { HaveSame V.contents raws.old.items }
     requires reader { 0 < vec_len readers.old }
     requires door { 0 < vec_len doors.old }
     requires named { AreNamed (map string_bytes words.now) (codes "serve") }
     ensures status { result.status ≡ status_of result.cause }
     ensures serve { (v : ServeValue) → Give (map string_bytes words.now) (Command.Serve v) →
-        ServeEnds v (bay_seen B.header B.files B.begun B.changes B.failed B.faults bay.old bay.new)
+        EndsServing v.ingest v (raws_seen V.contents V.faults V.asked raws.old.items raws.new.items)
+        (bay_seen B.header B.files B.begun B.changes B.failed B.faults bay.old bay.new)
         (readers_seen R.faults R.reads readers.old.items readers.new.items)
         (sink_seen K.contents K.faults out.old out.new)
         (doors_seen D.told D.faults D.Link.incoming D.Link.written D.Link.faults doors.old.items doors.new.items)
@@ -59,15 +69,16 @@ where
     // Usage comes exactly where the words are not in the grammar, and then nothing was asked of any object.
     ensures usage { (result.status ≡ 1) ↔ (¬ GiveServe (map string_bytes words.now)) }
     ensures place { (at : ℕ) → result.cause ≡ Cause.Usage at → IsUsagePlace (map string_bytes words.now) at }
+    ensures raws_unasked { result.status ≡ 1 → raws.new.items ≡ raws.old.items }
     ensures unasked { result.status ≡ 1 → bay.new ≡ bay.old }
     ensures unread { result.status ≡ 1 → readers.new.items ≡ readers.old.items }
     ensures silent { result.status ≡ 1 → out.new ≡ out.old }
     ensures unopened { result.status ≡ 1 → doors.new.items ≡ doors.old.items }
 {
     match read_words(words) {
-        Ok(Command::Serve(serve)) => {
-            Done::of(serve_words(rt, alloc, &serve, bay, readers, out, doors))
-        }
+        Ok(Command::Serve(serve)) => Done::of(serve_asked(
+            rt, alloc, &serve, raws, bay, readers, out, doors,
+        )),
         Ok(Command::Cut(_)) => unreachable!(),
         Ok(Command::Info) => unreachable!(),
         Ok(Command::Convert(_)) => unreachable!(),
@@ -76,7 +87,48 @@ where
     }
 }
 
-/// Does what the values of the words ask for.
+/// Does what the values of the words ask for, with a step that is published meanwhile or without.
+fn serve_asked<
+    V: Source + Send,
+    B: Bay + Send,
+    R: Reader<B::Leaf> + Send,
+    K: Sink,
+    D: Door + Send,
+    H: Threads + Wait + Sync,
+>(
+    rt: &H,
+    alloc: Global,
+    words: &ServeWords<'_>,
+    raws: &mut Vec<V>,
+    bay: &mut B,
+    readers: &mut Vec<R>,
+    out: &mut K,
+    doors: &mut Vec<D>,
+) -> Cause
+where
+    B::Draft: Send,
+    B::Leaf: Send + Sync,
+    D::Link: Send,
+    requires some { 0 < vec_len raws.old }
+    requires alike { HaveSame V.contents raws.old.items }
+    requires reader { 0 < vec_len readers.old }
+    requires door { 0 < vec_len doors.old }
+    requires sound { IsSoundServe words.now }
+    ensures { EndsServing words.now.ingest words.now
+        (raws_seen V.contents V.faults V.asked raws.old.items raws.new.items)
+        (bay_seen B.header B.files B.begun B.changes B.failed B.faults bay.old bay.new)
+        (readers_seen R.faults R.reads readers.old.items readers.new.items)
+        (sink_seen K.contents K.faults out.old out.new)
+        (doors_seen D.told D.faults D.Link.incoming D.Link.written D.Link.faults doors.old.items doors.new.items)
+        result }
+{
+    match &words.ingest {
+        None => serve_words(rt, alloc, words, bay, readers, out, doors),
+        Some(ingest) => serve_live(rt, alloc, words, ingest, raws, bay, readers, out, doors),
+    }
+}
+
+/// Does what the values of the words ask for, where no step is published meanwhile.
 #[tactic(auto, using(crate::proofs::ServeLemmas::serve_ends))]
 fn serve_words<
     B: Bay,
@@ -109,7 +161,7 @@ where
 }
 
 /// How many workers serve: as many as the words say, and no more than there are doors and readers.
-fn workers_for(words: &ServeWords<'_>, doors: usize, readers: usize) -> u32
+pub(crate) fn workers_for(words: &ServeWords<'_>, doors: usize, readers: usize) -> u32
     requires sound { IsSoundServe words.now }
     requires door { 0 < doors }
     requires reader { 0 < readers }
@@ -192,7 +244,7 @@ fn conclude<K: Sink>(alloc: Global, summary: &Summary, out: &mut K) -> Cause
 }
 
 /// Writes how many links and heads there were.
-fn write_totals<K: Sink>(alloc: Global, summary: &Summary, out: &mut K) -> Cause
+pub(crate) fn write_totals<K: Sink>(alloc: Global, summary: &Summary, out: &mut K) -> Cause
     ensures done { result ≡ Cause.Done →
         K.contents out.new ≡ appended (K.contents out.old) (totals summary.now.links summary.now.replies) }
     ensures sink_fault { result ≡ Cause.SinkFault → Rose (K.faults out.old) (K.faults out.new)

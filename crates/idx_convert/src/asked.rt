@@ -33,7 +33,7 @@ pub(crate) fn asked_header(alloc: Global, text: &[u8], step: u64) -> Result<Head
 
 /// How many bytes the samples of a step take, where they are too many to write; else how many the first of its files has
 /// that is too long.
-fn too_large(header: &Header) -> Option<u64>
+pub fn too_large(header: &Header) -> Option<u64>
     ensures { result ≡ too_large header.now }
 {
     let bytes = header.volume_bytes();
@@ -54,7 +54,7 @@ fn too_long(header: &Header) -> Option<u64>
 }
 
 /// Whether the header has a time, and the step.
-fn has_folder(header: &Header, step: u64) -> bool
+pub fn has_folder(header: &Header, step: u64) -> bool
     ensures { IsTrue result ↔ HasFolder header.now step }
 {
     header.steps().is_some() && header.has_time(step)

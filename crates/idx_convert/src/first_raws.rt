@@ -68,7 +68,7 @@ where
 }
 
 /// Moves so many objects from the end of one list to the front of another, which has room for them. They keep their order.
-fn move_last<V>(count: usize, from: &mut Vec<V>, to: &mut Vec<V>)
+pub fn move_last<V>(count: usize, from: &mut Vec<V>, to: &mut Vec<V>)
     requires some { count ≤ vec_len from.old }
     requires room { vec_len to.old + count ≤ vec_capacity to.old }
     ensures joined { from.new.items ++ to.new.items ≡ from.old.items ++ to.old.items }

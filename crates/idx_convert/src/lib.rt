@@ -10,6 +10,7 @@ mod first_raws;
 mod place;
 mod standing;
 
-pub use asked::{MAX_FILE, MAX_VOLUME};
+pub use asked::{MAX_FILE, MAX_VOLUME, has_folder, too_large};
 pub use convert_fault::ConvertFault;
 pub use converting::convert;
+pub use first_raws::move_last;

@@ -1,11 +1,13 @@
 -- How gathering and publishing a step ends, by what a seat has seen and what is known of the raw volumes and of the bay, before and
 -- after.
 use Rattle.std.specs.Prelude.{◌≡◌, ◌⊎◌, ◌++◌, ◌∷◌, [], ℕ, Bool, List, Option, IfSome, length}
+use Rattle.idx_outside.specs.declared.bay_call.BayCall.{BayCall}
 use Rattle.idx_outside.specs.declared.mem_file.MemFile.{MemFile}
 use Rattle.idx_header.specs.Header.{HeaderValue}
 use Rattle.idx_layout.specs.Shape.{shape_of}
 use Rattle.idx_hall.specs.Posts.{Post, post_of}
-use Rattle.idx_gather.specs.Gather.{HasBlocksOf, HasPresent, IsCaused, Leaves, SomeStepAdded}
+use Rattle.idx_gather.specs.Gather.{HasBlocksOf, HasPresent, HasVolume, IsCaused, IsFailedCall, Leaves, SomeStepAdded}
+use Rattle.idx_gather.specs.declared.gather_fault.GatherFault.TheVariants.{StoreFault}
 use Rattle.idx_ingest.specs.declared.ingest_end.IngestEnd.{IngestEnd}
 use Rattle.idx_ingest.specs.declared.ingest_end.IngestEnd.TheVariants as ends
 
@@ -41,12 +43,12 @@ pub record IsNextPost (h : HeaderValue) (time : ℕ) (raw : Option (List ℕ)) (
   pub is : after ≡ before ++ post_of (shape_of h) time has stored ∷ []
   pub number_is : number ≡ length before
 
--- What each end says: of a step that was published, that exactly its files were added and that it is the next post; of a
--- refusal, its cause and what it leaves, as of gathering; of want of memory, that the step stands whole or not at all. Where it is not
--- published, nothing is.
+-- What each end says: of a step that was published, that the raw volume has the right length, that exactly the step's files were added
+-- and that it is the next post; of a refusal, its cause and what it leaves, as of gathering; of want of memory, that the step stands
+-- whole or not at all. Where it is not published, nothing is.
 abbrev pub IsIngested : HeaderValue → ℕ → Known → List Post → List Post → IngestEnd → Type 0
 IsIngested h time k before after (ends.Published post) =
-    SomeStepAdded h time k.raw k.files k.files_after × IsNextPost h time k.raw before after post
+    HasVolume h k.raw × SomeStepAdded h time k.raw k.files k.files_after × IsNextPost h time k.raw before after post
     × (k.raw_after ≡ k.raw_before) × (k.bay_after ≡ k.bay_before)
 IsIngested h time k before after (ends.Refused why) =
     (after ≡ before) × IsCaused h k.raw k.raw_before k.raw_after k.bay_before k.bay_after why
@@ -54,3 +56,9 @@ IsIngested h time k before after (ends.Refused why) =
 IsIngested h time k before after ends.NoMemory =
     (after ≡ before) × ((k.files_after ≡ k.files) ⊎ SomeStepAdded h time k.raw k.files k.files_after)
     × (k.raw_after ≡ k.raw_before) × (k.bay_after ≡ k.bay_before)
+
+-- Which call of the bay counted the last fault, before and after, by the committed files: at a fault of the store one of this
+-- gathering, and else the one from before.
+abbrev pub EndsFailed : Option (List MemFile) → Option (List MemFile) → Option BayCall → Option BayCall → IngestEnd → Type 0
+EndsFailed old new before after (ends.Refused (StoreFault faults)) = IsFailedCall old new after
+EndsFailed old new before after end = after ≡ before

@@ -7,8 +7,8 @@ ghost use Rattle.idx_header.specs.Header.{at_revision};
 ghost use Rattle.idx_header.specs.Names.{step_folder};
 ghost use Rattle.idx_layout.specs.Shape.{shape_of};
 ghost use Rattle.idx_pieces.specs.Ranks.{rank_count};
-ghost use Rattle.idx_gather.specs.Gather.{HasFolder, HaveSame, NoneFalls};
-ghost use Rattle.idx_ingest.specs.Ingested.{IsIngested, known};
+ghost use Rattle.idx_gather.specs.Gather.{HasFolder, HaveSame, LacksVolume, NoneFalls};
+ghost use Rattle.idx_ingest.specs.Ingested.{EndsFailed, IsIngested, known};
 
 use crate::IngestEnd;
 use crate::publishing::publish_newest;
@@ -65,13 +65,22 @@ where
     ensures writer { result.0.writer ≡ true }
     ensures seat_shape { result.0.seen.shape ≡ seat.seen.shape }
 
-    // The raw volumes and the bay: as by gathering.
+    // Nothing is asked of raw volumes that are known to have another length, and then the bay is not changed either.
+    ensures unasked { LacksVolume (at_revision revision site.now.header) (contents_at V.contents raws.old.items 0) →
+        map V.asked raws.new.items ≡ map V.asked raws.old.items }
+    ensures unchanged { LacksVolume (at_revision revision site.now.header) (contents_at V.contents raws.old.items 0) →
+        B.changes bay.new ≡ B.changes bay.old }
+
+    // No step is begun, and the call that failed is one of those that write, give up or commit.
+    ensures begun { B.begun bay.new ≡ B.begun bay.old }
+    ensures failed { EndsFailed (B.files bay.old) (B.files bay.new) (B.failed bay.old) (B.failed bay.new) result.1 }
+
+    // What is known of the raw volumes stays, the ones for which the box has no part are not touched, and no count falls.
     ensures same { SameContents V.contents raws.old.items raws.new.items }
     ensures idle { drop (rank_count site.now.header.box (vec_len raws.old)) raws.new.items
         ≡ drop (rank_count site.now.header.box (vec_len raws.old)) raws.old.items }
     ensures raw_count { NoneFalls (map V.faults raws.old.items) (map V.faults raws.new.items) }
     ensures header { B.header bay.new ≡ B.header bay.old }
-    ensures begun { B.begun bay.new ≡ B.begun bay.old }
     ensures count { NeverFalls (B.faults bay.old) (B.faults bay.new) }
 {
     let Ok(header) = site.header.at_revision(alloc, revision) else {

@@ -1,7 +1,10 @@
--- The raw volumes and the bay of a run.
-use Rattle.std.specs.Prelude.{◌≡◌, ℕ, List, [], Option, Some, All}
+-- The raw volumes, the bay and the seat of a run.
+use Rattle.std.specs.Prelude.{◌≡◌, ℕ, true, List, [], Option, Some, All}
 use Rattle.idx_header.specs.Header.{HeaderValue, at_revision}
 use Rattle.idx_header.specs.Names.{step_folder}
+use Rattle.idx_layout.specs.Shape.{shape_of}
+use Rattle.idx_turn.specs.LockId.{LockId}
+use Rattle.idx_lock.specs.Seats.{SeatValue}
 use Rattle.idx_memory.specs.Memory.{BayState, SourceState}
 use Rattle.idx_gather.specs.Gather.{HasFolder, HaveSame}
 
@@ -17,8 +20,14 @@ AreAlike raws = HaveSame told raws
 abbrev pub HaveBytes : List ℕ → List SourceState → Type 0
 HaveBytes bytes raws = All (λ raw. raw.bytes ≡ bytes) raws
 
--- in an empty bay the step 0 is begun, at its first revision
-pub record IsBegun (h : HeaderValue) (bay : BayState) : Type 0 where
-  pub folder : HasFolder (at_revision 0 h) 0
-  pub begun : bay.begun ≡ step_folder (at_revision 0 h) 0
+-- in an empty bay this step is begun, at its first revision
+pub record IsBegun (h : HeaderValue) (time : ℕ) (bay : BayState) : Type 0 where
+  pub folder : HasFolder (at_revision 0 h) time
+  pub begun : bay.begun ≡ step_folder (at_revision 0 h) time
   pub files : bay.files ≡ []
+
+-- the writer's seat of this lock stands for halls of the header
+pub record IsWriter (lock : LockId) (h : HeaderValue) (seat : SeatValue) : Type 0 where
+  pub of : seat.lock ≡ lock
+  pub writes : seat.writer ≡ true
+  pub shape : seat.seen.shape ≡ shape_of h

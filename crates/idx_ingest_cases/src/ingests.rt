@@ -1,18 +1,19 @@
 //! Steps that are published, or why they are not.
 ghost use Rattle.std.specs.Prelude.{◌≡◌, IfOk, vec_len};
 ghost use Rattle.idx_layout.specs.Shape.{shape_of};
-ghost use Rattle.idx_ingest_cases.specs.Ready.{AreAlike, HaveBytes, IsBegun};
+ghost use Rattle.idx_ingest_cases.specs.Ready.{AreAlike, HaveBytes, IsBegun, IsWriter};
 
 use idx_edition::{Edition, block_lengths};
 use idx_gather::GatherFault;
 use idx_hall::Hall;
 use idx_header::Header;
 use idx_ingest::{IngestEnd, ingest};
-use idx_lock::TurnLock;
-use idx_memory::{MemBay, MemLeaf, MemSource};
-use idx_outside::{Bay, Bytes, FreeGate, NoMemory};
-use idx_serve::Site;
+use idx_lock::{Seat, TurnLock};
+use idx_memory::{HoldGate, MemBay, MemDoor, MemLeaf, MemLink, MemReader, MemSource};
+use idx_outside::{Bay, Bytes, FreeGate, Gate, GatePlace, NoMemory};
+use idx_serve::{Site, Summary};
 use idx_turn::Turn;
+use idx_workers::serve;
 use std::alloc::Global;
 use std::process::Abort;
 use std::sync::Wait;
@@ -25,6 +26,9 @@ static HEADER: &[u8] =
 
 /// Its raw volume.
 static RAW: [u8; 16] = [0, 1, 2, 3, 4, 5, 6, 7, 8, 9, 10, 11, 12, 13, 14, 15];
+
+/// A head that asks for all of the step 0.
+static WHOLE: &[u8] = b"GET /mod_visus?action=boxquery&dataset=v&box=0+3+0+3 HTTP/1.1\r\n\r\n";
 
 /// Two raw volumes of these bytes.
 fn raws_of(alloc: Global, bytes: &[u8]) -> Result<Vec<MemSource>, NoMemory>
@@ -45,11 +49,11 @@ fn raw_of(alloc: Global, bytes: &[u8]) -> Result<MemSource, NoMemory>
     Ok(MemSource::new(Bytes::from_slice(alloc, bytes)?, Vec::new(alloc)))
 }
 
-/// An empty bay, in which the step 0 is begun.
-fn bay_of(alloc: Global, rt: &impl Abort, header: &Header) -> Result<MemBay, Fail>
-    ensures { IfOk result (IsBegun header.now) }
+/// An empty bay, in which this step is begun.
+fn bay_of(alloc: Global, rt: &impl Abort, header: &Header, time: u64) -> Result<MemBay, Fail>
+    ensures { IfOk result (IsBegun header.now time) }
 {
-    assert!(rt; header.has_time(0));
+    assert!(rt; header.has_time(time));
     assert!(rt; header.steps().is_some());
     let mut bay = MemBay::new(
         Bytes::new(alloc),
@@ -58,7 +62,7 @@ fn bay_of(alloc: Global, rt: &impl Abort, header: &Header) -> Result<MemBay, Fai
         Vec::new(alloc),
     );
     let at = header.at_revision(alloc, 0)?;
-    let folder = at.step_folder(alloc, 0)?.expect(rt, "a folder");
+    let folder = at.step_folder(alloc, time)?.expect(rt, "a folder");
     bay.begin_step(folder.as_slice())?;
     Ok(bay)
 }
@@ -71,6 +75,78 @@ fn hall_of(alloc: Global, header: &Header) -> Result<Hall<Edition<MemLeaf>>, NoM
     Hall::new(alloc, 4, header.block_count(), lengths)
 }
 
+/// A dataset whose step 0 was ingested: in a hall behind a lock, with the writer's seat.
+#[derive(Drop)]
+struct Stage {
+    site: Site,
+    lock: TurnLock<Hall<Edition<MemLeaf>>>,
+    writer: Seat<Hall<Edition<MemLeaf>>>,
+}
+
+fn stage_of<R: Threads + Wait + Sync + Abort>(rt: &R, alloc: Global) -> Result<Stage, Fail>
+    ensures { IfOk result (λ stage. IsWriter stage.lock stage.site.header stage.writer) }
+{
+    let header = Header::read(alloc, HEADER).ok().expect(rt, "a header");
+    let hall = hall_of(alloc, &header)?;
+    let mut bay = bay_of(alloc, rt, &header, 0)?;
+    let mut raws = raws_of(alloc, &RAW)?;
+    let name = Bytes::from_slice(alloc, b"v")?;
+    let site = Site { header, name };
+    let Ok((lock, writer)) = TurnLock::new(alloc, hall) else {
+        return Err(Fail::from("no memory"));
+    };
+    let (writer, end) = ingest(
+        rt, alloc, &site, &lock, writer, 0, 0, &mut raws, &mut bay, &FreeGate,
+    );
+    assert_eq!(rt; end, IngestEnd::Published { post: 0 });
+    Ok(Stage { site, lock, writer })
+}
+
+/// What two workers come to that serve such a dataset, each at a link that asks for all of the step 0, and how many reads
+/// they make.
+fn served_by_two<G: Gate, R: Threads + Wait + Sync + Abort>(
+    rt: &R,
+    alloc: Global,
+    gate: &G,
+) -> Result<(Summary, u64), Fail> {
+    let Stage {
+        site,
+        lock,
+        mut writer,
+    } = stage_of(rt, alloc)?;
+    let seat = lock.split(&mut writer);
+    let (mut doors, mut readers) = (Vec::new(alloc), Vec::new(alloc));
+    for _ in 0..2 {
+        doors.push(door_of(alloc)?)?;
+        readers.push(MemReader::new(Vec::new(alloc)))?;
+    }
+    assert!(rt; doors.len() >= 2 && readers.len() >= 2);
+    let (_seat, summary) = serve(
+        rt,
+        alloc,
+        &site,
+        &lock,
+        seat,
+        &mut doors,
+        &mut readers,
+        2,
+        gate,
+    );
+    let mut reads = 0u64;
+    for reader in &readers {
+        reads = reads.saturating_add(reader.reads());
+    }
+    Ok((summary, reads))
+}
+
+/// A door of a link that asks for all of the step 0.
+fn door_of(alloc: Global) -> Result<MemDoor, NoMemory> {
+    let input = Bytes::from_slice(alloc, WHOLE)?;
+    let mut links = Vec::new(alloc);
+    links.push(MemLink::new(input, Vec::new(alloc), Vec::new(alloc)))?;
+    Ok(MemDoor::new(links, Vec::new(alloc)))
+}
+
 /// How the step 0 is ingested out of two raw volumes of these bytes, how many files stand then, and how many steps are
 /// published.
 fn ingested<R: Threads + Wait + Sync + Abort>(
@@ -80,7 +156,7 @@ fn ingested<R: Threads + Wait + Sync + Abort>(
 ) -> Result<(IngestEnd, usize, u64), Fail> {
     let header = Header::read(alloc, HEADER).ok().expect(rt, "a header");
     let hall = hall_of(alloc, &header)?;
-    let mut bay = bay_of(alloc, rt, &header)?;
+    let mut bay = bay_of(alloc, rt, &header, 0)?;
     let mut raws = raws_of(alloc, bytes)?;
     let name = Bytes::from_slice(alloc, b"v")?;
     let site = Site { header, name };
@@ -113,5 +189,23 @@ fn a_refused_step_is_not(rt: HostRuntime) -> Result<(), Fail> {
         found: 15,
     };
     assert_eq!(rt; ended, (IngestEnd::Refused { why }, 0, 0));
+    Ok(())
+}
+
+#[test]
+fn workers_share_what_either_reads(rt: HostRuntime) -> Result<(), Fail> {
+    for (held, other) in [(0, 1), (1, 0)] {
+        let gate = HoldGate::new(
+            held,
+            GatePlace::Accepted,
+            other,
+            GatePlace::Answered,
+            1_000_000,
+        );
+        let (summary, reads) = served_by_two(&rt, rt.alloc(), &gate)?;
+        assert!(rt; !gate.met_limit());
+        assert_eq!(rt; (summary.links, summary.replies), (2, 2));
+        assert_eq!(rt; reads, 4, "one for each block");
+    }
     Ok(())
 }

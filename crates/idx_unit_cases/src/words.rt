@@ -57,6 +57,7 @@ const CONVERT: &str = "\
 11 convert|v|r|b|f|m|b|p|t|t|0000000000000000000|0\n\
 11 convert|v|r|b|f|m|b|p|t|t|0||\n\
 11 convert|v|r|b|f|m|b|p|t|t|0|--cache|64\n\
+11 convert|v|r|b|f|m|b|p|t|t|0|--ingest|7\n\
 12 convert|v|r|b|f|m|b|p|t|t|0|--ranks\n\
 12 convert|v|r|b|f|m|b|p|t|t|0|--ranks|257\n\
 13 convert|v|r|b|f|m|b|p|t|t|0|--ranks|256|--ranks|256\n\
@@ -92,6 +93,7 @@ const QUERY: &str = "\
 7 query|v.idx|0|a|0 3 0 3|0|2|--\n\
 7 query|v.idx|0|a|0 3 0 3|0|2|--cache=64\n\
 7 query|v.idx|0|a|0 3 0 3|0|2|--workers|2\n\
+7 query|v.idx|0|a|0 3 0 3|0|2|--ingest|7\n\
 8 query|v.idx|0|a|0 3 0 3|0|2|--cache\n\
 8 query|v.idx|0|a|0 3 0 3|0|2|--cache|0\n\
 8 query|v.idx|0|a|0 3 0 3|0|2|--cache|65537\n\
@@ -110,12 +112,18 @@ const SERVE: &str = "\
 2 serve|v.idx||--cache|4\n\
 3 serve|v.idx|a|0\n\
 3 serve|v.idx|a|--ranks|2\n\
-3 serve|v.idx|a|--ingest|0\n\
 4 serve|v.idx|a|--cache\n\
 4 serve|v.idx|a|--cache|65537\n\
 4 serve|v.idx|a|--workers|65\n\
 4 serve|v.idx|a|--links|0\n\
 4 serve|v.idx|a|--links|10000000000000000000\n\
+4 serve|v.idx|a|--ingest|x\n\
+4 serve|v.idx|a|--ingest|00000000000000000000|--raw|r\n\
+4 serve|v.idx|a|--raw|-r|--ingest|7\n\
+5 serve|v.idx|a|--ingest|7\n\
+5 serve|v.idx|a|--ingest|7|--ingest|7\n\
+6 serve|v.idx|a|--ingest|7|--raw\n\
+7 serve|v.idx|a|--raw|r|--links|2\n\
 5 serve|v.idx|a|--links|1|--links|1\n\
 6 serve|v.idx|a|--links|1|--cache\n\
 9 serve|v.idx|a|--links|1|--cache|1|--workers|1|--cache|1\n\
@@ -161,9 +169,9 @@ fn right_rows(alloc: Global, table: &str) -> usize {
 fn the_first_word_after_which_nothing_goes_is_the_place(rt: HostRuntime) {
     assert_eq!(rt; wrong_place(&[]), Some(0));
     assert_eq!(rt; right_rows(rt.alloc(), CUT), 36);
-    assert_eq!(rt; right_rows(rt.alloc(), CONVERT), 17);
-    assert_eq!(rt; right_rows(rt.alloc(), QUERY), 34);
-    assert_eq!(rt; right_rows(rt.alloc(), SERVE), 17);
+    assert_eq!(rt; right_rows(rt.alloc(), CONVERT), 18);
+    assert_eq!(rt; right_rows(rt.alloc(), QUERY), 35);
+    assert_eq!(rt; right_rows(rt.alloc(), SERVE), 23);
 }
 
 /// The bytes and the levels that words of `cut` ask for.
@@ -219,6 +227,20 @@ fn serve_of(alloc: Global, line: &str) -> Option<(u32, u32, Option<u64>)> {
     }
 }
 
+/// Whether words of `serve` ask that this step is published of the raw volume at this path.
+fn publishes(alloc: Global, line: &str, step: u64, raw: &[u8]) -> bool {
+    let Ok(words) = words_in(alloc, line) else {
+        return false;
+    };
+    let Ok(Command::Serve(serve)) = read_words(&words) else {
+        return false;
+    };
+    match serve.ingest {
+        Some(ingest) => ingest.step == step && ingest.raw == raw,
+        None => false,
+    }
+}
+
 #[test]
 fn options_are_read(rt: HostRuntime) {
     let convert = "convert|v|r|b|f|m|b|p|t|t|0|--ranks|0256";
@@ -226,6 +248,8 @@ fn options_are_read(rt: HostRuntime) {
     assert!(rt; serve_of(rt.alloc(), "serve|v|a") == Some((64, 1, None)));
     let serve = "serve|v|[::1]:80|--links|9999999999999999999|--cache|2|--workers|64";
     assert!(rt; serve_of(rt.alloc(), serve) == Some((2, 64, Some(9_999_999_999_999_999_999))));
+    let serve = "serve|v|a|--raw|step 7.raw|--cache|2|--ingest|0000000000000000007";
+    assert!(rt; publishes(rt.alloc(), serve, 7, b"step 7.raw"));
 }
 
 /// Whether words of `convert` ask for a header with these bits.

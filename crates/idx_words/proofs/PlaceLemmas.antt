@@ -1,7 +1,7 @@
 -- Places of words, over any grammar.
 use Rattle.std.proofs.Common.{◌≡◌, ℕ, zero, suc, ◌+◌, ◌<◌, ◌≤◌, List, ◌∷◌, ◌++◌, length, take, drop, sym, ap, ◌∙◌, subst, arith, append_assoc, ⊎_elim}
 use Rattle.std.proofs.lemmas.Bool.{cases_lt}
-use Rattle.std.proofs.lemmas.List.{take-append-drop, take-take}
+use Rattle.std.proofs.lemmas.List.{take-append-drop, take-take, take_all}
 use Rattle.idx_words.specs.Place.{SomeListBegins, IsPlace}
 
 -- the list is not of the grammar, and its first word that is wrong or missing is at this place
@@ -75,3 +75,23 @@ IsPlace-same G H words at to from h = record {
   before = λ k less. let begins = h.before k less in (begins.0, to (take (k + 1) words ++ begins.0) begins.1);
   wrong = λ less begins. h.wrong less (begins.0, from (take (at + 1) words ++ begins.0) begins.1);
 }
+
+-- a narrower grammar, of which some list begins with each list of the wider one
+pub IsPlace-narrower : (G H : List (List ℕ) → Type 0) (words : List (List ℕ)) (at : ℕ) → ((list : List (List ℕ)) → H list → G list) →
+    ((list : List (List ℕ)) → G list → (rest : List (List ℕ)) × H (list ++ rest)) → IsPlace G words at → IsPlace H words at
+IsPlace-narrower G H words at wider longer h = record {
+  within = h.within;
+  before = λ k less.
+      let begins = h.before k less in
+      let more = longer (take (k + 1) words ++ begins.0) begins.1 in
+      (begins.0 ++ more.0, subst H (append_assoc (take (k + 1) words) begins.0 more.0) more.1);
+  wrong = λ less begins. h.wrong less (begins.0, wider (take (at + 1) words ++ begins.0) begins.1);
+}
+
+-- and the end of a list of the wider one that is not of the narrower
+pub IsPlace-end : (G H : List (List ℕ) → Type 0) (words : List (List ℕ)) → ((list : List (List ℕ)) → G list → (rest : List (List ℕ)) × H (list ++ rest)) → G words →
+    IsPlace H words (length words)
+IsPlace-end G H words longer are =
+    let more = longer words are in
+    IsPlace-at H words (length words) (omega arith) (more.0, subst (λ list. H (list ++ more.0)) (sym (take_all (length words) words (omega arith))) more.1)
+    (λ less. absurd (omega arith))

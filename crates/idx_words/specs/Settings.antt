@@ -1,36 +1,29 @@
--- The values that options give.
-use Rattle.std.specs.Prelude.{ℕ, ◌≤◌, List, filter, Option, Some, IfSome}
+-- What the options that words give are, and which they leave.
+use Rattle.std.specs.Prelude.{ℕ, ◌≤◌, List, [], ◌∷◌, filter, IfSome, IsTrue}
 use Rattle.std.specs.Option.{is_none}
 use Rattle.idx_words.specs.declared.setting.Setting.{Setting}
 use Rattle.idx_words.specs.declared.setting.Setting.TheVariants as options
-use Rattle.idx_words.specs.declared.settings.Settings.{Settings}
-use Rattle.idx_words.specs.Options.{most_of}
+use Rattle.idx_words.specs.Options.{given, number_given}
+use Rattle.idx_words.specs.PathWord.{is_path}
 
--- the value of an option, if it is given
-abbrev pub value_in : Settings → Setting → Option ℕ
-value_in settings options.Ranks = settings.ranks
-value_in settings options.Cache = settings.cache
-value_in settings options.Workers = settings.workers
-value_in settings options.Links = settings.links
+-- the number is from the least to the greatest
+abbrev pub IsFrom : ℕ → ℕ → ℕ → Type 0
+IsFrom least most n = (least ≤ n) × (n ≤ most)
 
--- the values with that of an option
-abbrev pub with_value : Settings → Setting → ℕ → Settings
-with_value s options.Ranks n = record { ranks = Some n; cache = s.cache; workers = s.workers; links = s.links }
-with_value s options.Cache n = record { ranks = s.ranks; cache = Some n; workers = s.workers; links = s.links }
-with_value s options.Workers n = record { ranks = s.ranks; cache = s.cache; workers = Some n; links = s.links }
-with_value s options.Links n = record { ranks = s.ranks; cache = s.cache; workers = s.workers; links = Some n }
+-- what is given is within the limits of its option
+pub record AreWithin (words : List (List ℕ)) : Type 0 where
+  pub ranks : IfSome (number_given words options.Ranks) (IsFrom 1 256)
+  pub cache : IfSome (number_given words options.Cache) (IsFrom 1 65536)
+  pub workers : IfSome (number_given words options.Workers) (IsFrom 1 64)
+  pub links : IfSome (number_given words options.Links) (λ links. 1 ≤ links)
+  pub raw : IfSome (given words options.Raw) (λ path. IsTrue (is_path path))
 
--- what is true of a value of an option: it is from 1 to the greatest
-abbrev pub IsWithin : Setting → ℕ → Type 0
-IsWithin option n = (1 ≤ n) × (n ≤ most_of option)
+-- the words are pairs, of whatever names and values
+abbrev pub ArePairs : List (List ℕ) → Type 0
+ArePairs [] = Unit {0}
+ArePairs (name ∷ []) = ⊥
+ArePairs (name ∷ value ∷ words) = ArePairs words
 
--- each value is within the limits of its option
-pub record AreWithin (settings : Settings) : Type 0 where
-  pub ranks : IfSome settings.ranks (IsWithin options.Ranks)
-  pub cache : IfSome settings.cache (IsWithin options.Cache)
-  pub workers : IfSome settings.workers (IsWithin options.Workers)
-  pub links : IfSome settings.links (IsWithin options.Links)
-
--- of these options, those that are not given yet
-abbrev pub open_among : Settings → List Setting → List Setting
-open_among settings options = filter (λ option. is_none (value_in settings option)) options
+-- of these options, those that the words do not give
+abbrev pub open_among : List (List ℕ) → List Setting → List Setting
+open_among words options = filter (λ option. is_none (given words option)) options

@@ -10,10 +10,10 @@ pub enum Command<'w> {
     Cut(CutWords),
     /// `info DATASET`
     Info,
-    /// `convert DATASET RAW BOX FIELDS MASK BITS PERFILE TEMPLATE TIME STEP`
+    /// `convert DATASET RAW BOX FIELDS MASK BITS PERFILE TEMPLATE TIME STEP [--ranks RANKS]`
     Convert(ConvertWords<'w>),
-    /// `query DATASET TIME FIELD REGION LO HI`
+    /// `query DATASET TIME FIELD REGION LO HI [--cache BLOCKS]`
     Query(QueryWords<'w>),
-    /// `serve DATASET ADDRESS`
+    /// `serve DATASET ADDRESS [--cache BLOCKS] [--workers WORKERS] [--links LINKS] [--ingest STEP --raw RAW]`
     Serve(ServeWords<'w>),
 }

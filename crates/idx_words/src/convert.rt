@@ -3,11 +3,9 @@ ghost use Rattle.idx_words.specs.declared.command.Command.{Command};
 ghost use Rattle.idx_words.specs.declared.cut_words.CutWords.{CutWords};
 ghost use Rattle.idx_words.specs.ConvertGrammar.{AreConvertWords};
 ghost use Rattle.idx_words.specs.ConvertValue.{ConvertValue};
-ghost use Rattle.idx_words.specs.Options.{given};
 ghost use Rattle.idx_words.specs.Place.{IsPlaceBehind};
 ghost use Rattle.idx_words.specs.QueryValue.{QueryValue};
 ghost use Rattle.idx_words.specs.Settings.{AreWithin};
-ghost use Rattle.idx_words.specs.declared.setting.Setting.{Setting};
 ghost use Rattle.idx_words.specs.ServeValue.{ServeValue};
 ghost use Rattle.idx_words.specs.Words.{AreSomeConvertWords, IsSoundCommand};
 
@@ -55,16 +53,17 @@ pub fn convert_command(words: &[String]) -> Result<Command<'_>, Misread>
     ensures place { IfErr result (λ misread.
         IsPlaceBehind AreSomeConvertWords (map string_bytes words.now) misread.at) }
 {
-    let settings = check_words(words)?;
-    Ok(Command::Convert(values(words, &settings)))
+    match check_words(words) {
+        Ok(settings) => Ok(Command::Convert(values(words, &settings))),
+        Err(misread) => Err(misread),
+    }
 }
 
 /// The values of the options where the words behind the command are right. Otherwise the first that is wrong or
 /// missing, whose place counts the command too.
-fn check_words(words: &[String]) -> Result<Settings, Misread>
+fn check_words(words: &[String]) -> Result<Settings<'_>, Misread>
     ensures right { OnOk result (AreSomeConvertWords (map string_bytes words.now)) }
-    ensures ranks { IfOk result (λ settings.
-        settings.ranks ≡ given (drop 10 (map string_bytes words.now)) Setting.Ranks) }
+    ensures given { IfOk result (λ settings. settings ≡ drop 10 (map string_bytes words.now)) }
     ensures within { IfOk result AreWithin }
     ensures wrong { OnErr result (¬ AreSomeConvertWords (map string_bytes words.now)) }
     ensures place { IfErr result (λ misread.
@@ -86,9 +85,9 @@ fn check_words(words: &[String]) -> Result<Settings, Misread>
 }
 
 /// The values that right words stand for.
-fn values<'w>(words: &'w [String], settings: &Settings) -> ConvertWords<'w>
+fn values<'w>(words: &'w [String], settings: &Settings<'_>) -> ConvertWords<'w>
     requires right { AreSomeConvertWords (map string_bytes words.now) }
-    requires ranks { settings.now.ranks ≡ given (drop 10 (map string_bytes words.now)) Setting.Ranks }
+    requires given { settings.now ≡ drop 10 (map string_bytes words.now) }
     requires within { AreWithin settings.now }
     ensures { (c : ConvertValue) → (result ≡ c) ↔ AreConvertWords (map string_bytes words.now) c }
 {

@@ -1,9 +1,10 @@
 //! Worked values of the definitions.
-ghost use Rattle.std.specs.Prelude.{◌≡◌, [], ◌∷◌, Some, true, false, codes};
+ghost use Rattle.std.specs.Prelude.{◌≡◌, [], ◌∷◌, None, Some, true, false, codes};
 ghost use Rattle.idx_header.specs.Worked.{small_text, with_line_at};
 ghost use Rattle.idx_words.specs.Built.{built_with};
 ghost use Rattle.idx_words.specs.declared.setting.Setting.{Setting};
-ghost use Rattle.idx_words.specs.Options.{are_options, cache_of, given, query_options, serve_options};
+ghost use Rattle.idx_words.specs.Options.{are_options, cache_of, number_given, query_options, serve_options};
+ghost use Rattle.idx_words.specs.ServeGrammar.{ingest_of};
 ghost use Rattle.idx_words.specs.Worked.{small_words};
 
 /// The header text of a small dataset is that of the small header which is known to be read.
@@ -21,9 +22,22 @@ pub fn worked_options()
     ensures more { are_options query_options (codes "--cache" ∷ codes "65537" ∷ []) ≡ false }
     ensures order { are_options serve_options
         (codes "--links" ∷ codes "1" ∷ codes "--cache" ∷ codes "2" ∷ []) ≡ true }
-    ensures second { given (codes "--links" ∷ codes "1" ∷ codes "--cache" ∷ codes "2" ∷ []) Setting.Cache ≡ Some 2 }
+    ensures second { number_given
+        (codes "--links" ∷ codes "1" ∷ codes "--cache" ∷ codes "2" ∷ []) Setting.Cache ≡ Some 2 }
     ensures twice { are_options serve_options
         (codes "--links" ∷ codes "1" ∷ codes "--links" ∷ codes "1" ∷ []) ≡ false }
     ensures other { are_options query_options (codes "--workers" ∷ codes "2" ∷ []) ≡ false }
     ensures missing { are_options query_options (codes "--cache" ∷ []) ≡ false }
+{}
+
+/// A step and its raw volume are given in any order; the step may be 0, and the volume's path is no option's name.
+#[tactic(auto, unfolding(idx_text::specs::Number::number_of, crate::specs::PathWord::is_path))]
+pub fn worked_ingest()
+    ensures right { are_options serve_options
+        (codes "--raw" ∷ codes "r" ∷ codes "--ingest" ∷ codes "00" ∷ []) ≡ true }
+    ensures both { ingest_of (codes "--raw" ∷ codes "r" ∷ codes "--ingest" ∷ codes "00" ∷ [])
+        ≡ Some (record { step = 0; raw = codes "r" }) }
+    ensures alone { ingest_of (codes "--raw" ∷ codes "r" ∷ []) ≡ None }
+    ensures no_path { are_options serve_options
+        (codes "--ingest" ∷ codes "7" ∷ codes "--raw" ∷ codes "--links" ∷ []) ≡ false }
 {}

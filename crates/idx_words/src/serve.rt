@@ -1,21 +1,19 @@
 ghost use Rattle.std.specs.Prelude.{◌≡◌, ◌≢◌, ◌↔◌, drop, map, string_bytes, IfErr, IfOk, Ok, OnErr, OnOk};
 ghost use Rattle.idx_words.specs.declared.command.Command.{Command};
 ghost use Rattle.idx_words.specs.declared.cut_words.CutWords.{CutWords};
-ghost use Rattle.idx_words.specs.declared.setting.Setting.{Setting};
 ghost use Rattle.idx_words.specs.ConvertValue.{ConvertValue};
-ghost use Rattle.idx_words.specs.Options.{given};
 ghost use Rattle.idx_words.specs.Place.{IsPlaceBehind};
 ghost use Rattle.idx_words.specs.QueryValue.{QueryValue};
 ghost use Rattle.idx_words.specs.ServeGrammar.{AreServeWords, AreSomeServeWords, IsSoundServe};
 ghost use Rattle.idx_words.specs.ServeValue.{ServeValue};
-ghost use Rattle.idx_words.specs.Settings.{AreWithin, value_in};
+ghost use Rattle.idx_words.specs.Settings.{AreWithin};
 ghost use Rattle.idx_words.specs.Words.{IsSoundCommand};
 
 use crate::command::Command;
 use crate::given::{word_at, words_from};
 use crate::misread::Misread;
-use crate::options::read_options;
 use crate::path::is_path;
+use crate::serve_options::read_serve_options;
 use crate::serve_words::ServeWords;
 use crate::setting::Setting;
 use crate::settings::Settings;
@@ -29,13 +27,6 @@ const NO_ADDRESS: Misread = Misread {
     at: 2,
     expected: "ADDRESS, as 127.0.0.1:8080: 1 to 4096 printable characters, not beginning with -",
 };
-
-/// The options behind the two words.
-const OPTIONS: [Setting; 3] = [Setting::Cache, Setting::Workers, Setting::Links];
-
-/// What is expected where no option stands that may stand there.
-const END: &str = "--cache, --workers or --links, each at most once, or the end of the words: \
-     serve DATASET ADDRESS [--cache BLOCKS] [--workers WORKERS] [--links LINKS]";
 
 /// The command `serve` with the values of the words behind it. The place of a word that is wrong or missing counts the
 /// command too.
@@ -62,16 +53,17 @@ fn read_serve(words: &[String]) -> Result<ServeWords<'_>, Misread>
     ensures place { IfErr result (λ misread.
         IsPlaceBehind AreSomeServeWords (map string_bytes words.now) misread.at) }
 {
-    let settings = check_words(words)?;
-    Ok(values(words, &settings))
+    match check_words(words) {
+        Ok(settings) => Ok(values(words, &settings)),
+        Err(misread) => Err(misread),
+    }
 }
 
 /// The values of the options where the words behind the command are right. Otherwise the first that is wrong or
 /// missing, whose place counts the command too.
-fn check_words(words: &[String]) -> Result<Settings, Misread>
+fn check_words(words: &[String]) -> Result<Settings<'_>, Misread>
     ensures right { OnOk result (AreSomeServeWords (map string_bytes words.now)) }
-    ensures given { IfOk result (λ settings. (option : Setting) →
-        value_in settings option ≡ given (drop 2 (map string_bytes words.now)) option) }
+    ensures given { IfOk result (λ settings. settings ≡ drop 2 (map string_bytes words.now)) }
     ensures within { IfOk result AreWithin }
     ensures wrong { OnErr result (¬ AreSomeServeWords (map string_bytes words.now)) }
     ensures place { IfErr result (λ misread.
@@ -83,17 +75,16 @@ fn check_words(words: &[String]) -> Result<Settings, Misread>
     if !is_path(word_at(words, 1)) {
         return Err(NO_ADDRESS);
     }
-    match read_options(&OPTIONS, words_from(words, 2), END) {
+    match read_serve_options(words_from(words, 2)) {
         Ok(settings) => Ok(settings),
         Err(misread) => Err(misread.behind(3)),
     }
 }
 
 /// The values that right words stand for.
-fn values<'w>(words: &'w [String], settings: &Settings) -> ServeWords<'w>
+fn values<'w>(words: &'w [String], settings: &Settings<'w>) -> ServeWords<'w>
     requires right { AreSomeServeWords (map string_bytes words.now) }
-    requires given { (option : Setting) →
-        value_in settings.now option ≡ given (drop 2 (map string_bytes words.now)) option }
+    requires given { settings.now ≡ drop 2 (map string_bytes words.now) }
     requires within { AreWithin settings.now }
     ensures read { (c : ServeValue) → (result ≡ c) ↔ AreServeWords (map string_bytes words.now) c }
     ensures sound { IsSoundServe result }
@@ -103,6 +94,7 @@ fn values<'w>(words: &'w [String], settings: &Settings) -> ServeWords<'w>
         address: word_at(words, 1),
         cache: settings.cache(),
         workers: settings.workers(),
-        links: settings.links,
+        links: settings.number(Setting::Links),
+        ingest: settings.ingest(),
     }
 }

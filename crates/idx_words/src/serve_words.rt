@@ -1,3 +1,4 @@
+use crate::ingest_words::IngestWords;
 use std::marker::Model;
 
 /// The values that the words of `serve` stand for.
@@ -13,6 +14,8 @@ pub struct ServeWords<'w> {
     pub workers: u32,
     /// After how many links the server ends, from 1; `None` where it does not.
     pub links: Option<u64>,
+    /// The step that is published meanwhile, if one is.
+    pub ingest: Option<IngestWords<'w>>,
 }
 
 impl<'w> Model for ServeWords<'w> {
@@ -26,5 +29,6 @@ impl<'w> Model for ServeWords<'w> {
       cache = c.cache;
       workers = c.workers;
       links = c.links;
+      ingest = c.ingest;
     } };
 }

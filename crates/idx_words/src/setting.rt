@@ -1,7 +1,12 @@
 ghost use Rattle.std.specs.Prelude.{◌≡◌};
-ghost use Rattle.idx_words.specs.Options.{is_name, most_of, name_of, value_of};
+ghost use Rattle.idx_text.specs.Number.{number_of};
+ghost use Rattle.idx_words.specs.Options.{is_in, is_name, is_value, name_of};
 
+use crate::path::is_path;
 use idx_text::read_number;
+
+/// The greatest number of 19 digits.
+const GREATEST_NUMBER: u64 = 9_999_999_999_999_999_999;
 
 /// An option: a pair `--name value` behind the fixed words of a command.
 #[derive(Clone, Copy, Debug, PartialEq, Eq)]
@@ -10,6 +15,8 @@ pub enum Setting {
     Cache,
     Workers,
     Links,
+    Ingest,
+    Raw,
 }
 
 impl Setting {
@@ -21,18 +28,8 @@ impl Setting {
             Setting::Cache => b"--cache",
             Setting::Workers => b"--workers",
             Setting::Links => b"--links",
-        }
-    }
-
-    /// The greatest value; that of the links is the greatest number of 19 digits.
-    fn most(self) -> u64
-        ensures { result ≡ most_of self }
-    {
-        match self {
-            Setting::Ranks => 256,
-            Setting::Cache => 65_536,
-            Setting::Workers => 64,
-            Setting::Links => 9_999_999_999_999_999_999,
+            Setting::Ingest => b"--ingest",
+            Setting::Raw => b"--raw",
         }
     }
 
@@ -43,13 +40,17 @@ impl Setting {
         word == self.name()
     }
 
-    /// The value that a word spells: a number from 1 to the greatest.
-    pub fn read(self, word: &[u8]) -> Option<u64>
-        ensures { result ≡ value_of self word.now }
+    /// Whether a word is a value of it.
+    pub fn accepts(self, word: &[u8]) -> bool
+        ensures { result ≡ is_value self word.now }
     {
-        match read_number(word) {
-            Some(number) if 1 <= number && number <= self.most() => Some(number),
-            _ => None,
+        match self {
+            Setting::Ranks => is_number_in(1, 256, word),
+            Setting::Cache => is_number_in(1, 65_536, word),
+            Setting::Workers => is_number_in(1, 64, word),
+            Setting::Links => is_number_in(1, GREATEST_NUMBER, word),
+            Setting::Ingest => read_number(word).is_some(),
+            Setting::Raw => is_path(word),
         }
     }
 
@@ -60,6 +61,19 @@ impl Setting {
             Setting::Cache => "the value of --cache, in blocks: a number from 1 to 65536",
             Setting::Workers => "the value of --workers: a number from 1 to 64",
             Setting::Links => "the value of --links: a number of 1 to 19 digits, from 1",
+            Setting::Ingest => "the value of --ingest: a number of 1 to 19 digits",
+            Setting::Raw =>
+                "the value of --raw, a path: 1 to 4096 printable characters, not beginning with -",
         }
+    }
+}
+
+/// Whether a word is a number from the least to the greatest.
+fn is_number_in(least: u64, most: u64, word: &[u8]) -> bool
+    ensures { result ≡ is_in least most (number_of word.now) }
+{
+    match read_number(word) {
+        Some(number) => least <= number && number <= most,
+        None => false,
     }
 }

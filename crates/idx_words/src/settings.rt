@@ -1,28 +1,37 @@
-ghost use Rattle.std.specs.Prelude.{◌≡◌, ◌≤◌};
-ghost use Rattle.std.specs.Option.{unwrap_or};
-ghost use Rattle.idx_words.specs.Options.{named};
-ghost use Rattle.idx_words.specs.Settings.{AreWithin, open_among, value_in, with_value};
+ghost use Rattle.std.specs.Prelude.{◌≡◌, ◌≤◌, map, string_bytes};
+ghost use Rattle.std.specs.Option.{is_some, option_copied};
+ghost use Rattle.idx_words.specs.Options.{cache_of, given, named, number_given, ranks_of, workers_of};
+ghost use Rattle.idx_words.specs.ServeGrammar.{ingest_of};
+ghost use Rattle.idx_words.specs.Settings.{AreWithin, open_among};
 
+use crate::ingest_words::IngestWords;
 use crate::setting::Setting;
+use idx_text::read_number;
+use std::marker::Model;
 
-/// The values that options give.
-#[derive(Clone, Copy, Debug)]
-pub struct Settings {
-    pub ranks: Option<u64>,
-    pub cache: Option<u64>,
-    pub workers: Option<u64>,
-    pub links: Option<u64>,
+/// The options of a command: the words behind its fixed ones, pairs of a name and a value.
+#[derive(Debug, Drop)]
+pub struct Settings<'w> {
+    pub words: &'w [String],
 }
 
-impl Settings {
+impl<'w> Model for Settings<'w> {
+    ghost use Rattle.std.specs.Prelude.{ℕ, List, map, string_bytes};
+
+    ghost Value = { List (List ℕ) };
+
+    ghost view = { λ s. map string_bytes s.words.now };
+}
+
+impl<'w> Settings<'w> {
     /// How many ranks convert; 1 where no number is given.
     pub fn ranks(&self) -> u32
         requires { AreWithin self.now }
-        ensures value { result ≡ unwrap_or self.now.ranks 1 }
+        ensures value { result ≡ ranks_of self.now }
         ensures some { 1 ≤ result }
         ensures few { result ≤ 256 }
     {
-        match self.ranks {
+        match self.number(Setting::Ranks) {
             Some(ranks) => ranks as u32,
             None => 1,
         }
@@ -31,11 +40,11 @@ impl Settings {
     /// How many blocks a cache keeps at most; 64 where no number is given.
     pub fn cache(&self) -> u32
         requires { AreWithin self.now }
-        ensures value { result ≡ unwrap_or self.now.cache 64 }
+        ensures value { result ≡ cache_of self.now }
         ensures some { 1 ≤ result }
         ensures few { result ≤ 65536 }
     {
-        match self.cache {
+        match self.number(Setting::Cache) {
             Some(blocks) => blocks as u32,
             None => 64,
         }
@@ -44,50 +53,67 @@ impl Settings {
     /// How many workers serve; 1 where no number is given.
     pub fn workers(&self) -> u32
         requires { AreWithin self.now }
-        ensures value { result ≡ unwrap_or self.now.workers 1 }
+        ensures value { result ≡ workers_of self.now }
         ensures some { 1 ≤ result }
         ensures few { result ≤ 64 }
     {
-        match self.workers {
+        match self.number(Setting::Workers) {
             Some(workers) => workers as u32,
             None => 1,
         }
     }
 
-    /// The value of an option.
-    fn value(&self, option: Setting) -> Option<u64>
-        ensures { result ≡ value_in self.now option }
+    /// The step that is published and its raw volume, where both are given.
+    pub fn ingest(&self) -> Option<IngestWords<'w>>
+        ensures { result ≡ ingest_of self.now }
     {
-        match option {
-            Setting::Ranks => self.ranks,
-            Setting::Cache => self.cache,
-            Setting::Workers => self.workers,
-            Setting::Links => self.links,
-        }
+        let step = self.number(Setting::Ingest)?;
+        let raw = self.given(Setting::Raw)?;
+        Some(IngestWords { step, raw })
     }
 
-    /// The values with that of an option.
-    pub fn with(mut self, option: Setting, value: u64) -> Settings
-        ensures { result ≡ with_value self option value }
+    /// The number that is given an option, if one is.
+    pub fn number(&self, option: Setting) -> Option<u64>
+        ensures { result ≡ number_given self.now option }
     {
-        let value = Some(value);
-        match option {
-            Setting::Ranks => self.ranks = value,
-            Setting::Cache => self.cache = value,
-            Setting::Workers => self.workers = value,
-            Setting::Links => self.links = value,
-        }
-        self
+        read_number(self.given(option)?)
     }
 
-    /// The option that a word names, among those of these that have no value yet.
+    /// Whether an option is given.
+    pub fn gives(&self, option: Setting) -> bool
+        ensures { result ≡ is_some (given self.now option) }
+    {
+        self.given(option).is_some()
+    }
+
+    /// The option that a word names, among those of these that are not given.
     pub fn open_option(&self, options: &[Setting], word: &[u8]) -> Option<Setting>
         ensures { result ≡ named word.now (open_among self.now options.now) }
     {
         options
             .iter()
             .copied()
-            .filter(|option| self.value(*option).is_none())
+            .filter(|option| !self.gives(*option))
             .find(|option| option.has_name(word))
     }
+
+    /// The word that is given an option, if one is.
+    fn given(&self, option: Setting) -> Option<&'w [u8]>
+        ensures { option_copied result ≡ given self.now option }
+    {
+        given(self.words, option)
+    }
+}
+
+/// The word that words give an option, if they do.
+fn given(words: &[String], option: Setting) -> Option<&[u8]>
+    ensures { option_copied result ≡ given (map string_bytes words.now) option }
+{
+    let [name, value, behind @ ..] = words else {
+        return None;
+    };
+    if option.has_name(name.as_bytes()) {
+        return Some(value.as_bytes());
+    }
+    given(behind, option)
 }

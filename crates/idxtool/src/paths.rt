@@ -16,7 +16,20 @@ pub fn dataset_path(words: &[String]) -> &str
 pub fn raw_path(words: &[String]) -> &str {
     match words.first() {
         Some(name) if name.as_str() == "convert" => third_word(words),
+        Some(name) if name.as_str() == "serve" => word_behind(words, "--raw"),
         _ => given_path(words),
+    }
+}
+
+/// The word behind the first one that is this option, or none.
+fn word_behind<'w>(words: &'w [String], option: &str) -> &'w str {
+    let mut behind = words
+        .iter()
+        .skip_while(|word| word.as_str() != option)
+        .skip(1);
+    match behind.next() {
+        Some(word) => word.as_str(),
+        None => "",
     }
 }
 

@@ -1,4 +1,6 @@
 use crate::notice::{standing_steps, write_notice};
+use crate::outside::share_of;
+use crate::paths::raw_path;
 use crate::report::report;
 use crate::usage::{text_asked_for, write_text};
 use crate::work_line::write_work;
@@ -220,6 +222,35 @@ fn the_steps_that_stand_are_counted(rt: HostRuntime) -> Result<(), Fail> {
         (TIMED, 11, None),
     ] {
         assert_eq!(rt; counted(rt.alloc(), header, fails)?, want);
+    }
+    Ok(())
+}
+
+#[test]
+fn links_are_shared_out(rt: HostRuntime) -> Result<(), Fail> {
+    for (links, workers, worker, want) in [
+        (Some(9), 4, 0, Some(3)),
+        (Some(9), 4, 1, Some(2)),
+        (Some(9), 4, 3, Some(2)),
+        (Some(1), 64, 63, Some(0)),
+        (None, 4, 3, None),
+    ] {
+        assert!(rt; worker < workers);
+        assert_eq!(rt; share_of(links, workers, worker), want);
+    }
+    Ok(())
+}
+
+#[test]
+fn a_raw_volume_is_found_among_options(rt: HostRuntime) -> Result<(), Fail> {
+    for (line, want) in [
+        ("serve|v.idx|a|--raw|r|--ingest|7", "r"),
+        ("serve|v.idx|a|--ingest|7|--raw|a b", "a b"),
+        ("serve|v.idx|a", ""),
+        ("cut|r.raw", "r.raw"),
+    ] {
+        let words = words_in(rt.alloc(), line)?;
+        assert_eq!(rt; raw_path(&words), want);
     }
     Ok(())
 }

@@ -73,7 +73,7 @@ idxtool: samples, headers and files of ViSUS IDX data, with proved answers
                than have 2^31 bytes in all
 
   idxtool serve DATASET ADDRESS [--cache BLOCKS] [--workers WORKERS]
-                [--links LINKS]
+                [--links LINKS] [--ingest STEP --raw RAW]
       answers, over HTTP at ADDRESS, GET /mod_visus?action=boxquery&dataset=NAME
       &box=0+63+0+63+0+63 with the samples of the box between two levels, as
       query writes them, out of the steps that stand when it begins. It says on
@@ -85,6 +85,8 @@ idxtool: samples, headers and files of ViSUS IDX data, with proved answers
       WORKERS  how many links are served side by side, 1 to 64, else 1
       LINKS    how many links are served; then it writes `links N replies Q` to
                standard output and ends. Else it serves until it is stopped
+      STEP RAW meanwhile, the step is written out of this raw volume, as convert
+               writes it, and published: questions from then on see it
 
       A head may also have &time=, else the first step, &field=, else the first
       field, and &fromh= and &toh=, the coarsest and the finest level, else 0 and

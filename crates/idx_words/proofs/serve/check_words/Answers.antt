@@ -1,8 +1,8 @@
 use Rattle.std.proofs.Common.{◌≡◌, ℕ, ◌+◌, List, IsTrue, drop, map, string_bytes, refl, sym, ap, ◌∙◌, subst, arith}
 use Rattle.std.proofs.lemmas.Bool.{false≢true}
 use Rattle.std.proofs.lemmas.List.{drop-map}
-use Rattle.idx_words.specs.Options.{AreOptions, given, serve_options}
 use Rattle.idx_words.specs.PathWord.{is_path}
+use Rattle.idx_words.specs.ServeGrammar.{AreServeOptions}
 use Rattle.idx_words.specs.WordAt.{word_at}
 use Rattle.idx_words.proofs.PlaceLemmas.{Fault}
 use Rattle.idx_words.proofs.ServeLemmas.{first_below, names_below, serve_right, serve_wrong, serve_wrong_end}
@@ -44,13 +44,10 @@ returns-in-Ok-clause-right c =
     let first : IsTrue (is_path (word_at ws 0)) = ap is_path (sym c.word_at.ensures) ∙ sym c.is_path.ensures ∙ c.if-not-is_path.false in
     let second : IsTrue (is_path (word_at ws 1)) = ap is_path (sym c.word_at-2.ensures) ∙ sym c.is_path-2.ensures ∙ c.if-not-is_path-2.false in
     let behind : map string_bytes c.words_from.result.now ≡ drop 2 ws = ap (map string_bytes) c.words_from.ensures ∙ sym (drop-map string_bytes 2 c.args.words.now) in
-    serve_right ws (names_below ws first second) (subst (AreOptions serve_options) behind c.in-Ok.ensures.right)
+    serve_right ws (names_below ws first second) (subst AreServeOptions behind c.in-Ok.ensures.right)
 
 pub returns-in-Ok-clause-given : goal.returns-in-Ok-clause-given
-returns-in-Ok-clause-given c =
-    let behind : map string_bytes c.words_from.result.now ≡ drop 2 (map string_bytes c.args.words.now) =
-    ap (map string_bytes) c.words_from.ensures ∙ sym (drop-map string_bytes 2 c.args.words.now) in
-    λ option. c.in-Ok.ensures.read option ∙ ap (λ words. given words option) behind
+returns-in-Ok-clause-given c = c.in-Ok.ensures.read ∙ ap (map string_bytes) c.words_from.ensures ∙ sym (drop-map string_bytes 2 c.args.words.now)
 
 pub returns-in-Err-clause-wrong : goal.returns-in-Err-clause-wrong
 returns-in-Err-clause-wrong c =
@@ -59,7 +56,7 @@ returns-in-Err-clause-wrong c =
     let second : IsTrue (is_path (word_at ws 1)) = ap is_path (sym c.word_at-2.ensures) ∙ sym c.is_path-2.ensures ∙ c.if-not-is_path-2.false in
     let behind : map string_bytes c.words_from.result.now ≡ drop 2 ws = ap (map string_bytes) c.words_from.ensures ∙ sym (drop-map string_bytes 2 c.args.words.now) in
     (serve_wrong_end ws c.in-Err.misread.at (names_below ws first second)
-    (subst (λ words. Fault (AreOptions serve_options) words c.in-Err.misread.at) behind (record { place = c.in-Err.ensures.place; none = c.in-Err.ensures.wrong }))).none
+    (subst (λ words. Fault (AreServeOptions) words c.in-Err.misread.at) behind (record { place = c.in-Err.ensures.place; none = c.in-Err.ensures.wrong }))).none
 
 pub returns-in-Err-clause-place : goal.returns-in-Err-clause-place
 returns-in-Err-clause-place c =
@@ -68,5 +65,5 @@ returns-in-Err-clause-place c =
     let second : IsTrue (is_path (word_at ws 1)) = ap is_path (sym c.word_at-2.ensures) ∙ sym c.is_path-2.ensures ∙ c.if-not-is_path-2.false in
     let behind : map string_bytes c.words_from.result.now ≡ drop 2 ws = ap (map string_bytes) c.words_from.ensures ∙ sym (drop-map string_bytes 2 c.args.words.now) in
     let fault = serve_wrong_end ws c.in-Err.misread.at (names_below ws first second)
-    (subst (λ words. Fault (AreOptions serve_options) words c.in-Err.misread.at) behind (record { place = c.in-Err.ensures.place; none = c.in-Err.ensures.wrong })) in
+    (subst (λ words. Fault (AreServeOptions) words c.in-Err.misread.at) behind (record { place = c.in-Err.ensures.place; none = c.in-Err.ensures.wrong })) in
     (c.in-Err.misread.at + 2, omega (arith, c.behind.ensures), fault.place)

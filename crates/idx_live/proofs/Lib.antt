@@ -1,0 +1,4 @@
+pub mod LiveLemmas
+pub mod PairLemmas
+pub mod SideLemmas
+pub mod StageLemmas

@@ -1,0 +1,4 @@
+pub mod Live
+pub mod Pair
+pub mod Sides
+pub mod Stages
