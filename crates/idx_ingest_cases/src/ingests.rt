@@ -3,6 +3,7 @@ ghost use Rattle.std.specs.Prelude.{◌≡◌, IfOk, vec_len};
 ghost use Rattle.idx_layout.specs.Shape.{shape_of};
 ghost use Rattle.idx_ingest_cases.specs.Ready.{AreAlike, HaveBytes, IsBegun, IsWriter};
 
+use crate::late_link::{LateLink, Ready};
 use idx_edition::{Edition, block_lengths};
 use idx_gather::GatherFault;
 use idx_hall::Hall;
@@ -11,7 +12,8 @@ use idx_ingest::{IngestEnd, ingest};
 use idx_lock::{Seat, TurnLock};
 use idx_memory::{HoldGate, MemBay, MemDoor, MemLeaf, MemLink, MemReader, MemSource};
 use idx_outside::{Bay, Bytes, FreeGate, Gate, GatePlace, NoMemory};
-use idx_serve::{Site, Summary};
+use idx_serve::{Site, Summary, serve_link};
+use idx_session::LinkEnd;
 use idx_turn::Turn;
 use idx_workers::serve;
 use std::alloc::Global;
@@ -26,6 +28,11 @@ static HEADER: &[u8] =
 
 /// Its raw volume.
 static RAW: [u8; 16] = [0, 1, 2, 3, 4, 5, 6, 7, 8, 9, 10, 11, 12, 13, 14, 15];
+
+/// Another one.
+static LATER: [u8; 16] = [
+    16, 17, 18, 19, 20, 21, 22, 23, 24, 25, 26, 27, 28, 29, 30, 31,
+];
 
 /// A head that asks for all of the step 0.
 static WHOLE: &[u8] = b"GET /mod_visus?action=boxquery&dataset=v&box=0+3+0+3 HTTP/1.1\r\n\r\n";
@@ -189,6 +196,36 @@ fn a_refused_step_is_not(rt: HostRuntime) -> Result<(), Fail> {
         found: 15,
     };
     assert_eq!(rt; ended, (IngestEnd::Refused { why }, 0, 0));
+    Ok(())
+}
+
+#[test]
+fn a_head_behind_a_publish_is_answered_out_of_it(rt: HostRuntime) -> Result<(), Fail> {
+    let alloc = rt.alloc();
+    let Stage {
+        site,
+        lock,
+        mut writer,
+    } = stage_of(&rt, alloc)?;
+    let seat = lock.split(&mut writer);
+    let bay = bay_of(alloc, &rt, &site.header, 9)?;
+    let ready = Ready::new(&site, &lock, writer, raws_of(alloc, &LATER)?, bay);
+    let mut link = LateLink::new(&rt, alloc, ready);
+    let mut chair = lock.chair(&rt, seat);
+    let mut reader = MemReader::new(Vec::new(alloc));
+    let mut served = Vec::new(alloc);
+    let end = serve_link(
+        alloc,
+        &site,
+        &mut chair,
+        &mut reader,
+        &mut link,
+        &mut served,
+    );
+    let _seat = chair.leave();
+    assert_eq!(rt; end, LinkEnd::Closed);
+    assert!(rt; link.is_answered());
+    assert_eq!(rt; link.ended(), Some(IngestEnd::Published { post: 1 }));
     Ok(())
 }
 
