@@ -18,10 +18,7 @@ fn line(alloc: Global, cause: Cause) -> Result<String, AllocError> {
 
 #[test]
 fn a_cause_has_a_line_and_a_status(rt: HostRuntime) -> Result<(), Fail> {
-    assert_eq!(rt; Done::of(ROW_MAJOR).status, 10);
-    assert_eq!(rt;
-        line(rt.alloc(), ROW_MAJOR)?.as_str(),
-        "table file 2 row 1 RowMajor"
-    );
+    assert!(rt; Done::of(ROW_MAJOR).status == 10);
+    assert!(rt; line(rt.alloc(), ROW_MAJOR)?.as_str() == "table file 2 row 1 RowMajor");
     Ok(())
 }

@@ -163,12 +163,12 @@ static REFUSALS: [Case; 8] = [
 
 #[test]
 fn samples_between_levels_are_written(rt: HostRuntime) -> Result<(), Fail> {
-    assert_eq!(rt; first_other(&rt, rt.alloc(), &ANSWERS)?, None);
+    assert!(rt; first_other(&rt, rt.alloc(), &ANSWERS)?.is_none());
     Ok(())
 }
 
 #[test]
 fn the_first_refusal_ends_cut(rt: HostRuntime) -> Result<(), Fail> {
-    assert_eq!(rt; first_other(&rt, rt.alloc(), &REFUSALS)?, None);
+    assert!(rt; first_other(&rt, rt.alloc(), &REFUSALS)?.is_none());
     Ok(())
 }

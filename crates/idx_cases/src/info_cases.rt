@@ -128,12 +128,12 @@ static REFUSALS: [Case; 8] = [
 
 #[test]
 fn info_says_what_a_header_says(rt: HostRuntime) -> Result<(), Fail> {
-    assert_eq!(rt; first_other(&rt, rt.alloc(), &ANSWERS)?, None);
+    assert!(rt; first_other(&rt, rt.alloc(), &ANSWERS)?.is_none());
     Ok(())
 }
 
 #[test]
 fn the_first_refusal_ends_info(rt: HostRuntime) -> Result<(), Fail> {
-    assert_eq!(rt; first_other(&rt, rt.alloc(), &REFUSALS)?, None);
+    assert!(rt; first_other(&rt, rt.alloc(), &REFUSALS)?.is_none());
     Ok(())
 }

@@ -25,6 +25,8 @@ mod turns;
 #[cfg(test)]
 mod waiting_link;
 #[cfg(test)]
+mod waiting_reader;
+#[cfg(test)]
 mod waiting_source;
 #[cfg(test)]
 mod worker_cases;

@@ -411,42 +411,42 @@ const DAMAGED: Case = Case {
 
 #[test]
 fn samples_between_levels_are_written(rt: HostRuntime) -> Result<(), Fail> {
-    assert_eq!(rt; first_other(&rt, rt.alloc(), &ANSWERS)?, None);
+    assert!(rt; first_other(&rt, rt.alloc(), &ANSWERS)?.is_none());
     Ok(())
 }
 
 #[test]
 fn absent_samples_are_zeros(rt: HostRuntime) -> Result<(), Fail> {
-    assert_eq!(rt; first_other(&rt, rt.alloc(), &ABSENCES)?, None);
+    assert!(rt; first_other(&rt, rt.alloc(), &ABSENCES)?.is_none());
     Ok(())
 }
 
 #[test]
 fn a_converted_volume_is_answered(rt: HostRuntime) -> Result<(), Fail> {
-    assert_eq!(rt; first_other(&rt, rt.alloc(), &CONVERTED)?, None);
+    assert!(rt; first_other(&rt, rt.alloc(), &CONVERTED)?.is_none());
     Ok(())
 }
 
 #[test]
 fn the_first_refusal_ends_query(rt: HostRuntime) -> Result<(), Fail> {
-    assert_eq!(rt; first_other(&rt, rt.alloc(), &REFUSALS)?, None);
+    assert!(rt; first_other(&rt, rt.alloc(), &REFUSALS)?.is_none());
     Ok(())
 }
 
 #[test]
 fn a_refusal_comes_before_any_read(rt: HostRuntime) -> Result<(), Fail> {
-    assert_eq!(rt; first_other(&rt, rt.alloc(), &UNREAD)?, None);
+    assert!(rt; first_other(&rt, rt.alloc(), &UNREAD)?.is_none());
     Ok(())
 }
 
 #[test]
 fn a_failed_call_ends_query(rt: HostRuntime) -> Result<(), Fail> {
-    assert_eq!(rt; first_other_failure(&rt, rt.alloc())?, None);
+    assert!(rt; first_other_failure(&rt, rt.alloc())?.is_none());
     Ok(())
 }
 
 #[test]
 fn the_first_faulty_row_ends_query(rt: HostRuntime) -> Result<(), Fail> {
-    assert_eq!(rt; first_other_damage(&rt, rt.alloc())?, None);
+    assert!(rt; first_other_damage(&rt, rt.alloc())?.is_none());
     Ok(())
 }

@@ -1,8 +1,8 @@
 //! `convert` by several ranks.
 use crate::convert_cases::{STEP, WORDS};
-use crate::setting::{holds_step, words_in};
+use crate::setting::{done_of, holds_step, words_in};
 use crate::waiting_source::WaitingSource;
-use idx_commands::{Cause, Done, run};
+use idx_commands::{Cause, Done};
 use idx_memory::{MemBay, MemDoor, MemReader, MemSink};
 use idx_outside::Bytes;
 use std::alloc::{AllocError, Global};
@@ -47,7 +47,7 @@ fn converted<T: Threads + Wait + Sync>(
     if raws.is_empty() {
         return Ok((Done::of(Cause::RawFault), false));
     }
-    let done = run(
+    let done = done_of(
         rt,
         alloc,
         &words,
@@ -89,7 +89,7 @@ fn each_number_of_ranks_makes_the_same_step(rt: HostRuntime) -> Result<(), Fail>
     ] {
         let mut raws = raws_of(rt.alloc(), &RAW, count, &is_read)?;
         let (done, stands) = converted(&rt, rt.alloc(), ranks, &mut raws)?;
-        assert_eq!(rt; done.cause, Cause::Done, "{ranks} ranks");
+        assert!(rt; done.cause == Cause::Done);
         assert!(rt; stands, "{ranks} ranks");
     }
     Ok(())
@@ -105,7 +105,7 @@ fn the_length_is_refused_for_any_number_of_ranks(rt: HostRuntime) -> Result<(), 
             want: 16,
             found: 15,
         };
-        assert_eq!(rt; done.cause, cause, "{ranks} ranks");
+        assert!(rt; done.cause == cause);
     }
     Ok(())
 }
@@ -123,7 +123,7 @@ fn ranks_read_beside_each_other(rt: HostRuntime) -> Result<(), Fail> {
         raws.push(WaitingSource::new(&RAW, waits, &first))?;
         raws.push(WaitingSource::new(&RAW, other, &second))?;
         let (done, stands) = converted(&rt, rt.alloc(), 2, &mut raws)?;
-        assert_eq!(rt; done.cause, Cause::Done);
+        assert!(rt; done.cause == Cause::Done);
         assert!(rt; stands);
         assert!(rt; !raws.iter().any(WaitingSource::met_limit));
     }

@@ -609,36 +609,36 @@ fn first_other_damage<T: Threads + Wait + Sync>(
 
 #[test]
 fn links_are_answered_and_counted(rt: HostRuntime) -> Result<(), Fail> {
-    assert_eq!(rt; first_other(&rt, rt.alloc(), &ANSWERS)?, None);
+    assert!(rt; first_other(&rt, rt.alloc(), &ANSWERS)?.is_none());
     Ok(())
 }
 
 #[test]
 fn the_first_refusal_ends_serve(rt: HostRuntime) -> Result<(), Fail> {
-    assert_eq!(rt; first_other(&rt, rt.alloc(), &REFUSALS)?, None);
+    assert!(rt; first_other(&rt, rt.alloc(), &REFUSALS)?.is_none());
     Ok(())
 }
 
 #[test]
 fn a_link_that_breaks_ends_alone(rt: HostRuntime) -> Result<(), Fail> {
-    assert_eq!(rt; first_other(&rt, rt.alloc(), &BREAKS)?, None);
+    assert!(rt; first_other(&rt, rt.alloc(), &BREAKS)?.is_none());
     Ok(())
 }
 
 #[test]
 fn a_failed_call_ends_serve_before_any_link(rt: HostRuntime) -> Result<(), Fail> {
-    assert_eq!(rt; first_other_failure(&rt, rt.alloc())?, None);
+    assert!(rt; first_other_failure(&rt, rt.alloc())?.is_none());
     Ok(())
 }
 
 #[test]
 fn the_first_faulty_row_ends_serve(rt: HostRuntime) -> Result<(), Fail> {
-    assert_eq!(rt; first_other_damage(&rt, rt.alloc())?, None);
+    assert!(rt; first_other_damage(&rt, rt.alloc())?.is_none());
     Ok(())
 }
 
 #[test]
 fn a_step_is_published_meanwhile(rt: HostRuntime) -> Result<(), Fail> {
-    assert_eq!(rt; first_other(&rt, rt.alloc(), &LIVES)?, None);
+    assert!(rt; first_other(&rt, rt.alloc(), &LIVES)?.is_none());
     Ok(())
 }

@@ -1,7 +1,10 @@
 //! A case: words, what stands before a run over forms in memory, and how the run is to end.
+ghost use Rattle.std.specs.Prelude.{◌<◌, vec_len};
+ghost use Rattle.idx_gather.specs.Gather.{HaveSame};
+
 use idx_commands::{Cause, Done, run};
-use idx_memory::{MemBay, MemDoor, MemReader, MemSink, MemSource};
-use idx_outside::{Bytes, MemFile};
+use idx_memory::{MemBay, MemDoor, MemLeaf, MemReader, MemSink, MemSource};
+use idx_outside::{Bytes, Door, MemFile, Reader, Source};
 use std::alloc::{AllocError, Global};
 use std::sync::Wait;
 use std::thread::Threads;
@@ -217,7 +220,7 @@ pub(crate) fn run_over<T: Threads + Wait + Sync>(
     let mut doors = Vec::with_capacity(alloc, 1)?;
     doors.push(door)?;
     let mut out = MemSink::new(calls(alloc, fails.sink)?);
-    let done = run(
+    let done = done_of(
         rt,
         alloc,
         &words,
@@ -235,6 +238,32 @@ pub(crate) fn run_over<T: Threads + Wait + Sync>(
         reads,
         door: doors.pop(),
     })
+}
+
+/// How a run on these words ends.
+pub(crate) fn done_of<
+    V: Source + Send,
+    R: Reader<MemLeaf> + Send,
+    D: Door + Send,
+    T: Threads + Wait + Sync,
+>(
+    rt: &T,
+    alloc: Global,
+    words: &[String],
+    raws: &mut Vec<V>,
+    bay: &mut MemBay,
+    readers: &mut Vec<R>,
+    out: &mut MemSink,
+    doors: &mut Vec<D>,
+) -> Done
+where
+    D::Link: Send,
+    requires some { 0 < vec_len raws.old }
+    requires reader { 0 < vec_len readers.old }
+    requires door { 0 < vec_len doors.old }
+    requires same { HaveSame V.contents raws.old.items }
+{
+    run(rt, alloc, words, raws, bay, readers, out, doors)
 }
 
 /// The words of a line, which stand between its bars.

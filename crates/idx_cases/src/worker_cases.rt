@@ -1,11 +1,12 @@
 //! `serve` by several workers.
 use crate::convert_cases::STEP;
 use crate::serve_cases::{Coming, Heads, Replies, came_back, door_of};
-use crate::setting::{HEADER, calls, files_of, words_in};
+use crate::setting::{HEADER, calls, done_of, files_of, words_in};
 use crate::waiting_link::{OneLink, WaitingLink};
-use idx_commands::{Cause, Done, run};
-use idx_memory::{MemBay, MemReader, MemSink, MemSource};
-use idx_outside::{Bytes, Door};
+use crate::waiting_reader::WaitingReader;
+use idx_commands::{Cause, Done};
+use idx_memory::{MemBay, MemLeaf, MemReader, MemSink, MemSource};
+use idx_outside::{Bytes, Door, Reader};
 use std::alloc::{AllocError, Global};
 use std::sync::Wait;
 use std::sync::atomic::{AtomicBool, Ordering};
@@ -100,7 +101,8 @@ fn ends_as_wanted<T: Threads + Wait + Sync>(
     let mut doors = Vec::new(alloc);
     doors.push(door_of(alloc, beside.links[0], beside.door)?)?;
     doors.push(door_of(alloc, beside.links[1], 0)?)?;
-    let (done, written, _) = served(rt, alloc, beside.reader, &mut doors)?;
+    let mut readers = readers_of(alloc, beside.reader)?;
+    let (done, written) = served(rt, alloc, &mut readers, &mut doors)?;
     Ok(
         done == Done::of(beside.cause)
             && written.as_slice() == beside.written
@@ -111,14 +113,21 @@ fn ends_as_wanted<T: Threads + Wait + Sync>(
     )
 }
 
-/// How `serve` by two workers ends at these doors, what it writes, and how many reads its readers make in all. The call of
-/// this number of the second reader fails.
-fn served<T: Threads + Wait + Sync, D: Door + Send>(
+/// Two readers. The call of this number of the second one fails.
+fn readers_of(alloc: Global, fail: u64) -> Result<Vec<MemReader>, AllocError> {
+    let mut readers = Vec::with_capacity(alloc, 2)?;
+    readers.push(MemReader::new(Vec::new(alloc)))?;
+    readers.push(MemReader::new(calls(alloc, fail)?))?;
+    Ok(readers)
+}
+
+/// How `serve` by two workers ends with these readers at these doors, and what it writes.
+fn served<T: Threads + Wait + Sync, R: Reader<MemLeaf> + Send, D: Door + Send>(
     rt: &T,
     alloc: Global,
-    fail: u64,
+    readers: &mut Vec<R>,
     doors: &mut Vec<D>,
-) -> Result<(Done, Vec<u8>, u64), AllocError>
+) -> Result<(Done, Vec<u8>), AllocError>
 where
     D::Link: Send,
 {
@@ -131,32 +140,14 @@ where
     );
     let mut raws = Vec::with_capacity(alloc, 1)?;
     raws.push(MemSource::new(Bytes::new(alloc), calls(alloc, 1)?))?;
-    let mut readers = Vec::with_capacity(alloc, 2)?;
-    readers.push(MemReader::new(Vec::new(alloc)))?;
-    readers.push(MemReader::new(calls(alloc, fail)?))?;
     let mut out = MemSink::new(Vec::new(alloc));
-    if doors.is_empty() {
-        return Ok((Done::of(Cause::DoorFault), Vec::new(alloc), 0));
+    if readers.is_empty() || doors.is_empty() {
+        return Ok((Done::of(Cause::DoorFault), Vec::new(alloc)));
     }
-    let done = run(
-        rt,
-        alloc,
-        &words,
-        &mut raws,
-        &mut bay,
-        &mut readers,
-        &mut out,
-        doors,
+    let done = done_of(
+        rt, alloc, &words, &mut raws, &mut bay, readers, &mut out, doors,
     );
-    let mut reads = 0u64;
-    for reader in &readers {
-        reads = reads.saturating_add(reader.reads());
-    }
-    Ok((
-        done,
-        Vec::from_slice(alloc, out.written().as_slice())?,
-        reads,
-    ))
+    Ok((done, Vec::from_slice(alloc, out.written().as_slice())?))
 }
 
 #[test]
@@ -172,12 +163,17 @@ fn workers_serve_beside_each_other_out_of_one_cache(rt: HostRuntime) -> Result<(
         let mut doors = Vec::new(rt.alloc());
         doors.push(OneLink::new(WaitingLink::new(WHOLE, waits, &first, &met_limit)))?;
         doors.push(OneLink::new(WaitingLink::new(WHOLE, other, &second, &met_limit)))?;
-        let (done, written, reads) = served(&rt, rt.alloc(), 0, &mut doors)?;
-        assert_eq!(rt; done.cause, Cause::Done);
-        assert_eq!(rt; written.as_slice(), b"links 2 replies 2\n".as_slice());
-        assert_eq!(rt; reads, 6, "two tables and four blocks");
+        let mut readers = readers_of(rt.alloc(), 0)?;
+        let (done, written) = served(&rt, rt.alloc(), &mut readers, &mut doors)?;
+        assert!(rt; done.cause == Cause::Done);
+        assert!(rt; written.as_slice() == b"links 2 replies 2\n".as_slice());
         assert!(rt; doors.iter().all(|door| door.replies() == 1));
         assert!(rt; !met_limit.load(Ordering::SeqCst));
+        let reads = readers
+            .iter()
+            .map(MemReader::reads)
+            .fold(0u64, u64::saturating_add);
+        assert!(rt; reads == 6, "two tables and four blocks");
     }
     Ok(())
 }
@@ -187,5 +183,28 @@ fn a_failure_of_one_worker_is_not_the_others(rt: HostRuntime) -> Result<(), Fail
     for beside in &FAILURES {
         assert!(rt; ends_as_wanted(&rt, rt.alloc(), beside)?);
     }
+    Ok(())
+}
+
+#[test]
+fn nothing_is_read_under_a_hold(rt: HostRuntime) -> Result<(), Fail> {
+    // The second worker's reader waits in its first read until the first worker has answered, whose link waits until that
+    // read has begun.
+    let (has_begun, is_answered) = (AtomicBool::new(false), AtomicBool::new(false));
+    let (unused, met_limit) = (AtomicBool::new(false), AtomicBool::new(false));
+    let mut doors = Vec::new(rt.alloc());
+    let link = WaitingLink::new(WHOLE, Some(&has_begun), &is_answered, &met_limit);
+    doors.push(OneLink::new(link))?;
+    doors.push(OneLink::new(WaitingLink::new(WHOLE, None, &unused, &met_limit)))?;
+    let mut readers = Vec::new(rt.alloc());
+    for (sign, begins) in [(None, &unused), (Some(&is_answered), &has_begun)] {
+        let leaves = MemReader::new(Vec::new(rt.alloc()));
+        readers.push(WaitingReader::new(leaves, sign, begins, &met_limit))?;
+    }
+    let (done, written) = served(&rt, rt.alloc(), &mut readers, &mut doors)?;
+    assert!(rt; done.cause == Cause::Done);
+    assert!(rt; written.as_slice() == b"links 2 replies 2\n".as_slice());
+    assert!(rt; doors.iter().all(|door| door.replies() == 1));
+    assert!(rt; !met_limit.load(Ordering::SeqCst));
     Ok(())
 }

@@ -11,5 +11,5 @@ unknown [] (suc i) = refl
 unknown (raw ∷ raws) zero = refl
 unknown (raw ∷ raws) (suc i) = unknown raws i
 
-pub run-done-requires-clause-same : goal.run-done-requires-clause-same
-run-done-requires-clause-same g c κs within = λ i here. unknown c.args.raws.now.items i ∙ sym (unknown c.args.raws.now.items 0)
+pub done_of-done-requires-clause-same : goal.done_of-done-requires-clause-same
+done_of-done-requires-clause-same g c κs within = λ i here. unknown c.args.raws.now.items i ∙ sym (unknown c.args.raws.now.items 0)
