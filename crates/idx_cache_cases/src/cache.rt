@@ -44,14 +44,14 @@ fn size(cache: &Cache<u64, u64>) -> (u64, u64) {
 #[test]
 fn keeps_the_most_recent(rt: HostRuntime) -> Result<(), Fail> {
     let mut cache = filled(rt.alloc(), 3, &[5, 1, 9, 7])?;
-    assert_eq!(rt; value(&cache, 5), None);
-    assert_eq!(rt; touch(&mut cache, 1), true);
-    assert_eq!(rt; touch(&mut cache, 5), false);
-    assert_eq!(rt; evict(&mut cache, 0), 0);
-    assert_eq!(rt; evict(&mut cache, 2), 2);
-    assert_eq!(rt; value(&cache, 7), None);
-    assert_eq!(rt; value(&cache, 9), None);
-    assert_eq!(rt; value(&cache, 1), Some(10));
+    assert!(rt; value(&cache, 5).is_none());
+    assert!(rt; touch(&mut cache, 1));
+    assert!(rt; !touch(&mut cache, 5));
+    assert!(rt; evict(&mut cache, 0) == 0);
+    assert!(rt; evict(&mut cache, 2) == 2);
+    assert!(rt; value(&cache, 7).is_none());
+    assert!(rt; value(&cache, 9).is_none());
+    assert!(rt; value(&cache, 1) == Some(10));
     Ok(())
 }
 
@@ -61,23 +61,23 @@ fn a_key_that_is_put_again_comes_to_the_front(rt: HostRuntime) -> Result<(), Fai
     for (key, value) in [(1, 11), (2, 20), (1, 12), (3, 30), (4, 40)] {
         put(&mut cache, key, value);
     }
-    assert_eq!(rt; value(&cache, 2), None);
-    assert_eq!(rt; value(&cache, 1), Some(12));
-    assert_eq!(rt; size(&cache), (3, 3));
-    assert_eq!(rt; evict(&mut cache, 9), 3);
-    assert_eq!(rt; size(&cache), (0, 3));
+    assert!(rt; value(&cache, 2).is_none());
+    assert!(rt; value(&cache, 1) == Some(12));
+    assert!(rt; size(&cache) == (3, 3));
+    assert!(rt; evict(&mut cache, 9) == 3);
+    assert!(rt; size(&cache) == (0, 3));
     Ok(())
 }
 
 #[test]
 fn a_cache_larger_than_all_its_keys_drops_none(rt: HostRuntime) -> Result<(), Fail> {
     let mut cache = filled(rt.alloc(), 100, &[40, 10, 30, 20, 10])?;
-    assert_eq!(rt; size(&cache), (4, 100));
+    assert!(rt; size(&cache) == (4, 100));
     for key in [10, 20, 30, 40] {
-        assert_eq!(rt; value(&cache, key), Some(key * 10));
+        assert!(rt; value(&cache, key) == Some(key * 10));
     }
-    assert_eq!(rt; evict(&mut cache, 1), 1);
-    assert_eq!(rt; value(&cache, 40), None);
+    assert!(rt; evict(&mut cache, 1) == 1);
+    assert!(rt; value(&cache, 40).is_none());
     Ok(())
 }
 
@@ -101,11 +101,11 @@ fn first_byte(cache: &Shared, key: (u64, u32)) -> Option<u8> {
 fn one_pair_alone_holds_shared_bytes(rt: HostRuntime) -> Result<(), Fail> {
     let mut cache: Shared = Cache::new(rt.alloc(), 1)?;
     is_sendable(&cache);
-    assert_eq!(rt; put_bytes(rt.alloc(), &mut cache, (4, 1), 2)?, 1);
-    assert_eq!(rt; first_byte(&cache, (4, 0)), None);
-    assert_eq!(rt; first_byte(&cache, (4, 1)), Some(2));
-    assert_eq!(rt; put_bytes(rt.alloc(), &mut cache, (5, 0), 3)?, 1);
-    assert_eq!(rt; first_byte(&cache, (4, 1)), None);
-    assert_eq!(rt; first_byte(&cache, (5, 0)), Some(3));
+    assert!(rt; put_bytes(rt.alloc(), &mut cache, (4, 1), 2)? == 1);
+    assert!(rt; first_byte(&cache, (4, 0)).is_none());
+    assert!(rt; first_byte(&cache, (4, 1)) == Some(2));
+    assert!(rt; put_bytes(rt.alloc(), &mut cache, (5, 0), 3)? == 1);
+    assert!(rt; first_byte(&cache, (4, 1)).is_none());
+    assert!(rt; first_byte(&cache, (5, 0)) == Some(3));
     Ok(())
 }

@@ -160,7 +160,7 @@ fn push_row(bytes: &mut Vec<u8>, offset: u64, size: u32) -> Result<(), NoMemory>
 }
 
 /// What stands in a bay.
-#[derive(Clone, Copy, Debug, PartialEq, Eq)]
+#[derive(Clone, Copy, PartialEq, Eq)]
 pub(crate) enum Standing {
     /// No file.
     Nothing,

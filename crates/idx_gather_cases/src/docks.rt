@@ -247,7 +247,7 @@ fn docks(
     let header = BASE.header(alloc, rt);
     let pieces = pieces_with(alloc, rt, &header, DIGITS, 2)?;
     let mut dock = dock_of(alloc, rt, &header, &pieces, number)?;
-    assert_eq!(rt; dock.missing(), Some(0));
+    assert!(rt; dock.missing() == Some(0));
     assert!(rt; takes_all(alloc, rt, &header, &pieces, &mut dock, deliveries)?);
     let mut bay = bay_of(alloc, rt, &header, NONE)?;
     let leaf = written_by(alloc, rt, &header, &mut bay, dock)?;

@@ -57,11 +57,7 @@ fn raw_calls<R: Threads + Sync + Abort>(
         if ended == WHOLE {
             return Ok(call - 1);
         }
-        assert_eq!(rt;
-            ended,
-            raw_failed(rank as u32),
-            "call {call} of rank {rank}"
-        );
+        assert!(rt; ended == raw_failed(rank as u32));
     }
     Ok(CALLS)
 }
@@ -104,7 +100,7 @@ fn with_raw_calls<R: Threads + Sync + Abort>(
 fn the_least_failed_rank_is_answered(rt: HostRuntime) -> Result<(), Fail> {
     for (fails, answered) in SEVERAL {
         let end = answered.map_or(WHOLE, raw_failed);
-        assert_eq!(rt; with_raw_calls(&rt, rt.alloc(), fails)?, end);
+        assert!(rt; with_raw_calls(&rt, rt.alloc(), fails)? == end);
     }
     Ok(())
 }
@@ -186,7 +182,7 @@ fn failing_runs<R: Threads + Sync + Abort>(
 fn a_failing_call_of_the_bay_is_answered(rt: HostRuntime) -> Result<(), Fail> {
     for ranks in 1..4 {
         let calls = failing_runs(&rt, rt.alloc(), ranks, Culprit::Bay)?;
-        assert_eq!(rt; calls, 3, "by {ranks}");
+        assert!(rt; calls == 3);
     }
     Ok(())
 }
@@ -226,7 +222,7 @@ fn drafts_are_given_up(rt: HostRuntime) -> Result<(), Fail> {
     for (ranks, bay, drafts, changes) in CHANGES {
         let ended = with_calls(&rt, rt.alloc(), ranks, Fails { bay, drafts })?;
         assert!(rt; store_failed(&ended));
-        assert_eq!(rt; ended.changes, changes);
+        assert!(rt; ended.changes == changes);
     }
     Ok(())
 }
@@ -245,6 +241,6 @@ fn faults_of_two_drafts_are_counted(rt: HostRuntime) -> Result<(), Fail> {
         drafts: [1, 2],
         ..NONE
     };
-    assert_eq!(rt; with_calls(&rt, rt.alloc(), 2, fails)?, BOTH);
+    assert!(rt; with_calls(&rt, rt.alloc(), 2, fails)? == BOTH);
     Ok(())
 }

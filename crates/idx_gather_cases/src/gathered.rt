@@ -30,11 +30,7 @@ fn gathered<R: Threads + Sync + Abort>(
 #[test]
 fn the_files_are_the_same_by_however_many_ranks(rt: HostRuntime) -> Result<(), Fail> {
     for ranks in [1, 2, 3, 4, 8] {
-        assert_eq!(rt;
-            gathered(&rt, rt.alloc(), &BASE, ranks)?,
-            WHOLE,
-            "by {ranks}"
-        );
+        assert!(rt; gathered(&rt, rt.alloc(), &BASE, ranks)? == WHOLE);
     }
     Ok(())
 }
@@ -42,23 +38,23 @@ fn the_files_are_the_same_by_however_many_ranks(rt: HostRuntime) -> Result<(), F
 #[test]
 fn points_outside_the_box_are_zeros(rt: HostRuntime) -> Result<(), Fail> {
     for dataset in [SMALLER, INNER, WIDE] {
-        assert_eq!(rt; gathered(&rt, rt.alloc(), &dataset, 1)?, WHOLE);
-        assert_eq!(rt; gathered(&rt, rt.alloc(), &dataset, 3)?, WHOLE);
+        assert!(rt; gathered(&rt, rt.alloc(), &dataset, 1)? == WHOLE);
+        assert!(rt; gathered(&rt, rt.alloc(), &dataset, 3)? == WHOLE);
     }
     Ok(())
 }
 
 #[test]
 fn fields_stand_one_behind_the_other(rt: HostRuntime) -> Result<(), Fail> {
-    assert_eq!(rt; gathered(&rt, rt.alloc(), &FIELDS, 1)?, WHOLE);
-    assert_eq!(rt; gathered(&rt, rt.alloc(), &FIELDS, 2)?, WHOLE);
+    assert!(rt; gathered(&rt, rt.alloc(), &FIELDS, 1)? == WHOLE);
+    assert!(rt; gathered(&rt, rt.alloc(), &FIELDS, 2)? == WHOLE);
     Ok(())
 }
 
 #[test]
 fn absent_blocks_take_no_room(rt: HostRuntime) -> Result<(), Fail> {
-    assert_eq!(rt; gathered(&rt, rt.alloc(), &SPARSE, 1)?, WHOLE);
-    assert_eq!(rt; gathered(&rt, rt.alloc(), &SPARSE, 2)?, WHOLE);
+    assert!(rt; gathered(&rt, rt.alloc(), &SPARSE, 1)? == WHOLE);
+    assert!(rt; gathered(&rt, rt.alloc(), &SPARSE, 2)? == WHOLE);
     Ok(())
 }
 
@@ -80,7 +76,7 @@ fn asked_by<R: Threads + Sync + Abort>(
     assert!(rt; ranks <= 8);
     let mut raws = raws_of(alloc, BASE.raw, &[0; 8][..ranks])?;
     let ended = run(rt, alloc, &BASE, &mut raws, NONE, &FreeGate)?;
-    assert_eq!(rt; ended, WHOLE);
+    assert!(rt; ended == WHOLE);
     Ok(asked_of(alloc, &raws)?)
 }
 
@@ -96,7 +92,7 @@ static ASKED: [&[u64]; 5] = [
 #[test]
 fn each_rank_reads_its_lines_alone(rt: HostRuntime) -> Result<(), Fail> {
     for asked in ASKED {
-        assert_eq!(rt; asked_by(&rt, rt.alloc(), asked.len())?.as_slice(), asked);
+        assert!(rt; asked_by(&rt, rt.alloc(), asked.len())?.as_slice() == asked);
     }
     Ok(())
 }
@@ -144,7 +140,7 @@ static SHORTS: [(&[u64], Ended); 4] = [
 #[test]
 fn a_raw_volume_of_another_length_is_not_read(rt: HostRuntime) -> Result<(), Fail> {
     for (fails, end) in SHORTS {
-        assert_eq!(rt; ended_short(&rt, rt.alloc(), fails)?, (end, 0));
+        assert!(rt; ended_short(&rt, rt.alloc(), fails)? == (end, 0));
     }
     Ok(())
 }
@@ -189,8 +185,8 @@ fn read_back<R: Threads + Sync + Abort>(
 ) -> Result<Vec<(Fetched, [u8; 4])>, Fail> {
     let header = dataset.header(alloc, rt);
     let step = edition_of(rt, alloc, dataset, &header)?;
-    assert_eq!(rt; step.time(), 0);
-    assert_eq!(rt; step.leaves().len(), 2);
+    assert!(rt; step.time() == 0);
+    assert!(rt; step.leaves().len() == 2);
     let mut reader = MemReader::new(Vec::new(alloc));
     let mut blocks = Vec::new(alloc);
     for block in 0..4 {
@@ -218,8 +214,8 @@ static SPARSE_BLOCKS: [(Fetched, [u8; 4]); 4] = [
 #[test]
 fn the_answer_is_the_step_as_blocks(rt: HostRuntime) -> Result<(), Fail> {
     let blocks = read_back(&rt, rt.alloc(), &BASE)?;
-    assert_eq!(rt; blocks.as_slice(), BLOCKS.as_slice());
+    assert!(rt; blocks.as_slice() == BLOCKS.as_slice());
     let blocks = read_back(&rt, rt.alloc(), &SPARSE)?;
-    assert_eq!(rt; blocks.as_slice(), SPARSE_BLOCKS.as_slice());
+    assert!(rt; blocks.as_slice() == SPARSE_BLOCKS.as_slice());
     Ok(())
 }

@@ -9,7 +9,7 @@ use crate::pieces::{bounds_of, piece_at, pieces_with};
 use idx_geom::{Point, Region};
 use idx_header::Header;
 use idx_outside::{Bytes, NoMemory};
-use idx_pieces::{Parcel, Piece, Why, assemble};
+use idx_pieces::{Filled, Parcel, Piece, Refused, Why, assemble};
 use idx_ship::piece_bytes;
 use std::alloc::Global;
 use std::process::Abort;
@@ -104,19 +104,36 @@ fn are_parts(rt: &impl Abort, parcels: &[Parcel], parts: &[Part]) -> bool {
     parcels.len() == parts.len()
 }
 
-/// Whether a piece is assembled as it is to be. After a refusal the piece and the parcels come back.
+/// Whether a piece is assembled as it is to be.
 fn assembles(alloc: Global, rt: &impl Abort, case: &Assembling) -> Result<bool, NoMemory> {
     let header = case.dataset.header(alloc, rt);
-    let parcels = parcels_of(alloc, rt, &header, case.parts)?;
-    let piece = first_piece(alloc, rt, &header, case.digits)?;
-    match assemble(alloc, &header, piece, parcels) {
-        Ok(filled) => Ok(filled.piece.id == 0 && case.answer == Ok(filled.bytes.as_slice())),
-        Err(refused) => Ok(
-            refused.piece.id == 0
-                && case.answer == Err(refused.why)
-                && are_parts(rt, refused.parcels.as_slice(), case.parts),
-        ),
-    }
+    assembles_under(alloc, rt, &header, case)
+}
+
+fn assembles_under(
+    alloc: Global,
+    rt: &impl Abort,
+    header: &Header,
+    case: &Assembling,
+) -> Result<bool, NoMemory> {
+    let piece = first_piece(alloc, rt, header, case.digits)?;
+    let parcels = parcels_of(alloc, rt, header, case.parts)?;
+    Ok(match assemble(alloc, header, piece, parcels) {
+        Ok(filled) => is_made(&filled, case),
+        Err(refused) => is_back(rt, &refused, case),
+    })
+}
+
+/// Whether the first piece was assembled as it is to be.
+fn is_made(filled: &Filled, case: &Assembling) -> bool {
+    filled.piece.id == 0 && case.answer == Ok(filled.bytes.as_slice())
+}
+
+/// Whether the first piece was refused as it is to be, and the piece and the parcels came back.
+fn is_back(rt: &impl Abort, refused: &Refused, case: &Assembling) -> bool {
+    refused.piece.id == 0
+        && case.answer == Err(refused.why)
+        && are_parts(rt, refused.parcels.as_slice(), case.parts)
 }
 
 /// What the two ranks have of the first half of the base.

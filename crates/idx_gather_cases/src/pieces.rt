@@ -26,10 +26,10 @@ fn parts_of(
     ranks: u32,
 ) -> Result<Vec<[u64; 4]>, NoMemory> {
     assert!(rt; ranks >= 1);
-    let header = dataset.header(alloc, rt);
+    let region = dataset.header(alloc, rt).region();
     let mut parts = Vec::new(alloc);
-    for region in rank_regions(alloc, &header.region(), ranks)? {
-        parts.push(bounds_of(rt, &region))?;
+    for part in rank_regions(alloc, &region, ranks)? {
+        parts.push(bounds_of(rt, &part))?;
     }
     Ok(parts)
 }
@@ -47,7 +47,7 @@ static LINES: [(u32, &[[u64; 4]]); 5] = [
 fn ranks_have_lines(rt: HostRuntime) -> Result<(), Fail> {
     for (ranks, lines) in LINES {
         let parts = parts_of(rt.alloc(), &rt, &BASE, ranks)?;
-        assert_eq!(rt; parts.as_slice(), lines, "of {ranks} ranks");
+        assert!(rt; parts.as_slice() == lines);
     }
     Ok(())
 }
@@ -55,7 +55,7 @@ fn ranks_have_lines(rt: HostRuntime) -> Result<(), Fail> {
 #[test]
 fn a_box_is_cut_along_its_longest_axis(rt: HostRuntime) -> Result<(), Fail> {
     let parts = parts_of(rt.alloc(), &rt, &WIDE, 2)?;
-    assert_eq!(rt; parts.as_slice(), [[0, 0, 1, 1], [2, 0, 3, 1]].as_slice());
+    assert!(rt; parts.as_slice() == [[0, 0, 1, 1], [2, 0, 3, 1]].as_slice());
     Ok(())
 }
 
@@ -131,16 +131,22 @@ fn copy_piece(alloc: Global, piece: &Piece) -> Result<Piece, NoMemory>
     })
 }
 
+/// Whether so many pieces, whose ids rise, have each point of four by four once.
+fn share_all(rt: &impl Abort, pieces: &Vec<Piece>, count: usize) -> bool {
+    for place in 0..16 {
+        if holders(rt, pieces, place % 4, place / 4) != 1 {
+            return false;
+        }
+    }
+    pieces.len() == count && ids_rise(pieces)
+}
+
 #[test]
 fn each_point_is_of_one_piece(rt: HostRuntime) -> Result<(), Fail> {
     let header = BASE.header(rt.alloc(), &rt);
     for digits in 0..5 {
         let pieces = pieces_with(rt.alloc(), &rt, &header, digits, 2)?;
-        assert_eq!(rt; pieces.len(), 16 >> digits);
-        assert!(rt; ids_rise(&pieces));
-        for place in 0..16 {
-            assert_eq!(rt; holders(&rt, &pieces, place % 4, place / 4), 1);
-        }
+        assert!(rt; share_all(&rt, &pieces, 16 >> digits));
     }
     Ok(())
 }
@@ -166,26 +172,22 @@ fn is_piece(rt: &impl Abort, piece: &Piece, id: u64, bounds: [u64; 4], ranks: &[
         && piece.of_ranks == 2
 }
 
-/// Whether the pieces with so many last digits are these.
-fn has_pieces(
-    alloc: Global,
-    rt: &impl Abort,
-    digits: u32,
-    wanted: &[(u64, [u64; 4], &[u32])],
-) -> Result<bool, NoMemory> {
-    let header = BASE.header(alloc, rt);
-    let pieces = pieces_with(alloc, rt, &header, digits, 2)?;
+/// Whether pieces are these.
+fn are_pieces(rt: &impl Abort, pieces: &Vec<Piece>, wanted: &[(u64, [u64; 4], &[u32])]) -> bool {
     for (piece, (id, bounds, ranks)) in pieces.iter().zip(wanted) {
         if !is_piece(rt, piece, *id, *bounds, ranks) {
-            return Ok(false);
+            return false;
         }
     }
-    Ok(pieces.len() == wanted.len())
+    pieces.len() == wanted.len()
 }
 
 #[test]
 fn pieces_know_their_ranks(rt: HostRuntime) -> Result<(), Fail> {
-    assert!(rt; has_pieces(rt.alloc(), &rt, 2, &QUARTERS)?);
-    assert!(rt; has_pieces(rt.alloc(), &rt, 3, &HALVES)?);
+    let header = BASE.header(rt.alloc(), &rt);
+    for (digits, wanted) in [(2, QUARTERS.as_slice()), (3, &HALVES)] {
+        let pieces = pieces_with(rt.alloc(), &rt, &header, digits, 2)?;
+        assert!(rt; are_pieces(&rt, &pieces, wanted));
+    }
     Ok(())
 }

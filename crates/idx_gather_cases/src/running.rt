@@ -1,5 +1,5 @@
 //! Runs of gathering, over raw volumes and a bay in memory whose calls fail where they are told to.
-ghost use Rattle.std.specs.Prelude.{◌≡◌, IfOk, length, vec_len};
+ghost use Rattle.std.specs.Prelude.{◌≡◌, ◌≤◌, [], IfOk, OnOk, length, vec_len};
 ghost use Rattle.idx_gather.specs.Gather.{HasFolder};
 ghost use Rattle.idx_gather_cases.specs.Ready.{AreAlike, HaveBytes, IsBegun};
 
@@ -28,7 +28,7 @@ pub(crate) const NONE: Fails = Fails {
 };
 
 /// How a run ended.
-#[derive(Clone, Copy, Debug, PartialEq, Eq)]
+#[derive(Clone, Copy, PartialEq, Eq)]
 pub(crate) struct Ended {
     /// The refusal, if there was one.
     pub(crate) refusal: Option<GatherFault>,
@@ -84,15 +84,32 @@ pub(crate) fn bay_of(
     ensures { IfOk result (IsBegun header.now) }
 {
     see_folder(rt, header);
+    let mut bay = empty_bay(alloc, fails)?;
+    begin(alloc, header, &mut bay)?;
+    Ok(bay)
+}
+
+/// An empty bay.
+fn empty_bay(alloc: Global, fails: Fails) -> Result<MemBay, NoMemory>
+    ensures { IfOk result (λ bay. bay.files ≡ []) }
+{
     let [first, second] = fails.drafts;
     let drafts = vec![in alloc; only(alloc, first)?, only(alloc, second)?]?;
     let calls = only(alloc, fails.bay)?;
-    let mut bay = MemBay::new(Bytes::new(alloc), Vec::new(alloc), calls, drafts);
+    Ok(MemBay::new(Bytes::new(alloc), Vec::new(alloc), calls, drafts))
+}
+
+/// Begins the step 0 in a bay.
+fn begin(alloc: Global, header: &Header, bay: &mut MemBay) -> Result<(), Fail>
+    requires folder { HasFolder header.now 0 }
+    requires empty { bay.old.files ≡ [] }
+    ensures { OnOk result (IsBegun header.now bay.new) }
+{
     let Some(folder) = header.step_folder(alloc, 0)? else {
         return Err(NoMemory)?;
     };
     bay.begin_step(folder.as_slice())?;
-    Ok(bay)
+    Ok(())
 }
 
 /// The number of a call that fails, alone.
@@ -123,7 +140,34 @@ pub(crate) fn run<G: Gate, R: Threads + Sync + Abort>(
     assert!(rt; raws.len() <= 256);
     let header = dataset.header(alloc, rt);
     let mut bay = bay_of(alloc, rt, &header, fails)?;
-    let refusal = gather(rt, alloc, &header, 0, raws, &mut bay, gate).err();
+    let refusal = refusal_of(rt, alloc, &header, raws, &mut bay, gate);
+    end_of(alloc, dataset, refusal, &bay)
+}
+
+/// Gathers the step 0, and tells why it was refused, if it was.
+fn refusal_of<G: Gate, R: Threads + Sync>(
+    rt: &R,
+    alloc: Global,
+    header: &Header,
+    raws: &mut Vec<MemSource>,
+    bay: &mut MemBay,
+    gate: &G,
+) -> Option<GatherFault>
+    requires some { 1 ≤ vec_len raws.old }
+    requires few { vec_len raws.old ≤ 256 }
+    requires alike { AreAlike raws.old.items }
+    requires begun { IsBegun header.now bay.old }
+{
+    gather(rt, alloc, header, 0, raws, bay, gate).err()
+}
+
+/// How a run ended that was refused so, or not, and left this bay.
+fn end_of(
+    alloc: Global,
+    dataset: &Dataset,
+    refusal: Option<GatherFault>,
+    bay: &MemBay,
+) -> Result<Ended, Fail> {
     Ok(Ended {
         refusal,
         standing: what_stands(alloc, dataset, bay.committed().as_slice())?,

@@ -83,7 +83,7 @@ fn hall_with_room(alloc: Global, rt: &impl Abort, capacity: u32) -> Result<Hall<
     let mut hall = Hall::new(alloc, capacity, 6, vec![in alloc; 1]?)?;
     let step = step_of(alloc, 0)?;
     let number = hall.publish(step, None).ok().expect(rt, "a number");
-    assert_eq!(rt; number, 0);
+    assert!(rt; number == 0);
     Ok(hall)
 }
 
@@ -227,23 +227,23 @@ fn a_time_is_published_again(rt: HostRuntime) -> Result<(), Fail> {
     fill(rt.alloc(), &mut hall, 1)?;
     fill(rt.alloc(), &mut hall, 2)?;
     fill(rt.alloc(), &mut hall, 3)?;
-    assert_eq!(rt; sizes(&hall), (4, 4, 1));
-    assert_eq!(rt; publish_again(rt.alloc(), &rt, &mut hall)?, 1);
-    assert_eq!(rt; sizes(&hall), (4, 0, 2));
-    assert_eq!(rt; fill_older(rt.alloc(), &mut hall)?, 1);
-    assert_eq!(rt; sizes(&hall), (4, 0, 2));
-    assert_eq!(rt; look_newest(rt.alloc(), &mut hall)?, (Some(1), 1));
-    assert_eq!(rt; look_older(rt.alloc(), &mut hall)?, (0, NONE));
+    assert!(rt; sizes(&hall) == (4, 4, 1));
+    assert!(rt; publish_again(rt.alloc(), &rt, &mut hall)? == 1);
+    assert!(rt; sizes(&hall) == (4, 0, 2));
+    assert!(rt; fill_older(rt.alloc(), &mut hall)? == 1);
+    assert!(rt; sizes(&hall) == (4, 0, 2));
+    assert!(rt; look_newest(rt.alloc(), &mut hall)? == (Some(1), 1));
+    assert!(rt; look_older(rt.alloc(), &mut hall)? == (0, NONE));
     Ok(())
 }
 
 #[test]
 fn a_step_that_follows_an_older_one_is_refused(rt: HostRuntime) -> Result<(), Fail> {
     let mut hall = hall_with_room(rt.alloc(), &rt, 4)?;
-    assert_eq!(rt; publish_again(rt.alloc(), &rt, &mut hall)?, 1);
-    assert_eq!(rt;
-        refused_again(rt.alloc(), &rt, &mut hall)?,
-        (PublishRefusal::AlreadyPublished { post: 1 }, 0, 2)
+    assert!(rt; publish_again(rt.alloc(), &rt, &mut hall)? == 1);
+    assert!(rt;
+        refused_again(rt.alloc(), &rt, &mut hall)?
+            == (PublishRefusal::AlreadyPublished { post: 1 }, 0, 2)
     );
     Ok(())
 }
@@ -251,9 +251,9 @@ fn a_step_that_follows_an_older_one_is_refused(rt: HostRuntime) -> Result<(), Fa
 #[test]
 fn a_time_has_one_first_step(rt: HostRuntime) -> Result<(), Fail> {
     let mut hall = hall_with_room(rt.alloc(), &rt, 4)?;
-    assert_eq!(rt;
-        refused_again(rt.alloc(), &rt, &mut hall)?,
-        (PublishRefusal::AlreadyPublished { post: 0 }, 0, 2)
+    assert!(rt;
+        refused_again(rt.alloc(), &rt, &mut hall)?
+            == (PublishRefusal::AlreadyPublished { post: 0 }, 0, 2)
     );
     Ok(())
 }
@@ -272,19 +272,16 @@ fn hall_of_three(alloc: Global, rt: &impl Abort) -> Result<Hall<Step>, Fail>
 #[test]
 fn a_look_shares_the_step(rt: HostRuntime) -> Result<(), Fail> {
     let mut hall = hall_of_three(rt.alloc(), &rt)?;
-    assert_eq!(rt; holders(rt.alloc(), &mut hall)?, 2);
+    assert!(rt; holders(rt.alloc(), &mut hall)? == 2);
     Ok(())
 }
 
 #[test]
 fn a_look_moves_blocks_to_the_front(rt: HostRuntime) -> Result<(), Fail> {
     let mut hall = hall_of_three(rt.alloc(), &rt)?;
-    assert_eq!(rt; look(rt.alloc(), &rt, &mut hall, [2, 5, 0])?, [2, NONE, 0]);
-    assert_eq!(rt; evict(&mut hall, 2), 2);
-    assert_eq!(rt;
-        look(rt.alloc(), &rt, &mut hall, [1, 2, 0])?,
-        [NONE, NONE, 0]
-    );
+    assert!(rt; look(rt.alloc(), &rt, &mut hall, [2, 5, 0])? == [2, NONE, 0]);
+    assert!(rt; evict(&mut hall, 2) == 2);
+    assert!(rt; look(rt.alloc(), &rt, &mut hall, [1, 2, 0])? == [NONE, NONE, 0]);
     Ok(())
 }
 
@@ -293,10 +290,7 @@ fn a_full_cache_keeps_the_last_blocks(rt: HostRuntime) -> Result<(), Fail> {
     let mut hall = hall_with_room(rt.alloc(), &rt, 1)?;
     fill(rt.alloc(), &mut hall, 0)?;
     fill(rt.alloc(), &mut hall, 1)?;
-    assert_eq!(rt; sizes(&hall), (1, 1, 1));
-    assert_eq!(rt;
-        look(rt.alloc(), &rt, &mut hall, [0, 1, 2])?,
-        [NONE, 1, NONE]
-    );
+    assert!(rt; sizes(&hall) == (1, 1, 1));
+    assert!(rt; look(rt.alloc(), &rt, &mut hall, [0, 1, 2])? == [NONE, 1, NONE]);
     Ok(())
 }

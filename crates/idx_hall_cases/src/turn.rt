@@ -17,12 +17,12 @@ fn one_owner_publishes_and_counts(rt: HostRuntime) -> Result<(), Fail> {
     take_and_give(&mut solo);
     one_and_other(&mut solo, &mut other);
     assert!(rt; publish(&mut solo, 6));
-    assert_eq!(rt; publish_again(&mut solo, 4), 2);
-    assert_eq!(rt; count(&mut solo), 5);
-    assert_eq!(rt; count(&mut other), 0);
+    assert!(rt; publish_again(&mut solo, 4) == 2);
+    assert!(rt; count(&mut solo) == 5);
+    assert!(rt; count(&mut other) == 0);
     let ended = solo.end();
     let times = ended.steps.iter().map(|step| step.time());
     assert!(rt; times.eq([4u64, 5, 6, 4, 4]));
-    assert_eq!(rt; ended.blocks, 3);
+    assert!(rt; ended.blocks == 3);
     Ok(())
 }

@@ -8,7 +8,7 @@ use std::alloc::Global;
 use std::test::Fail;
 
 /// What stands next, as the cases name it.
-#[derive(Clone, Copy, Debug, PartialEq)]
+#[derive(Clone, Copy, PartialEq)]
 enum Next {
     Get,
     /// A head of another method.
@@ -77,11 +77,7 @@ fn the_pieces_change_nothing(rt: HostRuntime) -> Result<(), Fail> {
         b"\r\n\nGET /a HTTP/1.1\r\nHost: x\r\n\r\nPUT /b HTTP/1.1\nContent-Length:\t00 \n\nGET / HT";
     for piece in [1, 2, 3, 8192] {
         let answers = in_pieces(rt.alloc(), input, piece)?;
-        assert_eq!(rt;
-            answers,
-            [Next::Get, Next::Other, Next::Cut(8)],
-            "by {piece}"
-        );
+        assert!(rt; answers == [Next::Get, Next::Other, Next::Cut(8)]);
     }
     Ok(())
 }
@@ -92,20 +88,26 @@ fn the_target_is_told(rt: HostRuntime) -> Result<(), Fail> {
     let input = Bytes::from_slice(alloc, b"GET /a?b HTTP/1.1\r\n\r\n")?;
     let mut link = SureLink::new(input, Vec::new(alloc));
     match read_head(alloc, &mut link, &mut Pending::new(alloc)?) {
-        HeadRead::Head(head) => assert_eq!(rt; head.target.as_slice(), b"/a?b".as_slice()),
-        other => assert!(rt; false, "{other:?}"),
+        HeadRead::Head(head) => assert!(rt; head.target.as_slice() == b"/a?b".as_slice()),
+        _ => assert!(rt; false, "a head"),
     }
     Ok(())
 }
 
 #[test]
 fn inputs_end_or_are_bad(rt: HostRuntime) -> Result<(), Fail> {
-    let alloc = rt.alloc();
-    assert_eq!(rt; first(alloc, b"")?, Next::Ended);
-    assert_eq!(rt; first(alloc, b"\x00")?, Next::Bad);
-    assert_eq!(rt; first(alloc, b"GET / HT")?, Next::Cut(8));
-    let blank = in_pieces(alloc, b"GET / HTTP/1.1\r\n\r\n\r\n", 5)?;
-    assert_eq!(rt; blank, [Next::Get, Next::Cut(2), Next::Cut(2)]);
+    for (input, next) in [
+        (b"".as_slice(), Next::Ended),
+        (b"\x00".as_slice(), Next::Bad),
+        (b"GET / HT".as_slice(), Next::Cut(8)),
+        (b"GET / HTTP/1.0\r\n\r\n".as_slice(), Next::Close),
+        (b"HEAD / HTTP/1.1\r\n\r\n".as_slice(), Next::Other),
+        (b"PUT / HTTP/1.1\r\n\r\n".as_slice(), Next::Other),
+    ] {
+        assert!(rt; first(rt.alloc(), input)? == next);
+    }
+    let blank = in_pieces(rt.alloc(), b"GET / HTTP/1.1\r\n\r\n\r\n", 5)?;
+    assert!(rt; blank == [Next::Get, Next::Cut(2), Next::Cut(2)]);
     Ok(())
 }
 
@@ -119,7 +121,6 @@ fn with_line(alloc: Global, line: &[u8]) -> Result<Next, Fail> {
 
 #[test]
 fn heads_say_what_they_ask(rt: HostRuntime) -> Result<(), Fail> {
-    let alloc = rt.alloc();
     let lines = [
         (b"Content-Length:".as_slice(), Next::Body),
         (b"content-length: 0,0".as_slice(), Next::Body),
@@ -130,11 +131,8 @@ fn heads_say_what_they_ask(rt: HostRuntime) -> Result<(), Fail> {
         (b"Connection: closed".as_slice(), Next::Get),
     ];
     for (line, want) in lines {
-        assert_eq!(rt; with_line(alloc, line)?, want);
+        assert!(rt; with_line(rt.alloc(), line)? == want);
     }
-    assert_eq!(rt; first(alloc, b"GET / HTTP/1.0\r\n\r\n")?, Next::Close);
-    assert_eq!(rt; first(alloc, b"HEAD / HTTP/1.1\r\n\r\n")?, Next::Other);
-    assert_eq!(rt; first(alloc, b"PUT / HTTP/1.1\r\n\r\n")?, Next::Other);
     Ok(())
 }
 
@@ -160,24 +158,39 @@ fn with_bytes(alloc: Global, count: usize, end: &[u8]) -> Result<Next, Fail> {
 }
 
 #[test]
-fn a_head_has_few_fields_and_bytes(rt: HostRuntime) -> Result<(), Fail> {
-    let alloc = rt.alloc();
-    assert_eq!(rt; with_fields(alloc, 64, b"\n")?, Next::Get);
-    assert_eq!(rt; with_fields(alloc, 65, b"\n")?, Next::TooBig);
-    assert_eq!(rt; with_fields(alloc, 65, b"")?, Next::Cut(210));
-    assert_eq!(rt; with_bytes(alloc, 8190, b"\n\n")?, Next::Get);
-    assert_eq!(rt; with_bytes(alloc, 8191, b"\n\n")?, Next::TooBig);
-    assert_eq!(rt; with_bytes(alloc, 8192, b"")?, Next::TooBig);
-    assert_eq!(rt; with_bytes(alloc, 8191, b"")?, Next::Cut(8191));
+fn a_head_has_few_fields(rt: HostRuntime) -> Result<(), Fail> {
+    for (count, end, next) in [
+        (64, b"\n".as_slice(), Next::Get),
+        (65, b"\n".as_slice(), Next::TooBig),
+        (65, b"".as_slice(), Next::Cut(210)),
+    ] {
+        assert!(rt; with_fields(rt.alloc(), count, end)? == next);
+    }
     Ok(())
 }
 
 #[test]
-fn a_fault_is_answered_and_leaves_the_input(rt: HostRuntime) -> Result<(), Fail> {
-    let alloc = rt.alloc();
+fn a_head_has_few_bytes(rt: HostRuntime) -> Result<(), Fail> {
+    for (count, end, next) in [
+        (8190, b"\n\n".as_slice(), Next::Get),
+        (8191, b"\n\n".as_slice(), Next::TooBig),
+        (8192, b"".as_slice(), Next::TooBig),
+        (8191, b"".as_slice(), Next::Cut(8191)),
+    ] {
+        assert!(rt; with_bytes(rt.alloc(), count, end)? == next);
+    }
+    Ok(())
+}
+
+/// A link of one head, whose second call fails.
+fn failing_link(alloc: Global) -> Result<MemLink, Fail> {
     let input = Bytes::from_slice(alloc, b"GET / HTTP/1.1\r\n\r\n")?;
-    let mut link = MemLink::new(input, vec![in alloc; 5]?, vec![in alloc; 2]?);
-    let answers = three(alloc, &mut link)?;
-    assert_eq!(rt; answers, [Next::Fault(1), Next::Get, Next::Ended]);
+    Ok(MemLink::new(input, vec![in alloc; 5]?, vec![in alloc; 2]?))
+}
+
+#[test]
+fn a_fault_is_answered_and_leaves_the_input(rt: HostRuntime) -> Result<(), Fail> {
+    let answers = three(rt.alloc(), &mut failing_link(rt.alloc())?)?;
+    assert!(rt; answers == [Next::Fault(1), Next::Get, Next::Ended]);
     Ok(())
 }

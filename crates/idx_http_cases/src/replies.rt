@@ -37,6 +37,6 @@ fn a_head_stands_behind_what_was_there(rt: HostRuntime) -> Result<(), Fail> {
     let allow = (b"Allow".as_slice(), b"GET".as_slice());
     let close = (b"Connection".as_slice(), b"close".as_slice());
     let out = reply_of(rt.alloc(), &[allow, close])?;
-    assert_eq!(rt; out.as_slice(), WANT);
+    assert!(rt; out.as_slice() == WANT);
     Ok(())
 }

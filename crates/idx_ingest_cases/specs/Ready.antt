@@ -1,5 +1,5 @@
 -- The raw volumes, the bay and the seat of a run.
-use Rattle.std.specs.Prelude.{◌≡◌, ℕ, true, List, [], Option, Some, All}
+use Rattle.std.specs.Prelude.{◌≡◌, ℕ, true, List, [], length, Option, Some, All}
 use Rattle.idx_header.specs.Header.{HeaderValue, at_revision}
 use Rattle.idx_header.specs.Names.{step_folder}
 use Rattle.idx_layout.specs.Shape.{shape_of}
@@ -31,3 +31,10 @@ pub record IsWriter (lock : LockId) (h : HeaderValue) (seat : SeatValue) : Type 
   pub of : seat.lock ≡ lock
   pub writes : seat.writer ≡ true
   pub shape : seat.seen.shape ≡ shape_of h
+
+-- the step can be ingested at it out of the raw volumes into the bay
+pub record CanIngest (lock : LockId) (h : HeaderValue) (time : ℕ) (seat : SeatValue) (raws : List SourceState) (bay : BayState) : Type 0 where
+  pub writer : IsWriter lock h seat
+  pub alike : AreAlike raws
+  pub number : length raws ≡ 2
+  pub begun : IsBegun h time bay

@@ -1,7 +1,7 @@
 //! Steps that are published, or why they are not.
-ghost use Rattle.std.specs.Prelude.{◌≡◌, IfOk, vec_len};
+ghost use Rattle.std.specs.Prelude.{◌≡◌, true, IfOk, vec_len};
 ghost use Rattle.idx_layout.specs.Shape.{shape_of};
-ghost use Rattle.idx_ingest_cases.specs.Ready.{AreAlike, HaveBytes, IsBegun, IsWriter};
+ghost use Rattle.idx_ingest_cases.specs.Ready.{AreAlike, CanIngest, HaveBytes, IsBegun, IsWriter};
 
 use idx_edition::{Edition, block_lengths};
 use idx_gather::GatherFault;
@@ -75,7 +75,7 @@ fn hall_of(alloc: Global, header: &Header) -> Result<Hall<Edition<MemLeaf>>, NoM
     Hall::new(alloc, 4, header.block_count(), lengths)
 }
 
-/// A dataset whose step 0 was ingested: in a hall behind a lock, with the writer's seat.
+/// A dataset with a hall behind a lock, and the writer's seat.
 #[derive(Drop)]
 struct Stage {
     site: Site,
@@ -83,23 +83,115 @@ struct Stage {
     writer: Seat<Hall<Edition<MemLeaf>>>,
 }
 
+/// The dataset `v` of this header, of which no step is published.
+fn stage_with(alloc: Global, header: Header) -> Result<Stage, Fail>
+    ensures header { IfOk result (λ stage. stage.site.header ≡ header) }
+    ensures writer { IfOk result (λ stage. IsWriter stage.lock header stage.writer) }
+{
+    let hall = hall_of(alloc, &header)?;
+    let name = Bytes::from_slice(alloc, b"v")?;
+    match TurnLock::new(alloc, hall) {
+        Ok((lock, writer)) => {
+            let site = Site { header, name };
+            Ok(Stage { site, lock, writer })
+        }
+        Err(_) => Err(Fail::from("no memory")),
+    }
+}
+
+/// Ingests the first revision of a step at the writer's seat, and gives the seat back.
+fn ingest_at<R: Threads + Wait + Sync>(
+    rt: &R,
+    alloc: Global,
+    site: &Site,
+    lock: &TurnLock<Hall<Edition<MemLeaf>>>,
+    writer: Seat<Hall<Edition<MemLeaf>>>,
+    time: u64,
+    raws: &mut Vec<MemSource>,
+    bay: &mut MemBay,
+) -> (Seat<Hall<Edition<MemLeaf>>>, IngestEnd)
+    requires { CanIngest lock.now site.now.header time writer raws.old.items bay.old }
+    ensures { IsWriter lock.now site.now.header result.0 }
+{
+    ingest(rt, alloc, site, lock, writer, time, 0, raws, bay, &FreeGate)
+}
+
+/// How the step 0 of a dataset is ingested out of two raw volumes of these bytes, and how many files stand then.
+fn ingested<R: Threads + Wait + Sync + Abort>(
+    rt: &R,
+    alloc: Global,
+    bytes: &[u8],
+) -> Result<(Stage, IngestEnd, usize), Fail>
+    ensures { IfOk result (λ made. IsWriter made.0.lock made.0.site.header made.0.writer) }
+{
+    let header = Header::read(alloc, HEADER).ok().expect(rt, "a header");
+    let mut raws = raws_of(alloc, bytes)?;
+    let mut bay = bay_of(alloc, rt, &header, 0)?;
+    let Stage { site, lock, writer } = stage_with(alloc, header)?;
+    let (writer, end) = ingest_at(rt, alloc, &site, &lock, writer, 0, &mut raws, &mut bay);
+    let files = bay.committed().len();
+    Ok((Stage { site, lock, writer }, end, files))
+}
+
+/// Such a dataset, whose step 0 has the bytes 0 to 15.
 fn stage_of<R: Threads + Wait + Sync + Abort>(rt: &R, alloc: Global) -> Result<Stage, Fail>
     ensures { IfOk result (λ stage. IsWriter stage.lock stage.site.header stage.writer) }
 {
-    let header = Header::read(alloc, HEADER).ok().expect(rt, "a header");
-    let hall = hall_of(alloc, &header)?;
-    let mut bay = bay_of(alloc, rt, &header, 0)?;
-    let mut raws = raws_of(alloc, &RAW)?;
-    let name = Bytes::from_slice(alloc, b"v")?;
-    let site = Site { header, name };
-    let Ok((lock, writer)) = TurnLock::new(alloc, hall) else {
-        return Err(Fail::from("no memory"));
-    };
-    let (writer, end) = ingest(
-        rt, alloc, &site, &lock, writer, 0, 0, &mut raws, &mut bay, &FreeGate,
-    );
-    assert_eq!(rt; end, IngestEnd::Published { post: 0 });
-    Ok(Stage { site, lock, writer })
+    let (stage, end, _) = ingested(rt, alloc, &RAW)?;
+    assert!(rt; end == IngestEnd::Published { post: 0 });
+    Ok(stage)
+}
+
+/// How many steps are published behind a lock.
+fn steps_in<R: Wait>(
+    rt: &R,
+    lock: &TurnLock<Hall<Edition<MemLeaf>>>,
+    seat: Seat<Hall<Edition<MemLeaf>>>,
+) -> u64
+    requires lock { seat.lock ≡ lock.now }
+    requires writer { seat.writer ≡ true }
+{
+    let mut chair = lock.chair(rt, seat);
+    let held = chair.take();
+    let steps = held.get().board_len();
+    chair.give(held);
+    let _seat = chair.leave();
+    steps
+}
+
+/// How the step 0 is ingested out of two raw volumes of these bytes, how many files stand then, and how many steps are
+/// published.
+fn outcome_of<R: Threads + Wait + Sync + Abort>(
+    rt: &R,
+    alloc: Global,
+    bytes: &[u8],
+) -> Result<(IngestEnd, usize, u64), Fail> {
+    let (stage, end, files) = ingested(rt, alloc, bytes)?;
+    let Stage {
+        site: _,
+        lock,
+        writer,
+    } = stage;
+    Ok((end, files, steps_in(rt, &lock, writer)))
+}
+
+/// Two doors of a link each that asks for all of the step 0, and two readers.
+fn two_of_each(alloc: Global) -> Result<(Vec<MemDoor>, Vec<MemReader>), NoMemory> {
+    let (mut doors, mut readers) = (Vec::new(alloc), Vec::new(alloc));
+    for _ in 0..2 {
+        doors.push(door_of(alloc)?)?;
+        readers.push(MemReader::new(Vec::new(alloc)))?;
+    }
+    Ok((doors, readers))
+}
+
+/// How many reads these made.
+fn reads_of(readers: &Vec<MemReader>) -> u64 {
+    let mut reads = 0u64;
+    for reader in readers {
+        reads = reads.saturating_add(reader.reads());
+    }
+    reads
 }
 
 /// What two workers come to that serve such a dataset, each at a link that asks for all of the step 0, and how many reads
@@ -109,18 +201,14 @@ fn served_by_two<G: Gate, R: Threads + Wait + Sync + Abort>(
     alloc: Global,
     gate: &G,
 ) -> Result<(Summary, u64), Fail> {
+    let (mut doors, mut readers) = two_of_each(alloc)?;
+    assert!(rt; doors.len() >= 2 && readers.len() >= 2);
     let Stage {
         site,
         lock,
         mut writer,
     } = stage_of(rt, alloc)?;
     let seat = lock.split(&mut writer);
-    let (mut doors, mut readers) = (Vec::new(alloc), Vec::new(alloc));
-    for _ in 0..2 {
-        doors.push(door_of(alloc)?)?;
-        readers.push(MemReader::new(Vec::new(alloc)))?;
-    }
-    assert!(rt; doors.len() >= 2 && readers.len() >= 2);
     let (_seat, summary) = serve(
         rt,
         alloc,
@@ -132,11 +220,7 @@ fn served_by_two<G: Gate, R: Threads + Wait + Sync + Abort>(
         2,
         gate,
     );
-    let mut reads = 0u64;
-    for reader in &readers {
-        reads = reads.saturating_add(reader.reads());
-    }
-    Ok((summary, reads))
+    Ok((summary, reads_of(&readers)))
 }
 
 /// A door of a link that asks for all of the step 0.
@@ -147,48 +231,21 @@ fn door_of(alloc: Global) -> Result<MemDoor, NoMemory> {
     Ok(MemDoor::new(links, Vec::new(alloc)))
 }
 
-/// How the step 0 is ingested out of two raw volumes of these bytes, how many files stand then, and how many steps are
-/// published.
-fn ingested<R: Threads + Wait + Sync + Abort>(
-    rt: &R,
-    alloc: Global,
-    bytes: &[u8],
-) -> Result<(IngestEnd, usize, u64), Fail> {
-    let header = Header::read(alloc, HEADER).ok().expect(rt, "a header");
-    let hall = hall_of(alloc, &header)?;
-    let mut bay = bay_of(alloc, rt, &header, 0)?;
-    let mut raws = raws_of(alloc, bytes)?;
-    let name = Bytes::from_slice(alloc, b"v")?;
-    let site = Site { header, name };
-    let Ok((lock, writer)) = TurnLock::new(alloc, hall) else {
-        return Err(Fail::from("no memory"));
-    };
-    let (writer, end) = ingest(
-        rt, alloc, &site, &lock, writer, 0, 0, &mut raws, &mut bay, &FreeGate,
-    );
-    let mut chair = lock.chair(rt, writer);
-    let held = chair.take();
-    let steps = held.get().board_len();
-    chair.give(held);
-    let _writer = chair.leave();
-    Ok((end, bay.committed().len(), steps))
-}
-
 #[test]
 fn a_step_is_published(rt: HostRuntime) -> Result<(), Fail> {
-    let ended = ingested(&rt, rt.alloc(), &RAW)?;
-    assert_eq!(rt; ended, (IngestEnd::Published { post: 0 }, 2, 1));
+    let outcome = outcome_of(&rt, rt.alloc(), &RAW)?;
+    assert!(rt; outcome == (IngestEnd::Published { post: 0 }, 2, 1));
     Ok(())
 }
 
 #[test]
 fn a_refused_step_is_not(rt: HostRuntime) -> Result<(), Fail> {
-    let ended = ingested(&rt, rt.alloc(), &RAW[..15])?;
+    let outcome = outcome_of(&rt, rt.alloc(), &RAW[..15])?;
     let why = GatherFault::RawWrongSize {
         want: 16,
         found: 15,
     };
-    assert_eq!(rt; ended, (IngestEnd::Refused { why }, 0, 0));
+    assert!(rt; outcome == (IngestEnd::Refused { why }, 0, 0));
     Ok(())
 }
 
@@ -204,8 +261,7 @@ fn workers_share_what_either_reads(rt: HostRuntime) -> Result<(), Fail> {
         );
         let (summary, reads) = served_by_two(&rt, rt.alloc(), &gate)?;
         assert!(rt; !gate.met_limit());
-        assert_eq!(rt; (summary.links, summary.replies), (2, 2));
-        assert_eq!(rt; reads, 4, "one for each block");
+        assert!(rt; (summary.links, summary.replies, reads) == (2, 2, 4));
     }
     Ok(())
 }

@@ -39,10 +39,10 @@ fn front_in_memory(alloc: Global, fails: u64) -> Result<Result<[u8; 2], Outage>,
 #[test]
 fn sources_are_read(rt: HostRuntime) -> Result<(), Fail> {
     let alloc = rt.alloc();
-    assert_eq!(rt; front_in_memory(alloc, 1)?, Err(Outage));
-    assert_eq!(rt; front_in_memory(alloc, 2)?, Ok([4, 5]));
+    assert!(rt; front_in_memory(alloc, 1)? == Err(Outage));
+    assert!(rt; front_in_memory(alloc, 2)? == Ok([4, 5]));
     let mut sure = SureSource::new(bytes_of(alloc, &[7, 8])?);
-    assert_eq!(rt; front(&mut sure), Ok([7, 8]));
+    assert!(rt; front(&mut sure) == Ok([7, 8]));
     is_sendable(&sure);
     Ok(())
 }
@@ -55,9 +55,9 @@ fn written<K: Sink>(sink: &mut K) -> [Result<(), Outage>; 3] {
 #[test]
 fn sinks_take_what_is_written(rt: HostRuntime) -> Result<(), Fail> {
     let mut sink = MemSink::new(vec![in rt.alloc(); 2]?);
-    assert_eq!(rt; written(&mut sink), [Ok(()), Err(Outage), Ok(())]);
-    assert_eq!(rt; sink.written().as_slice(), [1, 3].as_slice());
-    assert_eq!(rt; written(&mut SureSink::new()), [Ok(()); 3]);
+    assert!(rt; written(&mut sink) == [Ok(()), Err(Outage), Ok(())]);
+    assert!(rt; sink.written().as_slice() == [1, 3].as_slice());
+    assert!(rt; written(&mut SureSink::new()) == [Ok(()); 3]);
     is_sendable(&sink);
     Ok(())
 }
@@ -167,7 +167,7 @@ fn saved(
 fn a_step_stands_whole_or_not_at_all(rt: HostRuntime) -> Result<(), Fail> {
     let failed = (Err(BayFault::Outage), 0, 1);
     for (bay_call, draft_call, want) in [(9, 9, (Ok(()), 1, 0)), (4, 9, failed), (9, 2, failed)] {
-        assert_eq!(rt; saved(rt.alloc(), bay_call, draft_call)?, want);
+        assert!(rt; saved(rt.alloc(), bay_call, draft_call)? == want);
     }
     Ok(())
 }
@@ -195,9 +195,9 @@ fn front_of_file(alloc: Global, fails: u64) -> Result<Result<Option<[u8; 2]>, Ba
 #[test]
 fn what_stands_is_found_and_read(rt: HostRuntime) -> Result<(), Fail> {
     let alloc = rt.alloc();
-    assert_eq!(rt; found_in_memory(alloc)?, (bytes_of(alloc, b"text")?, true));
-    assert_eq!(rt; front_of_file(alloc, 2)?, Ok(Some([1, 2])));
-    assert_eq!(rt; front_of_file(alloc, 1)?, Err(BayFault::Outage));
+    assert!(rt; found_in_memory(alloc)? == (bytes_of(alloc, b"text")?, true));
+    assert!(rt; front_of_file(alloc, 2)? == Ok(Some([1, 2])));
+    assert!(rt; front_of_file(alloc, 1)? == Err(BayFault::Outage));
     Ok(())
 }
 
@@ -211,6 +211,6 @@ fn sure_front(alloc: Global) -> Result<Option<[u8; 2]>, Fail> {
 
 #[test]
 fn sure_forms_of_a_step_never_fail(rt: HostRuntime) -> Result<(), Fail> {
-    assert_eq!(rt; sure_front(rt.alloc())?, Some([1, 2]));
+    assert!(rt; sure_front(rt.alloc())? == Some([1, 2]));
     Ok(())
 }

@@ -137,7 +137,7 @@ fn fills_all(alloc: Global, rt: &impl Abort, text: &[u8]) -> Result<(u64, bool),
 #[test]
 fn a_block_holds_the_samples_of_its_addresses(rt: HostRuntime) -> Result<(), Fail> {
     for (text, count) in HEADERS.iter().zip([16, 16, 4, 2, 64]) {
-        assert_eq!(rt; fills_all(rt.alloc(), &rt, text)?, (count, true));
+        assert!(rt; fills_all(rt.alloc(), &rt, text)? == (count, true));
     }
     Ok(())
 }

@@ -30,6 +30,11 @@ fn text(alloc: Global, fault: Option<Fault<'_>>) -> Result<String, Fail> {
     }
 }
 
+/// Whether this is the text of a fault, or of none.
+fn is_text(alloc: Global, fault: Option<Fault<'_>>, want: &str) -> Result<bool, Fail> {
+    Ok(text(alloc, fault)?.as_str() == want)
+}
+
 fn stands(rt: &HostRuntime, path: &str) -> bool {
     fs::metadata(rt, path).is_ok()
 }
@@ -43,15 +48,16 @@ fn holds(rt: &HostRuntime, path: &str, bytes: &[u8]) -> bool {
 }
 
 /// What is no regular file, or cannot be reached, and why.
-fn no_files(alloc: Global, pipe: &str) -> Result<Vec<(String, &'static str)>, Fail> {
-    let mut paths = Vec::new(alloc);
-    for (path, reason) in [
-        ("/dev/null/source.raw", "Not a directory (os error 20)"),
-        (".", "not a regular file"),
-        ("/dev/null", "not a regular file"),
-        (pipe, "not a regular file"),
-    ] {
-        paths.push((String::from_str(alloc, path)?, reason))?;
-    }
-    Ok(paths)
+const NO_FILES: [(&str, &str); 3] = [
+    ("/dev/null/source.raw", "Not a directory (os error 20)"),
+    (".", "not a regular file"),
+    ("/dev/null", "not a regular file"),
+];
+
+/// A pipe that nobody writes to, so that to open it would wait for ever, and its path.
+fn dead_pipe(rt: &HostRuntime) -> Result<(io::PipeReader, String), Fail> {
+    let (reader, writer) = io::pipe(rt)?;
+    drop(writer);
+    let path = format!(in rt.alloc(); "/proc/self/fd/{}", reader.as_raw_fd())?;
+    Ok((reader, path))
 }

@@ -1,6 +1,6 @@
 //! How links end.
-use crate::dataset::{BASE, STEP, stage_of};
-use crate::serving::{Noted, Outcome, are_noted, link_of, serve};
+use crate::dataset::{BASE, STEP, reader_of, stage_of};
+use crate::serving::{Noted, Outcome, has_ended, link_of, serve};
 use idx_memory::MemLink;
 use idx_outside::{Bytes, NoMemory};
 use idx_session::LinkEnd;
@@ -19,18 +19,15 @@ struct Case {
 
 /// What came of a link.
 fn outcome_of(alloc: Global, rt: &impl Abort, link: MemLink) -> Result<Outcome, Fail> {
+    let reader = reader_of(alloc, &[])?;
     let stage = stage_of(alloc, rt, BASE, STEP, 4)?;
-    Ok(serve(alloc, stage, link, &[])?)
+    Ok(serve(alloc, stage, reader, link).0)
 }
 
 /// Whether a case ends as it is to.
 fn ends_as_wanted(alloc: Global, rt: &impl Abort, case: &Case) -> Result<bool, Fail> {
     let outcome = outcome_of(alloc, rt, link_of(alloc, case.input, 8192, &[])?)?;
-    Ok(
-        outcome.end == case.end
-            && outcome.link.written().as_slice() == case.written
-            && are_noted(&outcome.served, case.noted),
-    )
+    Ok(has_ended(&outcome, case.end, case.written, case.noted))
 }
 
 /// The place of the first case that does not end as it is to, if there is one.
@@ -61,7 +58,7 @@ static SILENT: [Case; 2] = [
 
 #[test]
 fn an_input_may_end_without_a_head(rt: HostRuntime) -> Result<(), Fail> {
-    assert_eq!(rt; first_other(rt.alloc(), &rt, &SILENT)?, None);
+    assert!(rt; first_other(rt.alloc(), &rt, &SILENT)?.is_none());
     Ok(())
 }
 
@@ -103,7 +100,7 @@ static OPEN: [Case; 3] = [
 
 #[test]
 fn a_refusal_leaves_the_link_open(rt: HostRuntime) -> Result<(), Fail> {
-    assert_eq!(rt; first_other(rt.alloc(), &rt, &OPEN)?, None);
+    assert!(rt; first_other(rt.alloc(), &rt, &OPEN)?.is_none());
     Ok(())
 }
 
@@ -162,7 +159,7 @@ static CLOSING: [Case; 4] = [
 
 #[test]
 fn nothing_is_answered_behind_a_closing_reply(rt: HostRuntime) -> Result<(), Fail> {
-    assert_eq!(rt; first_other(rt.alloc(), &rt, &CLOSING)?, None);
+    assert!(rt; first_other(rt.alloc(), &rt, &CLOSING)?.is_none());
     Ok(())
 }
 
@@ -186,9 +183,7 @@ fn endless(alloc: Global) -> Result<MemLink, NoMemory> {
 #[test]
 fn an_endless_head_is_refused(rt: HostRuntime) -> Result<(), Fail> {
     let outcome = outcome_of(rt.alloc(), &rt, endless(rt.alloc())?)?;
-    assert_eq!(rt; outcome.end, LinkEnd::Closed);
-    assert_eq!(rt; outcome.link.written().as_slice(), TOO_LARGE);
-    assert!(rt; are_noted(&outcome.served, &[(431, 0, 0)]));
+    assert!(rt; has_ended(&outcome, LinkEnd::Closed, TOO_LARGE, &[(431, 0, 0)]));
     Ok(())
 }
 
@@ -225,11 +220,15 @@ fn are_replies(written: &[u8], count: u16) -> bool {
     last == LAST && front.chunks(REPLY.len()).all(|reply| reply == REPLY)
 }
 
+/// Whether a link was closed behind 65,536 replies.
+fn has_all(outcome: &Outcome) -> bool {
+    outcome.end == LinkEnd::Closed
+        && outcome.served.len() == 65536
+        && are_replies(outcome.link.written().as_slice(), 65535)
+}
+
 #[test]
 fn a_link_has_65536_replies_at_most(rt: HostRuntime) -> Result<(), Fail> {
-    let outcome = outcome_of(rt.alloc(), &rt, many(rt.alloc(), 65537)?)?;
-    assert_eq!(rt; outcome.end, LinkEnd::Closed);
-    assert_eq!(rt; outcome.served.len(), 65536);
-    assert!(rt; are_replies(outcome.link.written().as_slice(), 65535));
+    assert!(rt; has_all(&outcome_of(rt.alloc(), &rt, many(rt.alloc(), 65537)?)?));
     Ok(())
 }

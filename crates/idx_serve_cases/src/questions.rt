@@ -1,9 +1,9 @@
 //! Questions that are answered on a link.
 use crate::dataset::{
     BASE, FIRST_OF_9, NEWER_OF_0, SECOND_OF_0, SECOND_OF_9, STEP, STEPS, Stage, Stored, UNTIMED,
-    stage_of, with_step,
+    reader_of, stage_of, with_step,
 };
-use crate::serving::{Noted, Outcome, are_noted, link_of, serve};
+use crate::serving::{Noted, Outcome, has_ended, link_of, serve};
 use idx_session::LinkEnd;
 use std::alloc::Global;
 use std::process::Abort;
@@ -94,18 +94,26 @@ const BOTH: Case = Case {
 
 /// What came of the link of a case, whose input comes in pieces of this length.
 fn outcome_of(alloc: Global, rt: &impl Abort, case: &Case, piece: u64) -> Result<Outcome, Fail> {
+    Ok(served(alloc, rt, case, piece)?.0)
+}
+
+/// The same, with the dataset.
+fn served(
+    alloc: Global,
+    rt: &impl Abort,
+    case: &Case,
+    piece: u64,
+) -> Result<(Outcome, Stage), Fail> {
     assert!(rt; 0 < piece);
-    let stage = stage_of(alloc, rt, case.text, case.files, case.room)?;
     let link = link_of(alloc, case.input, piece, &[])?;
-    Ok(serve(alloc, stage, link, &[case.fails])?)
+    let reader = reader_of(alloc, &[case.fails])?;
+    let stage = stage_of(alloc, rt, case.text, case.files, case.room)?;
+    Ok(serve(alloc, stage, reader, link))
 }
 
 /// Whether the link of a case came out as it was to.
 fn is_wanted(outcome: &Outcome, case: &Case) -> bool {
-    outcome.end == LinkEnd::Closed
-        && outcome.link.written().as_slice() == case.written
-        && are_noted(&outcome.served, case.noted)
-        && outcome.reads == case.reads
+    has_ended(outcome, LinkEnd::Closed, case.written, case.noted) && outcome.reads == case.reads
 }
 
 /// Whether a case comes out as it is to, where its input comes in one piece.
@@ -124,32 +132,34 @@ fn two_heads_are_answered_however_they_come(rt: HostRuntime) -> Result<(), Fail>
 
 /// The second head once the step 9 is published in the hall that both were answered out of.
 fn after_publishing(alloc: Global, rt: &impl Abort) -> Result<Outcome, Fail> {
-    let before = outcome_of(alloc, rt, &BOTH, 1)?;
-    let stage = with_step(alloc, rt, before.stage, 9, &[FIRST_OF_9, SECOND_OF_9])?;
-    Ok(serve(alloc, stage, link_of(alloc, SECOND, 1, &[])?, &[])?)
+    let link = link_of(alloc, SECOND, 1, &[])?;
+    let reader = reader_of(alloc, &[])?;
+    let (_, stage) = served(alloc, rt, &BOTH, 1)?;
+    let stage = with_step(alloc, rt, stage, 9, &[FIRST_OF_9, SECOND_OF_9])?;
+    Ok(serve(alloc, stage, reader, link).0)
 }
 
 #[test]
 fn a_step_is_served_once_it_is_published(rt: HostRuntime) -> Result<(), Fail> {
     let outcome = after_publishing(rt.alloc(), &rt)?;
-    assert_eq!(rt; outcome.link.written().as_slice(), OF_NINE);
-    assert!(rt; are_noted(&outcome.served, &[(200, 2, 0)]));
+    assert!(rt; has_ended(&outcome, LinkEnd::Closed, OF_NINE, &[(200, 2, 0)]));
     Ok(())
 }
 
 /// The first head once the step 0 is published again in the hall that both were answered out of.
 fn after_publishing_again(alloc: Global, rt: &impl Abort) -> Result<Outcome, Fail> {
-    let before = outcome_of(alloc, rt, &BOTH, 1)?;
-    let stage = with_step(alloc, rt, before.stage, 0, &[NEWER_OF_0, SECOND_OF_0])?;
-    Ok(serve(alloc, stage, link_of(alloc, FIRST, 1, &[])?, &[])?)
+    let link = link_of(alloc, FIRST, 1, &[])?;
+    let reader = reader_of(alloc, &[])?;
+    let (_, stage) = served(alloc, rt, &BOTH, 1)?;
+    let stage = with_step(alloc, rt, stage, 0, &[NEWER_OF_0, SECOND_OF_0])?;
+    Ok(serve(alloc, stage, reader, link).0)
 }
 
 #[test]
 fn the_newest_step_of_a_time_is_served(rt: HostRuntime) -> Result<(), Fail> {
     let outcome = after_publishing_again(rt.alloc(), &rt)?;
-    assert_eq!(rt; outcome.link.written().as_slice(), OF_NEWER);
-    assert!(rt; are_noted(&outcome.served, &[(200, 2, 0)]));
-    assert_eq!(rt; outcome.reads, 1);
+    assert!(rt; has_ended(&outcome, LinkEnd::Closed, OF_NEWER, &[(200, 2, 0)]));
+    assert!(rt; outcome.reads == 1);
     Ok(())
 }
 

@@ -2,44 +2,42 @@
 ghost use Rattle.std.specs.Prelude.{◌≡◌, ◌<◌, [], IfOk, length, replicate};
 ghost use Rattle.idx_memory.specs.Memory.{untouched};
 
-use crate::dataset::{Stage, reader_of};
-use idx_memory::MemLink;
+use crate::dataset::Stage;
+use idx_memory::{MemLink, MemReader};
 use idx_outside::{Bytes, NoMemory, Served};
 use idx_serve::serve_link;
 use idx_session::LinkEnd;
 use idx_turn::Solo;
 use std::alloc::Global;
 
-/// What came of a link: how it ended, the link, its entries, how many reads were tried, and the dataset.
+/// What came of a link: how it ended, the link, its entries, and how many reads were tried.
 #[derive(Drop)]
 pub struct Outcome {
     pub end: LinkEnd,
     pub link: MemLink,
     pub served: Vec<Served>,
     pub reads: u64,
-    pub stage: Stage,
 }
 
-/// Serves a link, with a reader of which these calls fail.
+/// Serves a link, and gives the dataset back.
 pub fn serve(
     alloc: Global,
     stage: Stage,
+    mut reader: MemReader,
     mut link: MemLink,
-    fails: &[u64],
-) -> Result<Outcome, NoMemory> {
-    let mut reader = reader_of(alloc, fails)?;
+) -> (Outcome, Stage) {
     let mut served = Vec::new(alloc);
     let Stage { site, hall } = stage;
     let mut solo = Solo::new(hall);
     let end = serve_link(alloc, &site, &mut solo, &mut reader, &mut link, &mut served);
-    let hall = solo.end();
-    Ok(Outcome {
+    let outcome = Outcome {
         end,
         link,
         served,
         reads: reader.reads(),
-        stage: Stage { site, hall },
-    })
+    };
+    let hall = solo.end();
+    (outcome, Stage { site, hall })
 }
 
 /// A link whose input comes in pieces of this length, and of whose calls these fail.
@@ -54,6 +52,13 @@ pub fn link_of(alloc: Global, input: &[u8], piece: u64, fails: &[u64]) -> Result
     let pieces = vec![in alloc; piece; input.len()]?;
     let fails = Vec::from_slice(alloc, fails)?;
     Ok(MemLink::new(Bytes::from_slice(alloc, input)?, pieces, fails))
+}
+
+/// Whether a link has ended so, with these bytes written and these entries.
+pub fn has_ended(outcome: &Outcome, end: LinkEnd, written: &[u8], noted: &[Noted]) -> bool {
+    outcome.end == end
+        && outcome.link.written().as_slice() == written
+        && are_noted(&outcome.served, noted)
 }
 
 /// What is noted of a head, its target apart: the status, the board, and the faults.

@@ -31,23 +31,30 @@ fn square_mask(rt: &impl Abort) -> Mask
     Mask::parse(b"V0101").ok().expect(rt, "a mask")
 }
 
+/// The first point of a grid and its step.
+fn parts(grid: &Grid) -> [(u64, u64); 2]
+    requires first { length grid.now.first ≡ 2 }
+    requires step { length grid.now.step ≡ 2 }
+{
+    [coordinates(&grid.first), coordinates(&grid.step)]
+}
+
 #[test]
 fn a_level_is_a_grid(rt: HostRuntime) {
-    let mask = square_mask(&rt);
-    let grid = grid_at(&mask, 2, 3);
-    assert_eq!(rt; coordinates(&grid.first), (1, 0));
-    assert_eq!(rt; coordinates(&grid.step), (2, 2));
-    assert_eq!(rt; count_in(&region(&rt, (1, 1), (2, 3)), &grid), 1);
-    assert_eq!(rt; count_in(&region(&rt, (1, 2), (1, 2)), &grid), 1);
+    let grid = grid_at(&square_mask(&rt), 2, 3);
+    assert!(rt; parts(&grid) == [(1, 0), (2, 2)]);
+    for (lo, hi) in [((1, 1), (2, 3)), ((1, 2), (1, 2))] {
+        assert!(rt; count_in(&region(&rt, lo, hi), &grid) == 1);
+    }
 }
 
 #[test]
 fn the_coarsest_grid_is_the_origin(rt: HostRuntime) {
     let grid = grid_up_to(&square_mask(&rt), 2, 0);
-    assert_eq!(rt; coordinates(&grid.first), (0, 0));
-    assert_eq!(rt; coordinates(&grid.step), (4, 4));
-    assert_eq!(rt; count_in(&region(&rt, (0, 0), (3, 3)), &grid), 1);
-    assert_eq!(rt; count_in(&region(&rt, (1, 0), (3, 3)), &grid), 0);
+    assert!(rt; parts(&grid) == [(0, 0), (4, 4)]);
+    for (lo, count) in [((0, 0), 1), ((1, 0), 0)] {
+        assert!(rt; count_in(&region(&rt, lo, (3, 3)), &grid) == count);
+    }
 }
 
 #[test]
@@ -56,19 +63,35 @@ fn a_step_of_zero_stays_at_the_first_point(rt: HostRuntime) {
         first: point(&rt, 1, 0),
         step: point(&rt, 0, 2),
     };
-    assert_eq!(rt; count_in(&region(&rt, (0, 0), (3, 3)), &grid), 2);
+    assert!(rt; count_in(&region(&rt, (0, 0), (3, 3)), &grid) == 2);
+}
+
+/// The levels of a block of four addresses, and how many points its grid has in its box.
+fn levels_and_points(mask: &Mask, block: u64) -> ((u32, u32), u64)
+    requires mask { mask.now ≡ 0 ∷ 1 ∷ 0 ∷ 1 ∷ [] }
+    requires block { block < 4 }
+{
+    let shape = shape(mask, 2, 2, block);
+    (
+        (shape.lo_level, shape.hi_level),
+        count_in(&shape.region, &shape.grid),
+    )
+}
+
+/// The ends of the box of a block of four addresses.
+fn ends(mask: &Mask, block: u64) -> [(u64, u64); 2]
+    requires mask { mask.now ≡ 0 ∷ 1 ∷ 0 ∷ 1 ∷ [] }
+    requires block { block < 4 }
+{
+    let region = shape(mask, 2, 2, block).region;
+    [coordinates(&region.lo()), coordinates(&region.hi())]
 }
 
 #[test]
 fn blocks_have_levels_and_boxes(rt: HostRuntime) {
     let mask = square_mask(&rt);
-    let first = shape(&mask, 2, 2, 0);
-    assert_eq!(rt; (first.lo_level, first.hi_level), (0, 2));
-    assert_eq!(rt; count_in(&first.region, &first.grid), 4);
-    let last = shape(&mask, 2, 2, 3);
-    assert_eq!(rt; (last.lo_level, last.hi_level), (4, 4));
-    assert_eq!(rt; coordinates(&last.region.lo()), (2, 0));
-    assert_eq!(rt; coordinates(&last.region.hi()), (3, 3));
-    assert_eq!(rt; count_in(&last.region, &last.grid), 4);
-    assert_eq!(rt; prefix_box(&mask, 2, 4, 15).count(), 1);
+    assert!(rt; levels_and_points(&mask, 0) == ((0, 2), 4));
+    assert!(rt; levels_and_points(&mask, 3) == ((4, 4), 4));
+    assert!(rt; ends(&mask, 3) == [(2, 0), (3, 3)]);
+    assert!(rt; prefix_box(&mask, 2, 4, 15).count() == 1);
 }

@@ -1,5 +1,3 @@
-ghost use Rattle.std.specs.Prelude.{◌≡◌, ◌<◌, ◌∷◌, []};
-
 use idx_geom::{Point, Region};
 use idx_hz::{Mask, MaskFault, guess};
 use std::test::Fail;
@@ -12,52 +10,55 @@ fn fault_of(text: &[u8]) -> Option<MaskFault> {
 fn tells_why_a_text_is_no_mask(rt: HostRuntime) {
     let mut long = [b'0'; 42];
     long[0] = b'V';
-    assert_eq!(rt; fault_of(b""), Some(MaskFault::NoV));
-    assert_eq!(rt; fault_of(b"X0"), Some(MaskFault::NoV));
-    assert_eq!(rt; fault_of(b"V"), Some(MaskFault::Empty));
-    assert_eq!(rt; fault_of(b"V09"), Some(MaskFault::BadDigit { at: 2 }));
-    assert_eq!(rt; fault_of(&long), Some(MaskFault::TooLong));
-    assert_eq!(rt; fault_of(&long[..41]), None);
+    for (text, fault) in [
+        (b"".as_slice(), Some(MaskFault::NoV)),
+        (b"X0".as_slice(), Some(MaskFault::NoV)),
+        (b"V".as_slice(), Some(MaskFault::Empty)),
+        (b"V09".as_slice(), Some(MaskFault::BadDigit { at: 2 })),
+        (&long, Some(MaskFault::TooLong)),
+        (&long[..41], None),
+    ] {
+        assert!(rt; fault_of(text) == fault);
+    }
     assert!(rt; MaskFault::BadDigit { at: 1 } != MaskFault::BadDigit { at: 2 });
 }
 
-/// The Z address, the level and the hierarchical address of a point, for a mask of two axes with two bits each.
-fn addresses_of(mask: &Mask, first: u64, second: u64) -> Option<(u64, u32, u64)>
-    requires mask { mask.now ≡ 0 ∷ 1 ∷ 0 ∷ 1 ∷ [] }
-    requires first { first < 4 }
-    requires second { second < 4 }
-{
-    let p = Point::new(&[first, second])?;
+/// Points of a mask of two axes with two bits each, with their Z addresses, their levels and their hierarchical addresses.
+const ADDRESSES: [([u64; 2], (u64, u32, u64)); 4] = [
+    ([0, 0], (0, 0, 0)),
+    ([2, 2], (12, 2, 3)),
+    ([1, 1], (3, 4, 9)),
+    ([3, 3], (15, 4, 15)),
+];
+
+/// The Z address, the level and the hierarchical address of a point that has them.
+fn addresses_of(mask: &Mask, coordinates: [u64; 2]) -> Option<(u64, u32, u64)> {
+    let p = Point::new(&coordinates)?;
+    if !mask.has_address(&p) {
+        return None;
+    }
     let z = mask.z_of(&p);
     Some((z, mask.level_of(z), mask.hz_of(&p)))
 }
 
-/// The coordinates of two points, for a mask of two axes with two bits each: at a hierarchical address, and at a Z
-/// address.
-fn points_at(mask: &Mask, hz: u64, z: u64) -> [(u64, u64); 2]
-    requires mask { mask.now ≡ 0 ∷ 1 ∷ 0 ∷ 1 ∷ [] }
-    requires hz { hz < 16 }
-    requires z { z < 16 }
-{
-    let by_hz = mask.point_of_hz(hz, 2);
-    let by_z = mask.point_of_z(z, 2);
-    [(by_hz.get(0), by_hz.get(1)), (by_z.get(0), by_z.get(1))]
+/// The coordinates of the points at a Z address and at a hierarchical address, where a mask of two axes has these.
+fn points_at(mask: &Mask, z: u64, hz: u64) -> Option<[[u64; 2]; 2]> {
+    let end = 1 << mask.len();
+    if !mask.names_axes(2) || end <= z || end <= hz {
+        return None;
+    }
+    let (by_z, by_hz) = (mask.point_of_z(z, 2), mask.point_of_hz(hz, 2));
+    Some([[by_z.get(0), by_z.get(1)], [by_hz.get(0), by_hz.get(1)]])
 }
 
 #[test]
 fn addresses_a_grid_of_four_by_four(rt: HostRuntime) -> Result<(), Fail> {
     let mask = Mask::parse(b"V0101").map_err(|_| "no mask")?;
-    assert_eq!(rt; mask.len(), 4);
-    assert_eq!(rt; mask.bits(0), 2);
-    assert_eq!(rt; mask.axis(1), 0);
-    assert_eq!(rt; mask.axis(4), 1);
-    assert_eq!(rt; addresses_of(&mask, 0, 0), Some((0, 0, 0)));
-    assert_eq!(rt; addresses_of(&mask, 2, 2), Some((12, 2, 3)));
-    assert_eq!(rt; addresses_of(&mask, 1, 1), Some((3, 4, 9)));
-    assert_eq!(rt; addresses_of(&mask, 3, 3), Some((15, 4, 15)));
-    assert_eq!(rt; points_at(&mask, 0, 0), [(0, 0), (0, 0)]);
-    assert_eq!(rt; points_at(&mask, 3, 12), [(2, 2), (2, 2)]);
-    assert_eq!(rt; points_at(&mask, 15, 3), [(3, 3), (1, 1)]);
+    assert!(rt; (mask.len(), mask.bits(0), mask.axis(1), mask.axis(4)) == (4, 2, 0, 1));
+    for (p, (z, level, hz)) in ADDRESSES {
+        assert!(rt; addresses_of(&mask, p) == Some((z, level, hz)));
+        assert!(rt; points_at(&mask, z, hz) == Some([p, p]));
+    }
     Ok(())
 }
 
@@ -83,9 +84,13 @@ fn guess_up_to(first: u64, second: u64) -> Option<Mask> {
 
 #[test]
 fn guesses_masks(rt: HostRuntime) {
-    assert_eq!(rt; guess_up_to(7, 1), Mask::parse(b"V0001").ok());
-    assert_eq!(rt; guess_up_to(2, 2), Mask::parse(b"V0101").ok());
-    assert_eq!(rt; guess_up_to(4, 0), Mask::parse(b"V000").ok());
-    assert_eq!(rt; guess_up_to(0, 0), None);
+    for (first, second, text) in [
+        (7, 1, b"V0001".as_slice()),
+        (2, 2, b"V0101".as_slice()),
+        (4, 0, b"V000".as_slice()),
+        (0, 0, b"".as_slice()),
+    ] {
+        assert!(rt; guess_up_to(first, second) == Mask::parse(text).ok());
+    }
     assert!(rt; guess_up_to(7, 1) != guess_up_to(2, 2));
 }

@@ -70,10 +70,10 @@ fn samples_of_each_size_are_gathered(rt: HostRuntime) -> Result<(), Fail> {
 #[test]
 fn halves_hold_one_half_each(rt: HostRuntime) -> Result<(), Fail> {
     let walk = finer(1);
-    assert_eq!(rt; (walk.first(), walk.end(), walk.count()), (0, 16, 12));
+    assert!(rt; (walk.first(), walk.end(), walk.count()) == (0, 16, 12));
     let (front, behind) = walk.halves().expect(&rt, "halves");
-    assert_eq!(rt; (front.count(), behind.first(), behind.count()), (6, 8, 6));
+    assert!(rt; (front.count(), behind.first(), behind.count()) == (6, 8, 6));
     assert!(rt; !walk.is_dense());
-    assert_eq!(rt; walk.widest_gap(), 0);
+    assert!(rt; walk.widest_gap() == 0);
     Ok(())
 }

@@ -130,7 +130,7 @@ fn a_message_says_what_helps(rt: HostRuntime) -> Result<(), Fail> {
         (split, Cause::Done, Some(fault), ""),
     ] {
         let shown = printed(rt.alloc(), line, cause, fault)?;
-        assert_eq!(rt; shown.as_slice(), want.as_bytes());
+        assert!(rt; shown.as_slice() == want.as_bytes());
     }
     Ok(())
 }
@@ -147,7 +147,7 @@ fn a_name_stays_on_its_line(rt: HostRuntime) -> Result<(), Fail> {
     let want = "idxtool: not published 5\n  \
         a\\n\\x1b[2J\\u{85}é.idx: the step has not been written, or is none of its steps\n  \
         b\\x07: not a regular file\n";
-    assert_eq!(rt; shown.as_slice(), want.as_bytes());
+    assert!(rt; shown.as_slice() == want.as_bytes());
     Ok(())
 }
 
@@ -156,8 +156,8 @@ fn help_is_asked_for_alone(rt: HostRuntime) -> Result<(), Fail> {
     let words = words_in(rt.alloc(), "--version")?;
     let text = text_asked_for(&words).expect(&rt, "a text");
     let mut out = MemSink::new(Vec::new(rt.alloc()));
-    assert_eq!(rt; write_text(&mut out, text).status, 0);
-    assert_eq!(rt; out.written().as_slice(), b"idxtool 0.1.0\n".as_slice());
+    assert!(rt; write_text(&mut out, text).status == 0);
+    assert!(rt; out.written().as_slice() == b"idxtool 0.1.0\n".as_slice());
     assert!(rt; text_asked_for(&words_in(rt.alloc(), "--help")?).is_some());
     assert!(rt; text_asked_for(&words_in(rt.alloc(), "--help|cut")?).is_none());
     assert!(rt; text_asked_for(&words_in(rt.alloc(), "cut|r.raw")?).is_none());
@@ -174,7 +174,7 @@ fn a_notice_is_one_line(rt: HostRuntime) -> Result<(), Fail> {
     write_notice(&mut err, address, Some(2), "a\nb.idx")?;
     write_notice(&mut err, address, None, "v.idx")?;
     let want = "  listening on [::1]:8080, 2 steps of a\\nb.idx\n  listening on [::1]:8080\n";
-    assert_eq!(rt; err.as_slice(), want.as_bytes());
+    assert!(rt; err.as_slice() == want.as_bytes());
     Ok(())
 }
 
@@ -183,7 +183,7 @@ fn a_conversion_says_what_it_converts(rt: HostRuntime) -> Result<(), Fail> {
     let mut err = Vec::new(rt.alloc());
     write_work(&mut err, "a\tb.raw", "v.idx", 4)?;
     let want = "  converting a\\tb.raw into v.idx, 4 ranks";
-    assert_eq!(rt; err.as_slice(), want.as_bytes());
+    assert!(rt; err.as_slice() == want.as_bytes());
     Ok(())
 }
 
@@ -221,7 +221,7 @@ fn the_steps_that_stand_are_counted(rt: HostRuntime) -> Result<(), Fail> {
         (TIMED, 1, None),
         (TIMED, 11, None),
     ] {
-        assert_eq!(rt; counted(rt.alloc(), header, fails)?, want);
+        assert!(rt; counted(rt.alloc(), header, fails)? == want);
     }
     Ok(())
 }
@@ -236,7 +236,7 @@ fn links_are_shared_out(rt: HostRuntime) -> Result<(), Fail> {
         (None, 4, 3, None),
     ] {
         assert!(rt; worker < workers);
-        assert_eq!(rt; share_of(links, workers, worker), want);
+        assert!(rt; share_of(links, workers, worker) == want);
     }
     Ok(())
 }
@@ -250,7 +250,7 @@ fn a_raw_volume_is_found_among_options(rt: HostRuntime) -> Result<(), Fail> {
         ("cut|r.raw", "r.raw"),
     ] {
         let words = words_in(rt.alloc(), line)?;
-        assert_eq!(rt; raw_path(&words), want);
+        assert!(rt; raw_path(&words) == want);
     }
     Ok(())
 }

@@ -52,10 +52,10 @@ fn input_comes_in_its_pieces(rt: HostRuntime) -> Result<(), Fail> {
     let alloc = rt.alloc();
     let whole = Bytes::from_slice(alloc, b"abcdefghi")?;
     let counts = [Ok(1), Ok(2), Ok(3), Ok(3), Ok(0)];
-    assert_eq!(rt; echoed(alloc, &[1, 2, 3], &[])?, (counts, whole));
+    assert!(rt; echoed(alloc, &[1, 2, 3], &[])? == (counts, whole));
     let whole = Bytes::from_slice(alloc, b"abcdefghi")?;
     let counts = [Ok(4), Ok(1), Ok(4), Ok(0), Ok(0)];
-    assert_eq!(rt; echoed(alloc, &[6, 1], &[])?, (counts, whole));
+    assert!(rt; echoed(alloc, &[6, 1], &[])? == (counts, whole));
     Ok(())
 }
 
@@ -64,13 +64,10 @@ fn listed_calls_of_a_link_fail(rt: HostRuntime) -> Result<(), Fail> {
     let alloc = rt.alloc();
     let all_but_the_first = Bytes::from_slice(alloc, b"bcdefghi")?;
     let answers = [Err(Outage), Ok(2), Ok(3), Ok(3), Ok(0)];
-    assert_eq!(rt;
-        echoed(alloc, &[1, 2, 3], &[2])?,
-        (answers, all_but_the_first)
-    );
+    assert!(rt; echoed(alloc, &[1, 2, 3], &[2])? == (answers, all_but_the_first));
     let whole = Bytes::from_slice(alloc, b"abcdefghi")?;
     let answers = [Ok(1), Err(Outage), Ok(2), Ok(3), Ok(3)];
-    assert_eq!(rt; echoed(alloc, &[1, 2, 3], &[3])?, (answers, whole));
+    assert!(rt; echoed(alloc, &[1, 2, 3], &[3])? == (answers, whole));
     Ok(())
 }
 
@@ -136,11 +133,11 @@ fn links_come_back_in_order(rt: HostRuntime) -> Result<(), Fail> {
     ]?;
     let mut door = MemDoor::new(links, vec![in alloc; 2]?);
     let answers = [Ok(Some(1)), Err(Outage), Ok(Some(2)), Ok(None)];
-    assert_eq!(rt; serve(alloc, &mut door)?, answers);
+    assert!(rt; serve(alloc, &mut door)? == answers);
     let first = (Bytes::from_slice(alloc, b"a")?, 200);
     let second = (Bytes::from_slice(alloc, b"bc")?, 404);
-    assert_eq!(rt; came_back(alloc, &door)?, vec![in alloc; first, second]?);
-    assert_eq!(rt; handed_out(&door), (2, 0));
+    assert!(rt; came_back(alloc, &door)? == vec![in alloc; first, second]?);
+    assert!(rt; handed_out(&door) == (2, 0));
     is_sent(&door);
     Ok(())
 }
@@ -150,13 +147,10 @@ fn sure_doors_and_links_never_fail(rt: HostRuntime) -> Result<(), Fail> {
     let alloc = rt.alloc();
     let input = Bytes::from_slice(alloc, b"abcdefghi")?;
     let mut link = SureLink::new(input, Vec::from_slice(alloc, &[6, 1])?);
-    assert_eq!(rt; echoes(&mut link), [Ok(4), Ok(1), Ok(4), Ok(0), Ok(0)]);
+    assert!(rt; echoes(&mut link) == [Ok(4), Ok(1), Ok(4), Ok(0), Ok(0)]);
     let input = Bytes::from_slice(alloc, b"abc")?;
     let mut door = SureDoor::new(vec![in alloc; SureLink::new(input, Vec::new(alloc))]?);
-    assert_eq!(rt;
-        serve(alloc, &mut door)?,
-        [Ok(Some(3)), Ok(None), Ok(None), Ok(None)]
-    );
+    assert!(rt; serve(alloc, &mut door)? == [Ok(Some(3)), Ok(None), Ok(None), Ok(None)]);
     is_sent(&door);
     Ok(())
 }

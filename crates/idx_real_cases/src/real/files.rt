@@ -33,10 +33,6 @@ fn reaches(file: &mut FileSource<HostRuntime>, at: u64) -> bool {
     file.read_at(at, &mut []).is_ok()
 }
 
-fn said(alloc: Global, file: &FileSource<HostRuntime>) -> Result<String, Fail> {
-    text(alloc, file.last_fault())
-}
-
 /// So many bytes, no two neighbours alike.
 fn long_bytes(alloc: Global, count: u64) -> Result<Vec<u8>, Fail> {
     let mut bytes = Vec::new(alloc);
@@ -65,65 +61,91 @@ fn bytes_in_memory_are_read_by_places(rt: HostRuntime) {
     let mut cursor = Cursor::new([1u8, 2, 3].as_slice());
     let mut into = [0u8; 2];
     assert!(rt; read_in_memory(&mut cursor, 1, &mut into).is_ok());
-    assert_eq!(rt; into, [2, 3]);
+    assert!(rt; into == [2, 3]);
+}
+
+/// Whether a piece of a file is that of these bytes.
+fn is_read(
+    alloc: Global,
+    file: &mut FileSource<HostRuntime>,
+    bytes: &[u8],
+    at: usize,
+    count: usize,
+) -> Result<bool, Fail> {
+    let found = piece(alloc, file, at as u64, count)?;
+    match bytes.get(at..) {
+        Some(rest) => Ok(found.len() == count && rest.starts_with(found.as_slice())),
+        None => Ok(false),
+    }
 }
 
 #[test]
 fn a_long_file_is_read_in_two_pieces_also_where_its_path_is_gone(
     rt: HostRuntime,
 ) -> Result<(), Fail> {
-    let (path, alloc) = ("long.raw", rt.alloc());
-    let bytes = long_bytes(alloc, 1_600_000)?;
-    fs::write(&rt, path, bytes.as_slice())?;
-    let mut file = source(&rt, path)?;
-    assert_eq!(rt; length(&mut file), Some(1_600_000));
-    fs::remove_file(&rt, path)?;
-    let rest = piece(alloc, &mut file, 1_100_777, 499_223)?;
-    let front = piece(alloc, &mut file, 777, 1_100_000)?;
-    assert!(rt; front.iter().chain(rest.iter()).eq(bytes.iter().skip(777)));
+    let bytes = long_bytes(rt.alloc(), 1_600_000)?;
+    fs::write(&rt, "long.raw", bytes.as_slice())?;
+    let mut file = source(&rt, "long.raw")?;
+    assert!(rt; length(&mut file) == Some(1_600_000));
+    fs::remove_file(&rt, "long.raw")?;
+    for (at, count) in [(1_100_777, 499_223), (777, 1_100_000)] {
+        assert!(rt; is_read(rt.alloc(), &mut file, bytes.as_slice(), at, count)?);
+    }
     Ok(())
 }
 
 #[test]
 fn a_range_that_passes_the_end_is_a_fault(rt: HostRuntime) -> Result<(), Fail> {
-    let (path, alloc) = ("short.raw", rt.alloc());
-    fs::write(&rt, path, [1u8, 2, 3, 4, 5].as_slice())?;
-    let mut file = source(&rt, path)?;
+    fs::write(&rt, "short.raw", [1u8, 2, 3, 4, 5].as_slice())?;
+    let mut file = source(&rt, "short.raw")?;
     for (at, want) in [
         (2, Some([3, 4, 5])),
         (0, Some([1, 2, 3])),
         (3, None),
         (u64::MAX, None),
     ] {
-        assert_eq!(rt; three_bytes(&mut file, at), want);
+        assert!(rt; three_bytes(&mut file, at) == want);
     }
     assert!(rt; reaches(&mut file, 5) && !reaches(&mut file, 6));
-    fs::write(&rt, path, [9u8].as_slice())?;
-    assert_eq!(rt; three_bytes(&mut file, 0), None, "the file has shrunk");
-    let want = "short.raw: the range that was asked for passes the end of the file";
-    assert_eq!(rt; said(alloc, &file)?.as_str(), want);
-    fs::remove_file(&rt, path)?;
+    fs::remove_file(&rt, "short.raw")?;
     is_sendable(&file);
     Ok(())
 }
 
 #[test]
+fn a_file_that_has_shrunk_is_a_fault(rt: HostRuntime) -> Result<(), Fail> {
+    fs::write(&rt, "shrunk.raw", [1u8, 2, 3].as_slice())?;
+    let mut file = source(&rt, "shrunk.raw")?;
+    assert!(rt; three_bytes(&mut file, 0).is_some());
+    fs::write(&rt, "shrunk.raw", [9u8].as_slice())?;
+    assert!(rt; three_bytes(&mut file, 0).is_none());
+    let want = "shrunk.raw: the range that was asked for passes the end of the file";
+    assert!(rt; is_text(rt.alloc(), file.last_fault(), want)?);
+    fs::remove_file(&rt, "shrunk.raw")?;
+    Ok(())
+}
+
+/// Whether a file has no length for this reason.
+fn fails_for(rt: &HostRuntime, path: &str, reason: &str) -> Result<bool, Fail> {
+    let mut file = source(rt, path)?;
+    let want = format!(in rt.alloc(); "{path}: {reason}")?;
+    Ok(length(&mut file).is_none() && is_text(rt.alloc(), file.last_fault(), want.as_str())?)
+}
+
+#[test]
 fn what_is_no_regular_file_is_a_fault_with_its_reason(rt: HostRuntime) -> Result<(), Fail> {
-    let alloc = rt.alloc();
-    // To open this pipe, which nobody writes to, would wait for ever.
-    let (reader, writer) = io::pipe(&rt)?;
-    drop(writer);
-    let pipe = format!(in alloc; "/proc/self/fd/{}", reader.as_raw_fd())?;
-    for (path, reason) in no_files(alloc, pipe.as_str())? {
-        let mut file = source(&rt, path.as_str())?;
-        assert_eq!(rt; length(&mut file), None);
-        let want = format!(in alloc; "{path}: {reason}")?;
-        assert_eq!(rt; said(alloc, &file)?, want);
+    for (path, reason) in NO_FILES {
+        assert!(rt; fails_for(&rt, path, reason)?);
     }
-    let mut gone = source(&rt, "gone/source.raw")?;
-    assert_eq!(rt; three_bytes(&mut gone, 0), None);
-    let want = "gone/source.raw: No such file or directory (os error 2)";
-    assert_eq!(rt; said(alloc, &gone)?.as_str(), want);
+    assert!(rt;
+        fails_for(
+            &rt,
+            "gone/source.raw",
+            "No such file or directory (os error 2)"
+        )?
+    );
+    let (_pipe, path) = dead_pipe(&rt)?;
+    assert!(rt; fails_for(&rt, path.as_str(), "not a regular file")?);
     Ok(())
 }
 
@@ -156,10 +178,10 @@ fn finished_files_are_read_by_places(rt: HostRuntime) -> Result<(), Fail> {
         (&one, 0, Some([1, 2])),
         (&one, 2, None),
     ] {
-        assert_eq!(rt; two_bytes(&mut reader, leaf, at), want);
+        assert!(rt; two_bytes(&mut reader, leaf, at) == want);
     }
     let want = "one.raw: the range that was asked for passes the end of the file";
-    assert_eq!(rt; text(alloc, reader.last_fault())?.as_str(), want);
+    assert!(rt; is_text(alloc, reader.last_fault(), want)?);
     is_sendable(&reader);
     fs::remove_file(&rt, "one.raw")?;
     fs::remove_file(&rt, "two.raw")?;

@@ -62,21 +62,17 @@ fn length_of(bay: &mut FolderBay<HostRuntime>, path: &str) -> Option<Option<u64>
     Some(bay.leaf(path.as_bytes()).ok()?.map(|leaf| leaf.len()))
 }
 
-fn said(alloc: Global, bay: &FolderBay<HostRuntime>) -> Result<String, Fail> {
-    text(alloc, bay.last_fault())
-}
-
 #[test]
 fn a_step_stands_once_it_is_committed(rt: HostRuntime) -> Result<(), Fail> {
     let alloc = rt.alloc();
     let mut bay = folder(&rt, "new/set/dataset.idx")?;
-    assert_eq!(rt; has(&mut bay, "d/t0"), Some(false));
+    assert!(rt; has(&mut bay, "d/t0") == Some(false));
     assert!(rt; begins(&mut bay, "d/t0"));
     let leaf = written(&mut bay, "d/t0/0/0.bin", &[1, 2, 3]).ok_or("no leaf")?;
-    assert_eq!(rt; (leaf.len(), leaf.path()), (3, "new/set/d/t0/0/0.bin"));
+    assert!(rt; (leaf.len(), leaf.path()) == (3, "new/set/d/t0/0/0.bin"));
     gives_up(&mut bay, "d/t0/0/8.bin");
     assert!(rt; stands(&rt, "new/set/d/t0.part/0/0.bin") && !stands(&rt, "new/set/d/t0"));
-    assert_eq!(rt; length_of(&mut bay, "d/t0/0/0.bin"), Some(None));
+    assert!(rt; length_of(&mut bay, "d/t0/0/0.bin") == Some(None));
     assert!(rt; commits(alloc, &mut bay, "d/t0", "d/t0/0/0.bin", leaf)?);
     assert!(rt; holds(&rt, "new/set/d/t0/0/0.bin", &[1, 2, 3]));
     assert!(rt; !stands(&rt, "new/set/d/t0.part") && !stands(&rt, "new/set/d/t0/0/8.bin"));
@@ -90,14 +86,11 @@ fn a_step_that_stands_is_found(rt: HostRuntime) -> Result<(), Fail> {
     let mut bay = folder(&rt, "found/dataset.idx")?;
     assert!(rt; saves(alloc, &mut bay, "t0")?);
     fs::write(&rt, "found/plain", "plain")?;
-    assert_eq!(rt;
-        (has(&mut bay, "t0"), has(&mut bay, "plain")),
-        (Some(true), Some(false))
-    );
-    assert_eq!(rt; length_of(&mut bay, "t0/0.bin"), Some(Some(3)));
-    assert_eq!(rt; length_of(&mut bay, "t0"), None);
-    assert_eq!(rt; said(alloc, &bay)?.as_str(), "found/t0: not a regular file");
-    assert_eq!(rt; has(&mut bay, "plain/t"), None);
+    assert!(rt; (has(&mut bay, "t0"), has(&mut bay, "plain")) == (Some(true), Some(false)));
+    assert!(rt; length_of(&mut bay, "t0/0.bin") == Some(Some(3)));
+    assert!(rt; length_of(&mut bay, "t0").is_none());
+    assert!(rt; is_text(alloc, bay.last_fault(), "found/t0: not a regular file")?);
+    assert!(rt; has(&mut bay, "plain/t").is_none());
     is_sendable(&bay);
     fs::remove_dir_all(&rt, "found")?;
     Ok(())
@@ -124,7 +117,7 @@ fn fault_of(rt: &HostRuntime, folder_name: &str) -> Result<String, Fail> {
     if saves(rt.alloc(), &mut bay, folder_name)? {
         return Ok(String::new(rt.alloc()));
     }
-    said(rt.alloc(), &bay)
+    text(rt.alloc(), bay.last_fault())
 }
 
 #[test]
@@ -138,7 +131,7 @@ fn nothing_is_put_over_what_stands(rt: HostRuntime) -> Result<(), Fail> {
         ("plain/t", "set/plain: File exists (os error 17)"),
         ("staged", "set/staged.part: something stands there already"),
     ] {
-        assert_eq!(rt; fault_of(&rt, name)?.as_str(), want);
+        assert!(rt; fault_of(&rt, name)?.as_str() == want);
     }
     fs::remove_dir_all(&rt, "set")?;
     Ok(())
@@ -150,13 +143,16 @@ fn a_file_is_made_once_and_in_the_step_that_was_begun(rt: HostRuntime) -> Result
     let mut bay = folder(&rt, "made/dataset.idx")?;
     assert!(rt; begins(&mut bay, "t1") && written(&mut bay, "t1/0.bin", &[1]).is_some());
     assert!(rt; written(&mut bay, "t1/0.bin", &[2]).is_none());
-    assert_eq!(rt;
-        said(alloc, &bay)?.as_str(),
-        "made/t1.part/0.bin: File exists (os error 17)"
+    assert!(rt;
+        is_text(
+            alloc,
+            bay.last_fault(),
+            "made/t1.part/0.bin: File exists (os error 17)"
+        )?
     );
     assert!(rt; written(&mut bay, "t10/0.bin", &[1]).is_none());
     let want = "made/t10/0.bin: the file is not in the step that was begun";
-    assert_eq!(rt; said(alloc, &bay)?.as_str(), want);
+    assert!(rt; is_text(alloc, bay.last_fault(), want)?);
     fs::remove_dir_all(&rt, "made")?;
     Ok(())
 }
@@ -169,9 +165,12 @@ fn one_run_at_a_time_writes_a_step(rt: HostRuntime) -> Result<(), Fail> {
         folder(&rt, "two/dataset.idx")?,
     );
     assert!(rt; begins(&mut first, "t0") && !begins(&mut second, "t0"));
-    assert_eq!(rt;
-        said(alloc, &second)?.as_str(),
-        "two/t0.part: another run is writing this step"
+    assert!(rt;
+        is_text(
+            alloc,
+            second.last_fault(),
+            "two/t0.part: another run is writing this step"
+        )?
     );
     assert!(rt; saves(alloc, &mut second, "t1")? && begins(&mut second, "t2"));
     // A run that dies lets its step go.
@@ -191,7 +190,7 @@ fn only_the_staged_folder_that_was_begun_is_committed(rt: HostRuntime) -> Result
     fs::create_dir(&rt, "begun/t0.part")?;
     assert!(rt; !commits(alloc, &mut bay, "t0", "t0/0.bin", leaf)?);
     let want = "begun/t0: the staged folder is not the one that was begun";
-    assert_eq!(rt; said(alloc, &bay)?.as_str(), want);
+    assert!(rt; is_text(alloc, bay.last_fault(), want)?);
     let leaf = FileLeaf::new(String::from_str(alloc, "begun/t1/0.bin")?, 1);
     fs::create_dir(&rt, "begun/t1.part")?;
     assert!(rt; !commits(alloc, &mut bay, "t1", "t1/0.bin", leaf)? && !stands(&rt, "begun/t1"));
@@ -223,6 +222,6 @@ fn a_draft_that_cannot_be_written_is_a_fault_of_its_bay(rt: HostRuntime) -> Resu
     let mut bay = folder(&rt, "dataset.idx")?;
     assert!(rt; gives_up_closed(&mut bay, &rt, path)? && !stands(&rt, path));
     let want = "closed.raw: Bad file descriptor (os error 9)";
-    assert_eq!(rt; said(rt.alloc(), &bay)?.as_str(), want);
+    assert!(rt; is_text(rt.alloc(), bay.last_fault(), want)?);
     Ok(())
 }

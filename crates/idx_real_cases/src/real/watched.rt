@@ -81,7 +81,7 @@ fn a_header_gets_its_name_with_all_its_bytes(rt: HostRuntime) -> Result<(), Fail
     let mut bay = FolderBay::new(watched, String::from_str(rt.alloc(), "watched.idx")?);
     assert!(rt; bay.set_header(b"text").is_ok());
     drop(bay);
-    assert_eq!(rt; named.get(), 4);
+    assert!(rt; named.get() == 4);
     fs::remove_file(&rt, "watched.idx")?;
     Ok(())
 }

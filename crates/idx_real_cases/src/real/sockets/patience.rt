@@ -5,10 +5,9 @@ use super::*;
 fn a_silent_peer_is_a_fault(rt: HostRuntime) -> Result<(), Fail> {
     let (mut door, _peer) = door_and_peer(&rt, rt.alloc(), None, hasty())?;
     let mut link = next_link(&mut door)?;
-    assert_eq!(rt; takes(&mut link), None);
-    assert_eq!(rt; link.faults(), 1);
-    let reason = why(rt.alloc(), &link)?;
-    assert_eq!(rt; reason.as_str(), "the peer let the link wait for too long");
+    assert!(rt; takes(&mut link).is_none());
+    assert!(rt; link.faults() == 1);
+    assert!(rt; why(rt.alloc(), &link)?.as_str() == "the peer let the link wait for too long");
     Ok(())
 }
 
@@ -45,8 +44,12 @@ impl<R: Copy> Clock for Ticking<'_, R> {
 
 impl<R: Wait + Copy> Wait for Ticking<'_, R> {}
 
-/// How often a byte a second comes in time, at most a hundred times.
+/// How often a byte a second comes in time after a reply, at most a hundred times.
 fn bytes_in_time<L: Link>(link: &mut L, peer: &mut TcpStream) -> Result<u32, Fail> {
+    peer.write_all(b"x")?;
+    if takes(link) != Some(1) || !gives(link, b"reply") {
+        return Err(Fail::from("no first byte"));
+    }
     for count in 0..100 {
         peer.write_all(b"x")?;
         if takes(link).is_none() {
@@ -63,15 +66,9 @@ fn a_slow_peer_has_a_minute_from_reply_to_reply(rt: HostRuntime) -> Result<(), F
         rt,
         seconds: &seconds,
     };
-    let shared = listener(rt.alloc(), "127.0.0.1:0")?;
-    let mut peer = peer_of(&rt, shared.bind(&rt)?)?;
-    let mut door = TcpDoor::new(ticking, shared, None, Patience::of_a_server());
+    let (mut door, mut peer) = door_and_peer(&ticking, rt.alloc(), None, Patience::of_a_server())?;
     let mut link = next_link(&mut door)?;
-    peer.write_all(b"x")?;
-    assert_eq!(rt; takes(&mut link), Some(1));
-    assert!(rt; gives(&mut link, b"reply"));
-    assert_eq!(rt; bytes_in_time(&mut link, &mut peer)?, 59);
-    let reason = why(rt.alloc(), &link)?;
-    assert_eq!(rt; reason.as_str(), "the peer sent its bytes too slowly");
+    assert!(rt; bytes_in_time(&mut link, &mut peer)? == 59);
+    assert!(rt; why(rt.alloc(), &link)?.as_str() == "the peer sent its bytes too slowly");
     Ok(())
 }
