@@ -23,17 +23,9 @@ pub(crate) fn header_text(alloc: Global, header: &Header) -> Result<Bytes, NoMem
 {
     let mut text = Bytes::new(alloc);
     write_entry(Key::Version, b"6", &mut text)?;
-    write_entry(
-        Key::Box,
-        box_text(alloc, &header.region)?.as_slice(),
-        &mut text,
-    )?;
+    write_box(alloc, &header.region, &mut text)?;
     write_fields(&header.fields, &mut text)?;
-    write_entry(
-        Key::Bits,
-        mask_text(alloc, &header.mask)?.as_slice(),
-        &mut text,
-    )?;
+    write_bits(alloc, &header.mask, &mut text)?;
     write_count(Key::BitsPerBlock, u64::from(header.block_bits), &mut text)?;
     write_count(Key::BlocksPerFile, header.blocks_per_file, &mut text)?;
     write_template(alloc, &header.template, &mut text)?;
@@ -56,6 +48,14 @@ fn write_count(key: Key, number: u64, out: &mut Bytes) -> Result<(), NoMemory>
     write_key(key.text(), out)?;
     write_number(number, out)?;
     out.push(b'\n')
+}
+
+/// Appends the box.
+fn write_box(alloc: Global, region: &Region, out: &mut Bytes) -> Result<(), NoMemory>
+    ensures { OnOk result (out.new ≡ out.old ++ entry_text (entry Key.Box (box_text region.now ∷ []))) }
+{
+    let line = box_text(alloc, region)?;
+    write_entry(Key::Box, line.as_slice(), out)
 }
 
 /// The ends of each axis.
@@ -103,6 +103,14 @@ fn write_field_lines(fields: &Fields, out: &mut Bytes) -> Result<(), NoMemory>
         out.push(b'\n')?;
     }
     Ok(())
+}
+
+/// Appends the mask.
+fn write_bits(alloc: Global, mask: &Mask, out: &mut Bytes) -> Result<(), NoMemory>
+    ensures { OnOk result (out.new ≡ out.old ++ entry_text (entry Key.Bits (mask_text mask.now ∷ []))) }
+{
+    let line = mask_text(alloc, mask)?;
+    write_entry(Key::Bits, line.as_slice(), out)
 }
 
 /// The text of a mask as a header has it: `V`, and the axis of each digit, the coarsest first.

@@ -67,12 +67,11 @@ pub(crate) fn row_in(bytes: &[u8]) -> Row
     requires { length bytes.now ≡ ROW_BYTES }
     ensures { result ≡ row_of bytes.now }
 {
-    let mut words = [0; WORDS];
-    BigEndian::read_u32_into(bytes, &mut words);
-    let [_, _, offset_low, offset_high, size, flags, ..] = words;
+    let offset_low = BigEndian::read_u32(&bytes[8..]);
+    let offset_high = BigEndian::read_u32(&bytes[12..]);
     Row {
         offset: u64::from(offset_low) | u64::from(offset_high) << 32,
-        size,
-        flags,
+        size: BigEndian::read_u32(&bytes[16..]),
+        flags: BigEndian::read_u32(&bytes[20..]),
     }
 }

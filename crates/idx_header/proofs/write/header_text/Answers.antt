@@ -30,13 +30,13 @@ returns c =
     } in
     let text = c.write_unknowns.new.out in
     let written : text ≡ text_of header =
-    all_keys header c.write_entry.new.out c.write_entry-2.new.out c.write_fields.new.out c.write_entry-3.new.out c.write_count.new.out
+    all_keys header c.write_entry.new.out c.write_box.new.out c.write_fields.new.out c.write_bits.new.out c.write_count.new.out
     c.write_count-2.new.out c.write_template.new.out c.write_time.new.out text
     (c.in_ok-write_entry.ensures ∙ ap (λ before. behind before keys.Version (codes "6")) c.new-text.ensures)
-    (c.in_ok-write_entry-2.ensures ∙ ap (λ line. behind c.write_entry.new.out keys.Box line) (c.as_slice-2.ensures ∙ c.in_ok-box_text.ensures))
+    c.in_ok-write_box.ensures
     c.in_ok-write_fields.ensures
-    (c.in_ok-write_entry-3.ensures ∙ ap (λ line. behind c.write_fields.new.out keys.Bits line) (c.as_slice-4.ensures ∙ c.in_ok-mask_text.ensures))
-    (c.in_ok-write_count.ensures ∙ ap (λ number. behind c.write_entry-3.new.out keys.BitsPerBlock (decimal number)) c.from.ensures)
+    c.in_ok-write_bits.ensures
+    (c.in_ok-write_count.ensures ∙ ap (λ number. behind c.write_bits.new.out keys.BitsPerBlock (decimal number)) c.from.ensures)
     c.in_ok-write_count-2.ensures
     c.in_ok-write_template.ensures
     c.in_ok-write_time.ensures
