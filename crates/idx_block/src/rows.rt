@@ -6,39 +6,8 @@ ghost use Rattle.idx_lanes.specs.Spread.{part_after};
 
 use idx_lanes::{Lane, Sample, next_part};
 
-/// So many rows are copied side by side, where there are as many.
-const WIDE: usize = 16;
-
-/// So many where there are fewer.
-const NARROW: usize = 4;
-
-/// Copies the samples along two lanes.
-pub(crate) fn rows<S: Sample>(
-    sample: S,
-    slower: &Lane,
-    lane: &Lane,
-    samples: &[u8],
-    from: usize,
-    into: &mut [u8],
-    place: usize,
-)
-    requires some { 0 < S.bytes sample }
-    requires few { S.bytes sample ≤ 64 }
-    requires coordinates { HasCoordinate lane.now }
-    requires within { EachCopy (IsWithin (S.bytes sample) samples.now into.old) (slower.now ∷ lane.now ∷ []) from place }
-    ensures { (want : ℕ → List ℕ) →
-        EachCopy (IsWanted want (S.bytes sample) samples.now) (slower.now ∷ lane.now ∷ []) from place →
-        AreMade want (S.bytes sample) (slower.now ∷ lane.now ∷ []) from place into.old into.new }
-{
-    if slower.count < WIDE {
-        rows_by::<S, NARROW>(sample, slower, lane, samples, from, into, place);
-    } else {
-        rows_by::<S, WIDE>(sample, slower, lane, samples, from, into, place);
-    }
-}
-
 /// Copies the samples along two lanes, in bands of `N` rows.
-fn rows_by<S: Sample, const N: usize>(
+pub(crate) fn rows<S: Sample, const N: usize>(
     sample: S,
     slower: &Lane,
     lane: &Lane,

@@ -4,6 +4,10 @@ ghost use Rattle.idx_lanes.specs.Copies.{AreMade, EachCopy, HasCoordinate, IsWan
 use crate::rows::{row, rows};
 use idx_lanes::{Lane, Sample, next_part};
 
+/// How many neighbouring rows are copied side by side. More are slower: the places that they are copied to lie too far
+/// apart.
+const BAND: usize = 4;
+
 /// Copies the samples along these lanes, the slowest first, into a block. The first one begins at byte `from` of the
 /// raw samples, and goes to the place `place` with what each lane's first coordinate gives to it.
 pub(crate) fn walk<S: Sample>(
@@ -24,7 +28,9 @@ pub(crate) fn walk<S: Sample>(
     match lanes {
         [] => sample.copy(samples, from, into, place * sample.bytes()),
         [lane] => row(sample, lane, samples, from, into, place),
-        [slower, lane] => rows(sample, slower, lane, samples, from, into, place),
+        [slower, lane] => {
+            rows::<S, BAND>(sample, slower, lane, samples, from, into, place);
+        }
         [slowest, faster @ ..] => {
             let mut part = slowest.first;
             for k in 0..slowest.count {

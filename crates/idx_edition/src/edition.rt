@@ -1,4 +1,4 @@
-ghost use Rattle.std.specs.Prelude.{◌≡◌, ◌≢◌, ◌↔◌, ℕ, ◌+◌, ◌*◌, ◌<◌, ◌≤◌, List, None, Ok, Some, IfErr, IfOk, IfSome, OnErr, OnOk, length};
+ghost use Rattle.std.specs.Prelude.{◌≡◌, ◌≢◌, ◌↔◌, ℕ, ◌+◌, ◌*◌, ◌<◌, ◌≤◌, List, [], ◌∷◌, ◌++◌, None, Ok, Some, IfErr, IfOk, IfSome, OnErr, OnOk, length};
 ghost use Rattle.std.specs.Option.{ForSome};
 ghost use Rattle.idx_outside.specs.Cause.{MadeReads, NeverFalls};
 ghost use Rattle.idx_geom.specs.Region.{points};
@@ -181,9 +181,7 @@ impl<L: Leaf> Edition<L> {
             let Some((rows, leaf)) = found else {
                 continue;
             };
-            numbers.push(file)?;
-            tables.push(rows)?;
-            leaves.push(leaf)?;
+            push_found(&mut numbers, &mut tables, &mut leaves, file, rows, leaf)?;
         }
         let copy = header.copy(alloc)?;
         Ok(Edition {
@@ -199,6 +197,25 @@ impl<L: Leaf> Edition<L> {
     {
         &self.leaves
     }
+}
+
+/// Appends what was found of a file: its number, the rows of its table, and the file with its path.
+fn push_found<L: Leaf>(
+    numbers: &mut Vec<u64>,
+    tables: &mut Vec<Rows>,
+    leaves: &mut Vec<(Bytes, L)>,
+    file: u64,
+    rows: Rows,
+    leaf: (Bytes, L),
+) -> Result<(), NoMemory>
+    ensures numbers { OnOk result (numbers.new.items ≡ numbers.old.items ++ file ∷ []) }
+    ensures tables { OnOk result (tables.new.items ≡ tables.old.items ++ rows ∷ []) }
+    ensures leaves { OnOk result (leaves.new.items ≡ leaves.old.items ++ leaf ∷ []) }
+{
+    numbers.push(file)?;
+    tables.push(rows)?;
+    leaves.push(leaf)?;
+    Ok(())
 }
 
 impl<L: Leaf> Blocks for Edition<L> {

@@ -4,6 +4,7 @@ ghost use Rattle.idx_outside.specs.Cause.{NeverFalls};
 ghost use Rattle.idx_header.specs.Header.{block_bytes};
 ghost use Rattle.idx_layout.specs.Shape.{shape_of};
 ghost use Rattle.idx_hall.specs.declared.key.Key.{Key};
+ghost use Rattle.idx_hall.specs.Looked.{not_looked};
 ghost use Rattle.idx_hall.specs.Posts.{IsNewestOf, IsPostOf, Lacks, Post};
 ghost use Rattle.idx_turn.specs.Stands.{Begins};
 ghost use Rattle.idx_plan.specs.Needed.{plan_fault};
@@ -21,7 +22,7 @@ use crate::taking::{Seen, fill_cache, look_again, look_up};
 use crate::{QueryFault, Report};
 use idx_hall::{Hall, Looked};
 use idx_header::Header;
-use idx_outside::{Blocks, Reader};
+use idx_outside::{Blocks, NoMemory, Reader};
 use idx_plan::{Ask, Plan};
 use idx_turn::Turn;
 use std::alloc::Global;
@@ -70,8 +71,7 @@ pub(crate) fn first_round<E: Blocks + Drop, T: Turn<Hall<E>>, R: Reader<E::Leaf>
     ensures given { T.given turn.new ≡ None }
 {
     let part = Part::new(plan, 0, many);
-    let mut looked = Looked::new(alloc, many as u64)?;
-    let loading = Loading::new(alloc, many as u64, header.block_bytes(ask.field) as usize)?;
+    let (mut looked, loading) = room_for(alloc, many, header.block_bytes(ask.field) as usize)?;
     let seen = look_up(turn, ask.time, part.keys(), &mut looked)?;
     match make_round(
         header, ask, plan, &part, seen, turn, reader, &looked, loading, out,
@@ -123,8 +123,7 @@ pub(crate) fn next_round<E: Blocks + Drop, T: Turn<Hall<E>>, R: Reader<E::Leaf>>
     ensures given { T.given turn.new ≡ None }
 {
     let part = Part::new(plan, first, many);
-    let mut looked = Looked::new(alloc, many as u64)?;
-    let loading = Loading::new(alloc, many as u64, header.block_bytes(ask.field) as usize)?;
+    let (mut looked, loading) = room_for(alloc, many, header.block_bytes(ask.field) as usize)?;
     let seen = look_again(turn, ask.time, post, part.keys(), &mut looked)?;
     match make_round(
         header, ask, plan, &part, seen, turn, reader, &looked, loading, out,
@@ -132,6 +131,20 @@ pub(crate) fn next_round<E: Blocks + Drop, T: Turn<Hall<E>>, R: Reader<E::Leaf>>
         Ok(report) => Ok(report),
         Err(fault) => Err(fault),
     }
+}
+
+/// Room for what a look finds of so many keys, and for as many blocks of so many bytes that are fetched.
+fn room_for<E: Blocks + Drop>(
+    alloc: Global,
+    many: usize,
+    bytes: usize,
+) -> Result<(Looked<E>, Loading), NoMemory>
+    ensures looked { IfOk result (λ room. room.0 ≡ not_looked many) }
+    ensures loading { IfOk result (λ room. room.1 ≡ load_state 0 [] bytes) }
+{
+    let looked = Looked::new(alloc, many as u64)?;
+    let loading = Loading::new(alloc, many as u64, bytes)?;
+    Ok((looked, loading))
 }
 
 /// What a round does behind its look: copies the samples, with what is missing fetched, and puts that into the cache. Where it is

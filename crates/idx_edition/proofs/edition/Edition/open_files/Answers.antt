@@ -90,9 +90,9 @@ loop-file-preserved g c =
     let since = g.B.Bay.files c.args.bay.now in
     let shows : List Row × (List ℕ × g.row.L.Denot) → List Row × (List ℕ × Option (List ℕ)) = λ f. (f.0, entry_shown contents f.1) in
     let found = λ (P : List Row × (List ℕ × g.row.L.Denot) → Type 0) (holds : IfSome c.in_ok-found.found P). subst (λ o. IfSome o P) is holds in
-    let numbers : c.push.new.self.items ≡ c.loop-file.numbers.items ++ file ∷ [] = c.in_ok-push.ensures.items in
-    let tables : c.push-in-loop-file.new.self.items ≡ c.loop-file.tables.items ++ rows ∷ [] = c.in_ok-push-2.ensures.items in
-    let leaves : c.push-in-loop-file-2.new.self.items ≡ c.loop-file.leaves.items ++ leaf ∷ [] = c.in_ok-push-3.ensures.items in
+    let numbers : c.push_found.new.numbers.items ≡ c.loop-file.numbers.items ++ file ∷ [] = c.in_ok-push_found.ensures.numbers in
+    let tables : c.push_found.new.tables.items ≡ c.loop-file.tables.items ++ rows ∷ [] = c.in_ok-push_found.ensures.tables in
+    let leaves : c.push_found.new.leaves.items ≡ c.loop-file.leaves.items ++ leaf ∷ [] = c.in_ok-push_found.ensures.leaves in
     record {
       rising = subst (λ xs. RiseFrom 0 (xs ++ c.next.new.self)) (sym numbers) (numbers_more c.loop-file.numbers.items c.loop-file.file-iterator c.next.new.self file first before.rising);
       same =
@@ -100,12 +100,12 @@ loop-file-preserved g c =
           ∙ sym (ap length numbers ∙ length-append c.loop-file.numbers.items (file ∷ []));
       each = subst (λ (ts : List (List Row)). (i : ℕ) (rows : List Row) → slice_get ts i ≡ Some rows → IsTable c.in_ok-lengths.lengths.items h.blocks_per_file rows) (sym tables)
           (tables_more c.in_ok-lengths.lengths.items h.blocks_per_file c.loop-file.tables.items rows before.each (found (λ f. IsTable c.in_ok-lengths.lengths.items h.blocks_per_file f.0) opened.table));
-      fits = subst (λ ts. AreTablesOf ts (shown contents c.push-in-loop-file-2.new.self.items)) (sym tables)
+      fits = subst (λ ts. AreTablesOf ts (shown contents c.push_found.new.leaves.items)) (sym tables)
           (subst (λ ls. AreTablesOf (c.loop-file.tables.items ++ rows ∷ []) (shown contents ls)) (sym leaves)
           (leaves_more contents c.loop-file.tables.items c.loop-file.leaves.items rows leaf before.fits
           (found (λ f. ForSome (contents f.1.1) (λ bytes. EndWithin f.0 (length bytes))) opened.ends)));
-      holds = subst (λ ns. IfSome since (λ files. HoldSoFar h c.args.time files c.next.new.self ns c.push-in-loop-file.new.self.items (shown contents c.push-in-loop-file-2.new.self.items))) (sym numbers)
-          (subst (λ ts. IfSome since (λ files. HoldSoFar h c.args.time files c.next.new.self (c.loop-file.numbers.items ++ file ∷ []) ts (shown contents c.push-in-loop-file-2.new.self.items))) (sym tables)
+      holds = subst (λ ns. IfSome since (λ files. HoldSoFar h c.args.time files c.next.new.self ns c.push_found.new.tables.items (shown contents c.push_found.new.leaves.items))) (sym numbers)
+          (subst (λ ts. IfSome since (λ files. HoldSoFar h c.args.time files c.next.new.self (c.loop-file.numbers.items ++ file ∷ []) ts (shown contents c.push_found.new.leaves.items))) (sym tables)
           (subst (λ ls. IfSome since (λ files. HoldSoFar h c.args.time files c.next.new.self (c.loop-file.numbers.items ++ file ∷ []) (c.loop-file.tables.items ++ rows ∷ []) ls)) (sym (ap (shown contents) leaves ∙ map-append (entry_shown contents) c.loop-file.leaves.items (leaf ∷ [])))
           (hold_more h c.args.time since c.loop-file.file-iterator c.next.new.self c.loop-file.numbers.items file c.loop-file.tables.items rows (shown contents c.loop-file.leaves.items) (entry_shown contents leaf) first
           (found_some h c.args.time file shows c.in_ok-found.found (rows, leaf) (g.B.Bay.files c.loop-file.bay) since is before.files opened.found)
@@ -144,8 +144,8 @@ returns-clause-holds g c =
     (holds_stored h c.args.time (subst IsHeader c.in_ok-copy.ensures c.of_files.ensures.valid) (g.B.Bay.files c.args.bay.now) c.loop-file.file-iterator c.loop-file.numbers.items c.loop-file.tables.items (shown contents c.loop-file.leaves.items)
     c.in-None.ensures.steps.0 c.loop-file.invariant.holds)
 
-pub returns-in_err-push-3-clause-admits : goal.returns-in_err-push-3-clause-admits
-returns-in_err-push-3-clause-admits g c = λ path admitted.
+pub returns-in_err-push_found-clause-admits : goal.returns-in_err-push_found-clause-admits
+returns-in_err-push_found-clause-admits g c = λ path admitted.
     c.in_ok-found.ensures.admits path (c.loop-file.invariant.admits path admitted)
 
 pub returns-in_err-found-clause-few_reads : goal.returns-in_err-found-clause-few_reads
@@ -161,8 +161,8 @@ returns-in_err-found-clause-few_reads g c =
     (reads_with h c.args.time since c.loop-file.file-iterator c.next.new.self file (length c.loop-file.leaves.items) start now after c.in-Some.ensures.steps before.few before.reads
     (subst (λ k. ReadsOne h c.args.time k file now after) before.files c.in_err-found.ensures.few_reads))
 
-pub returns-in_err-push-clause-few_reads : goal.returns-in_err-push-clause-few_reads
-returns-in_err-push-clause-few_reads g c =
+pub returns-in_err-push_found-clause-few_reads : goal.returns-in_err-push_found-clause-few_reads
+returns-in_err-push_found-clause-few_reads g c =
     let h = c.args.header.now in
     let contents = g.L.Leaf.contents in
     let since = g.B.Bay.files c.args.bay.now in
@@ -176,49 +176,7 @@ returns-in_err-push-clause-few_reads g c =
     let start = g.R.Reader.reads c.args.reader.now in
     let now = g.R.Reader.reads c.loop-file.reader in
     let after = g.R.Reader.reads c.open_file.new.reader in
-    on_err c.from_residual-in_err-push.result (ReadsFiles h c.args.time since start after)
-    (reads_pushed h c.args.time since c.loop-file.file-iterator c.next.new.self file (length c.loop-file.leaves.items) start now after c.in-Some.ensures.steps before.few before.reads
-    (is_there h c.args.time since file (rows, entry_shown contents leaf)
-    (found_some h c.args.time file shows c.in_ok-found.found (rows, leaf) (g.B.Bay.files c.loop-file.bay) since is before.files opened.found))
-    (subst (λ o. IfSome o (λ _. after ≡ (now + 1) % 2 ^ 64)) is opened.one_read))
-
-pub returns-in_err-push-2-clause-few_reads : goal.returns-in_err-push-2-clause-few_reads
-returns-in_err-push-2-clause-few_reads g c =
-    let h = c.args.header.now in
-    let contents = g.L.Leaf.contents in
-    let since = g.B.Bay.files c.args.bay.now in
-    let before = c.loop-file.invariant in
-    let opened = c.in_ok-found.ensures in
-    let file = c.in-Some.file in
-    let rows : List Row = c.in-Some-found.rows in
-    let leaf : List ℕ × g.row.L.Denot = c.in-Some-found.leaf in
-    let is = c.in-Some-found.is in
-    let shows : List Row × (List ℕ × g.row.L.Denot) → List Row × (List ℕ × Option (List ℕ)) = λ f. (f.0, entry_shown contents f.1) in
-    let start = g.R.Reader.reads c.args.reader.now in
-    let now = g.R.Reader.reads c.loop-file.reader in
-    let after = g.R.Reader.reads c.open_file.new.reader in
-    on_err c.from_residual-in_err-push-2.result (ReadsFiles h c.args.time since start after)
-    (reads_pushed h c.args.time since c.loop-file.file-iterator c.next.new.self file (length c.loop-file.leaves.items) start now after c.in-Some.ensures.steps before.few before.reads
-    (is_there h c.args.time since file (rows, entry_shown contents leaf)
-    (found_some h c.args.time file shows c.in_ok-found.found (rows, leaf) (g.B.Bay.files c.loop-file.bay) since is before.files opened.found))
-    (subst (λ o. IfSome o (λ _. after ≡ (now + 1) % 2 ^ 64)) is opened.one_read))
-
-pub returns-in_err-push-3-clause-few_reads : goal.returns-in_err-push-3-clause-few_reads
-returns-in_err-push-3-clause-few_reads g c =
-    let h = c.args.header.now in
-    let contents = g.L.Leaf.contents in
-    let since = g.B.Bay.files c.args.bay.now in
-    let before = c.loop-file.invariant in
-    let opened = c.in_ok-found.ensures in
-    let file = c.in-Some.file in
-    let rows : List Row = c.in-Some-found.rows in
-    let leaf : List ℕ × g.row.L.Denot = c.in-Some-found.leaf in
-    let is = c.in-Some-found.is in
-    let shows : List Row × (List ℕ × g.row.L.Denot) → List Row × (List ℕ × Option (List ℕ)) = λ f. (f.0, entry_shown contents f.1) in
-    let start = g.R.Reader.reads c.args.reader.now in
-    let now = g.R.Reader.reads c.loop-file.reader in
-    let after = g.R.Reader.reads c.open_file.new.reader in
-    on_err c.from_residual-in_err-push-3.result (ReadsFiles h c.args.time since start after)
+    on_err c.from_residual-in_err-push_found.result (ReadsFiles h c.args.time since start after)
     (reads_pushed h c.args.time since c.loop-file.file-iterator c.next.new.self file (length c.loop-file.leaves.items) start now after c.in-Some.ensures.steps before.few before.reads
     (is_there h c.args.time since file (rows, entry_shown contents leaf)
     (found_some h c.args.time file shows c.in_ok-found.found (rows, leaf) (g.B.Bay.files c.loop-file.bay) since is before.files opened.found))

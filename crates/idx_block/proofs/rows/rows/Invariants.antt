@@ -2,7 +2,7 @@ use Rattle.std.proofs.Common.{◌≡◌, ℕ, ◌-◌, ◌≤◌, List, [], ◌�
 use Rattle.idx_lanes.specs.Spread.{part_after}
 use Rattle.idx_lanes.specs.Copies.{EachCopy, IsWanted}
 use Rattle.idx_lanes.proofs.CopyLemmas.{AreSoFar}
-use Rattle.idx_block.proofs.rows.rows_by.Given as goal
+use Rattle.idx_block.proofs.rows.rows.Given as goal
 
 -- the rows so far are copied
 abbrev pub invariant-loop-k : goal.invariant-loop-k

@@ -3,7 +3,7 @@ use Rattle.idx_lanes.specs.Spread.{next_part, part_after}
 use Rattle.idx_lanes.specs.Copies.{AreMade, EachCopy, IsWanted, IsWithin}
 use Rattle.idx_lanes.proofs.CopyLemmas.{begins_within, each-implied, so_far-all, so_far-more}
 use Rattle.idx_block.proofs.RowsLemmas.{each-some, one_coordinate, part_after-add, so_far-some, some_of}
-use Rattle.idx_block.proofs.rows.rows_by.Goals as goal
+use Rattle.idx_block.proofs.rows.rows.Goals as goal
 
 pub band_rows-part-requires-clause-within : goal.band_rows-part-requires-clause-within
 band_rows-part-requires-clause-within g c =
