@@ -87,8 +87,8 @@ AsksToConvert c P = AsksForText c (λ text. P text c.step)
 -- How a run ends with this cause.
 pub record ConvertEnds {V B : Type 0} (c : ConvertValue) (raws : RawsSeen V) (bay : BaySeen B) (cause : Cause) : Type 0 where
   -- What the cause says: at Done exactly the files of the step at the next revision were added, and the header text put where
-  -- none stood; at each other one no file was, but at StoreFault all of them may be, and the cause is there. No byte is asked
-  -- of a raw volume where its length is wrong, or something that comes before.
+  -- none stood; at each other one no file was, but at StoreFault all of them may be, and the cause is there. Of a raw volume
+  -- whose bytes are known none is asked for where its length is wrong, or something that comes before.
   pub means : ConvertMeans c (known raws bay) cause
   -- each refusal comes where it is due, but for faults that come before, and want of memory
   pub bad_text : AsksToConvert c IsBadText → (status_of cause ≡ 2) ⊎ (status_of cause ≡ 11)
