@@ -1,4 +1,4 @@
-ghost use Rattle.std.specs.Prelude.{◌≡◌, ◌+◌, ◌++◌, ◌<◌, ◌≤◌, ℕ, IfErr, List, OnOk, drop, map, min, vec_capacity, vec_len};
+ghost use Rattle.std.specs.Prelude.{◌≡◌, ◌+◌, ◌++◌, ◌<◌, ◌≤◌, ℕ, [], IfErr, List, OnOk, drop, map, min, vec_capacity, vec_len};
 ghost use Rattle.std.specs.Option.{ForSome};
 ghost use Rattle.idx_outside.specs.Cause.{NeverFalls};
 ghost use Rattle.idx_outside.specs.Files.{HasStep as HasCommitted, LiesIn};
@@ -56,15 +56,37 @@ where
     ensures count { NeverFalls (B.faults bay.old) (B.faults bay.new) }
 {
     let used = raws.len().min(ranks as usize);
-    let others = raws.len() - used;
-    let Ok(mut all) = Vec::with_capacity(alloc, raws.len()) else {
+    let Ok(mut rest) = Vec::with_capacity(alloc, raws.len()) else {
         return Err(GatherFault::NoMemory);
     };
-    move_last(others, raws, &mut all);
+    keep_first(used, raws, &mut rest);
     let gathered = gather(rt, alloc, header, step, raws, bay, &FreeGate);
-    move_last(used, raws, &mut all);
-    mem::replace(raws, all).destroy_empty();
+    put_back(rest, raws);
     gathered
+}
+
+/// Moves all but the first so many objects of a list to another one, which is empty and has room for the list.
+fn keep_first<V>(used: usize, from: &mut Vec<V>, rest: &mut Vec<V>)
+    requires some { used ≤ vec_len from.old }
+    requires empty { rest.old.items ≡ [] }
+    requires room { vec_len from.old ≤ vec_capacity rest.old }
+    ensures split { from.old.items ≡ from.new.items ++ rest.new.items }
+    ensures first { vec_len from.new ≡ used }
+    ensures room { used + vec_len rest.new ≤ vec_capacity rest.new }
+{
+    let others = from.len() - used;
+    move_last(others, from, rest);
+}
+
+/// Puts objects behind those of a list. Their own list has room for both.
+fn put_back<V>(rest: Vec<V>, into: &mut Vec<V>)
+    requires { vec_len into.old + vec_len rest ≤ vec_capacity rest }
+    ensures { into.new.items ≡ into.old.items ++ rest.items }
+{
+    let mut all = rest;
+    let count = into.len();
+    move_last(count, into, &mut all);
+    mem::replace(into, all).destroy_empty();
 }
 
 /// Moves so many objects from the end of one list to the front of another, which has room for them. They keep their order.
