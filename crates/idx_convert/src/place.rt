@@ -53,10 +53,31 @@ pub(crate) fn find_place<V: Source, B: Bay>(
     ensures raw_count { NoneFalls (map V.faults raws.old.items) (map V.faults raws.new.items) }
     ensures number { vec_len raws.new ≡ vec_len raws.old }
 {
+    let place = place_in(alloc, header, step, bay)?;
+    check_size(header, raws)?;
+    Ok(place)
+}
+
+/// The place of a step that the dataset takes. Whatever the raw volume is, a refusal has its cause in the dataset.
+fn place_in<B: Bay>(
+    alloc: Global,
+    header: &Header,
+    step: u64,
+    bay: &mut B,
+) -> Result<Place, ConvertFault>
+    requires folder { HasFolder header.now step }
+    ensures taken { OnOk result (Takes header.now step (B.header bay.old) (B.files bay.old)) }
+    ensures revised { IfOk result (λ place. IsRevisionOf header.now place.header) }
+    ensures next { IfOk result (λ place. IsNext header.now step (B.files bay.old) place.header) }
+    ensures folder { IfOk result (λ place. step_folder place.header step ≡ Some place.folder) }
+    ensures none { IfOk result (λ place. IfSome (B.header bay.old) (λ text. IsTrue place.no_header ↔ (text ≡ []))) }
+    ensures cause { (k : Known) → IfErr result (IsStop header.now step
+        (with_bay (B.header bay.old) (B.files bay.old) (B.failed bay.new) (B.faults bay.old) (B.faults bay.new) k)) }
+    ensures looks { OnlyLooks B.header B.files B.begun B.changes B.failed B.admits B.faults bay.old bay.new result }
+{
     let no_header = check_standing(alloc, header, bay)?;
     let written = next_header(alloc, header, step, bay)?;
     let folder = folder_of(alloc, &written, step)?;
-    check_size(header, raws)?;
     Ok(Place {
         header: written,
         folder,
