@@ -11,7 +11,7 @@ ghost use Rattle.idx_gather.specs.Gather.{HasFolder, HaveSame, LacksVolume, None
 ghost use Rattle.idx_ingest.specs.Ingested.{EndsFailed, IsIngested, known};
 
 use crate::IngestEnd;
-use crate::publishing::publish_newest;
+use crate::publishing::publish_at;
 use idx_edition::Edition;
 use idx_gather::{GatherFault, gather};
 use idx_hall::Hall;
@@ -20,7 +20,7 @@ use idx_lock::{Seat, TurnLock};
 use idx_outside::{Bay, Gate, NoMemory, Source};
 use idx_serve::Site;
 use std::alloc::Global;
-use std::sync::{Arc, Wait};
+use std::sync::Wait;
 use std::thread::Threads;
 
 /// Gathers a step at a revision out of raw volumes, one for each rank, and publishes it at the writer's seat, behind all
@@ -91,12 +91,7 @@ where
         Err(GatherFault::NoMemory) => return (seat, IngestEnd::NoMemory),
         Err(why) => return (seat, IngestEnd::Refused { why }),
     };
-    let Ok(edition) = Arc::new(alloc, edition) else {
-        return (seat, IngestEnd::NoMemory);
-    };
-    let mut chair = lock.chair(rt, seat);
-    let published = publish_newest(&mut chair, edition);
-    let seat = chair.leave();
+    let (seat, published) = publish_at(rt, alloc, lock, seat, edition);
     match published {
         Ok(post) => (seat, IngestEnd::Published { post }),
         Err(NoMemory) => (seat, IngestEnd::NoMemory),

@@ -4,9 +4,39 @@ ghost use Rattle.idx_hall.specs.Posts.{post_of};
 ghost use Rattle.idx_turn.specs.Stands.{MadeHolds};
 
 use idx_hall::Hall;
+use idx_lock::{Seat, TurnLock};
 use idx_outside::{Blocks, NoMemory};
 use idx_turn::Turn;
-use std::sync::Arc;
+use std::alloc::Global;
+use std::sync::{Arc, Wait};
+
+/// Publishes a step at the writer's seat, behind all others and as the newest of its time, in one hold, and answers its
+/// number. After a refusal there is none more.
+pub(crate) fn publish_at<E: Blocks + Drop, H: Wait>(
+    rt: &H,
+    alloc: Global,
+    lock: &TurnLock<Hall<E>>,
+    seat: Seat<Hall<E>>,
+    edition: E,
+) -> (Seat<Hall<E>>, Result<u64, NoMemory>)
+    requires lock { seat.lock ≡ lock.now }
+    requires writer { seat.writer ≡ true }
+    requires shape { E.shape edition ≡ seat.seen.shape }
+    ensures number { IfOk result.1 (λ number. number ≡ length seat.seen.posts) }
+    ensures published { OnOk result.1 (result.0.seen.posts ≡ seat.seen.posts
+        ++ post_of seat.seen.shape (E.time edition) (E.has edition) (E.stored edition) ∷ []) }
+    ensures kept { OnErr result.1 (result.0.seen.posts ≡ seat.seen.posts) }
+    ensures lock { result.0.lock ≡ lock.now }
+    ensures writer { result.0.writer ≡ true }
+    ensures shape { result.0.seen.shape ≡ seat.seen.shape }
+{
+    let Ok(edition) = Arc::new(alloc, edition) else {
+        return (seat, Err(NoMemory));
+    };
+    let mut chair = lock.chair(rt, seat);
+    let published = publish_newest(&mut chair, edition);
+    (chair.leave(), published)
+}
 
 /// Publishes a step behind all others, as the newest of its time, in one hold, and answers its number. After a refusal
 /// there is none more.
