@@ -3,6 +3,7 @@ ghost use Rattle.std.specs.Prelude.{◌≡◌, true, IfOk, vec_len};
 ghost use Rattle.idx_layout.specs.Shape.{shape_of};
 ghost use Rattle.idx_ingest_cases.specs.Ready.{AreAlike, CanIngest, HaveBytes, IsBegun, IsWriter};
 
+use crate::late_link::{LateLink, Ready, STEP, Side, Visit, gate_of_a_late_link};
 use idx_edition::{Edition, block_lengths};
 use idx_gather::GatherFault;
 use idx_hall::Hall;
@@ -12,13 +13,14 @@ use idx_lock::{Seat, TurnLock};
 use idx_memory::{HoldGate, MemBay, MemDoor, MemLeaf, MemLink, MemReader, MemSource};
 use idx_outside::{Bay, Bytes, FreeGate, Gate, GatePlace, NoMemory};
 use idx_serve::{Site, Summary};
+use idx_session::LinkEnd;
 use idx_turn::Turn;
 use idx_workers::serve;
 use std::alloc::Global;
 use std::process::Abort;
 use std::sync::Wait;
 use std::test::Fail;
-use std::thread::Threads;
+use std::thread::{Threads, for_each_mut};
 
 /// A dataset of one byte a sample: two axes of two bits each, blocks of four samples, files of two blocks, ten steps.
 static HEADER: &[u8] =
@@ -26,6 +28,31 @@ static HEADER: &[u8] =
 
 /// Its raw volume.
 static RAW: [u8; 16] = [0, 1, 2, 3, 4, 5, 6, 7, 8, 9, 10, 11, 12, 13, 14, 15];
+
+/// Another one.
+static LATER: [u8; 16] = [
+    16, 17, 18, 19, 20, 21, 22, 23, 24, 25, 26, 27, 28, 29, 30, 31,
+];
+
+/// What two heads are answered that ask for four samples, the first out of the step of the one volume, the second out of
+/// that of the other, which was published in between.
+const REPLIES: &[u8] = b"HTTP/1.1 200 OK\r\n\
+    Content-Type: application/octet-stream\r\n\
+    Content-Length: 4\r\n\
+    visus-compression: raw\r\n\
+    visus-dtype: uint8\r\n\
+    visus-samples: 4\r\n\
+    visus-post: 0\r\n\
+    \r\n\
+    \x00\x02\x08\x0aHTTP/1.1 200 OK\r\n\
+    Content-Type: application/octet-stream\r\n\
+    Content-Length: 4\r\n\
+    visus-compression: raw\r\n\
+    visus-dtype: uint8\r\n\
+    visus-samples: 4\r\n\
+    visus-post: 1\r\n\
+    \r\n\
+    \x10\x12\x18\x1a";
 
 /// A head that asks for all of the step 0.
 static WHOLE: &[u8] = b"GET /mod_visus?action=boxquery&dataset=v&box=0+3+0+3 HTTP/1.1\r\n\r\n";
@@ -100,7 +127,7 @@ fn stage_with(alloc: Global, header: Header) -> Result<Stage, Fail>
 }
 
 /// Ingests the first revision of a step at the writer's seat, and gives the seat back.
-fn ingest_at<R: Threads + Wait + Sync>(
+pub(crate) fn ingest_at<R: Threads + Wait + Sync>(
     rt: &R,
     alloc: Global,
     site: &Site,
@@ -246,6 +273,40 @@ fn a_refused_step_is_not(rt: HostRuntime) -> Result<(), Fail> {
         found: 15,
     };
     assert!(rt; outcome == (IngestEnd::Refused { why }, 0, 0));
+    Ok(())
+}
+
+/// Runs two sides beside each other.
+fn run_both<R: Threads + Wait + Sync>(rt: &R, alloc: Global, sides: &mut Vec<Side>) {
+    for_each_mut(
+        rt,
+        sides.as_mut_slice(),
+        2,
+        &|_, side: &mut Side| side.run(rt, alloc),
+    );
+}
+
+#[test]
+fn a_head_behind_a_publish_is_answered_out_of_it(rt: HostRuntime) -> Result<(), Fail> {
+    let alloc = rt.alloc();
+    let Stage {
+        site,
+        lock,
+        mut writer,
+    } = stage_of(&rt, alloc)?;
+    let seat = lock.split(&mut writer);
+    let bay = bay_of(alloc, &rt, &site.header, STEP)?;
+    let ready = Ready::new(&site, &lock, writer, raws_of(alloc, &LATER)?, bay);
+    let gate = gate_of_a_late_link();
+    let visit = Visit::new(&site, &lock, seat, LateLink::new(&gate, REPLIES));
+    let mut sides = Vec::new(alloc);
+    sides.push(Side::of_visit(&gate, visit))?;
+    sides.push(Side::of_writer(&gate, ready))?;
+    run_both(&rt, alloc, &mut sides);
+    assert!(rt; !gate.met_limit());
+    assert!(rt; sides.len() == 2);
+    assert!(rt; sides[0].served() == Some((LinkEnd::Closed, true)));
+    assert!(rt; sides[1].ended() == Some(IngestEnd::Published { post: 1 }));
     Ok(())
 }
 

@@ -3,3 +3,5 @@
 
 #[cfg(test)]
 mod ingests;
+#[cfg(test)]
+mod late_link;
