@@ -1,5 +1,8 @@
 //! Steps that are published, or why they are not.
-ghost use Rattle.std.specs.Prelude.{◌≡◌, true, IfOk, vec_len};
+ghost use Rattle.std.specs.Prelude.{◌≡◌, true, IfOk, OnOk, Some, vec_len};
+ghost use Rattle.idx_header.specs.Header.{at_revision};
+ghost use Rattle.idx_header.specs.Names.{step_folder};
+ghost use Rattle.idx_gather.specs.Gather.{HasFolder};
 ghost use Rattle.idx_layout.specs.Shape.{shape_of};
 ghost use Rattle.idx_ingest_cases.specs.Ready.{AreAlike, CanIngest, HaveBytes, IsBegun, IsWriter};
 
@@ -80,18 +83,27 @@ fn raw_of(alloc: Global, bytes: &[u8]) -> Result<MemSource, NoMemory>
 fn bay_of(alloc: Global, rt: &impl Abort, header: &Header, time: u64) -> Result<MemBay, Fail>
     ensures { IfOk result (IsBegun header.now time) }
 {
-    assert!(rt; header.has_time(time));
-    assert!(rt; header.steps().is_some());
+    let folder = folder_of(alloc, rt, header, time)?;
     let mut bay = MemBay::new(
         Bytes::new(alloc),
         Vec::new(alloc),
         Vec::new(alloc),
         Vec::new(alloc),
     );
-    let at = header.at_revision(alloc, 0)?;
-    let folder = at.step_folder(alloc, time)?.expect(rt, "a folder");
     bay.begin_step(folder.as_slice())?;
     Ok(bay)
+}
+
+/// The folder of this step, at its first revision.
+fn folder_of(alloc: Global, rt: &impl Abort, header: &Header, time: u64) -> Result<Bytes, Fail>
+    ensures has { OnOk result (HasFolder (at_revision 0 header.now) time) }
+    ensures folder { IfOk result (λ folder. step_folder (at_revision 0 header.now) time ≡ Some folder) }
+{
+    assert!(rt; header.has_time(time));
+    assert!(rt; header.steps().is_some());
+    let at = header.at_revision(alloc, 0)?;
+    let folder = at.step_folder(alloc, time)?.expect(rt, "a folder");
+    Ok(folder)
 }
 
 /// An empty hall for steps of a dataset.
