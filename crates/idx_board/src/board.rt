@@ -11,7 +11,7 @@ use crate::steps::steps_of;
 use idx_edition::{Edition, LoadFault, block_lengths};
 use idx_hall::Hall;
 use idx_header::Header;
-use idx_outside::{Bay, Reader};
+use idx_outside::{Bay, Blocks, NoMemory, Reader};
 use std::alloc::Global;
 
 /// A hall with the steps of a dataset that stand, by rising time, and room for so many cached blocks. The tables of their
@@ -45,8 +45,7 @@ pub fn hall_of<B: Bay, R: Reader<B::Leaf>>(
     ensures begun { B.begun bay.new ≡ B.begun bay.old }
     ensures changes { B.changes bay.new ≡ B.changes bay.old }
 {
-    let lengths = block_lengths(alloc, header)?;
-    let mut hall = Hall::new(alloc, capacity, header.block_count(), lengths)?;
+    let mut hall = empty_hall(alloc, header, capacity)?;
     let (first, count) = steps_of(header);
     for number in 0..count {
         match publish_step(alloc, header, first + number, bay, reader, &mut hall) {
@@ -55,4 +54,20 @@ pub fn hall_of<B: Bay, R: Reader<B::Leaf>>(
         }
     }
     Ok(hall)
+}
+
+/// A hall for a dataset, as yet without a step, and with room for so many cached blocks.
+fn empty_hall<E: Blocks + Drop>(
+    alloc: Global,
+    header: &Header,
+    capacity: u32,
+) -> Result<Hall<E>, NoMemory>
+    requires some { 1 ≤ capacity }
+    requires few { capacity ≤ 65536 }
+    ensures board { IfOk result (λ hall. hall.board ≡ []) }
+    ensures hall_shape { IfOk result (λ hall. hall.shape ≡ shape_of header.now) }
+    ensures cache { IfOk result (λ hall. hall.cache ≡ cached [] capacity) }
+{
+    let lengths = block_lengths(alloc, header)?;
+    Hall::new(alloc, capacity, header.block_count(), lengths)
 }

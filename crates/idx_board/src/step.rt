@@ -3,7 +3,6 @@ ghost use Rattle.idx_outside.specs.Cause.{MadeReads, NeverFalls};
 ghost use Rattle.idx_outside.specs.Files.{StillAdmits};
 ghost use Rattle.idx_layout.specs.Shape.{shape_of};
 ghost use Rattle.idx_header.specs.Header.{HasTime};
-ghost use Rattle.std.specs.Arc.{arc_value};
 ghost use Rattle.idx_hall.specs.Posts.{Lacks, post_of};
 ghost use Rattle.idx_edition.specs.Loaded.{IsCause, counts};
 ghost use Rattle.idx_board.specs.Standing.{IsStepAdded, bad_at, reads_at};
@@ -51,24 +50,24 @@ pub(crate) fn publish_step<B: Bay, R: Reader<B::Leaf>>(
     let Some(edition) = Edition::load_newest(alloc, header, time, bay, reader)? else {
         return Ok(());
     };
-    let Ok(edition) = Arc::new(alloc, edition) else {
-        return Err(LoadFault::NoMemory);
-    };
-    add(hall, edition)
+    add(alloc, hall, edition)
 }
 
 /// Publishes a step that the hall lacks, which has no cached block.
-fn add<E: Blocks + Drop>(hall: &mut Hall<E>, edition: Arc<E>) -> Result<(), LoadFault>
-    requires shape { E.shape (arc_value edition) ≡ hall.old.shape }
-    requires lacks { Lacks (E.time (arc_value edition)) hall.old.board }
+fn add<E: Blocks + Drop>(alloc: Global, hall: &mut Hall<E>, edition: E) -> Result<(), LoadFault>
+    requires shape { E.shape edition ≡ hall.old.shape }
+    requires lacks { Lacks (E.time edition) hall.old.board }
     requires empty { hall.old.cache.pairs ≡ [] }
     ensures added { OnOk result (hall.new.board ≡ hall.old.board ++ post_of hall.old.shape
-        (E.time (arc_value edition)) (E.has (arc_value edition)) (E.stored (arc_value edition)) ∷ []) }
+        (E.time edition) (E.has edition) (E.stored edition) ∷ []) }
     ensures refused { IfErr result (λ fault. fault ≡ LoadFault.NoMemory) }
     ensures shape { hall.new.shape ≡ hall.old.shape }
     ensures cache { hall.new.cache ≡ hall.old.cache }
 {
-    match hall.publish(edition, None) {
+    let Ok(shared) = Arc::new(alloc, edition) else {
+        return Err(LoadFault::NoMemory);
+    };
+    match hall.publish(shared, None) {
         Ok(_) => Ok(()),
         Err((_, PublishRefusal::NoMemory)) => Err(LoadFault::NoMemory),
         Err((_, PublishRefusal::AlreadyPublished { .. })) => unreachable!(),
