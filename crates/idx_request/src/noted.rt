@@ -1,4 +1,4 @@
-ghost use Rattle.std.specs.Prelude.{◌≡◌, ℕ, List, [], ◌∷◌, ◌++◌, if◌then◌else◌};
+ghost use Rattle.std.specs.Prelude.{◌≡◌, ℕ, List, [], ◌∷◌, ◌++◌, bytes_eq, if◌then◌else◌};
 ghost use Rattle.idx_request.specs.Kept.{IsNoted};
 ghost use Rattle.idx_request.specs.Pairs.{is_double, text_of};
 
@@ -15,7 +15,7 @@ pub(crate) enum Noted<'a> {
 
 impl<'a> Noted<'a> {
     /// The same with one more value, if that is one of this parameter.
-    pub(crate) fn and(self, here: bool, value: &'a [u8]) -> Noted<'a>
+    fn and(self, here: bool, value: &'a [u8]) -> Noted<'a>
         ensures { (before : List (List ℕ)) → IsNoted self.entry before
             → IsNoted result (if here then before ++ text_of value.now ∷ [] else before) }
     {
@@ -27,6 +27,14 @@ impl<'a> Noted<'a> {
             Noted::Once(_) => Noted::Twice,
             Noted::Twice => Noted::Twice,
         }
+    }
+
+    /// The same with one more pair, if its name is that of this parameter.
+    pub(crate) fn with(self, name: &[u8], key: &[u8], value: &'a [u8]) -> Noted<'a>
+        ensures { (before : List (List ℕ)) → IsNoted self.entry before
+            → IsNoted result (if bytes_eq key.now name.now then before ++ text_of value.now ∷ [] else before) }
+    {
+        self.and(key == name, value)
     }
 
     /// Whether it stands there more than once.

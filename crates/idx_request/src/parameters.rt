@@ -62,17 +62,15 @@ impl<'a> Parameters<'a> {
         let key = key.as_str().as_bytes();
         Ok(Parameters {
             bad: self.bad | (bad | bad_text),
-            action: self.action.and(key == b"action".as_slice(), value),
-            dataset: self.dataset.and(key == b"dataset".as_slice(), value),
-            time: self.time.and(key == b"time".as_slice(), value),
-            field: self.field.and(key == b"field".as_slice(), value),
-            region: self.region.and(key == b"box".as_slice(), value),
-            lo: self.lo.and(key == b"fromh".as_slice(), value),
-            hi: self.hi.and(key == b"toh".as_slice(), value),
-            finest: self.finest.and(key == b"maxh".as_slice(), value),
-            compression: self
-                .compression
-                .and(key == b"compression".as_slice(), value),
+            action: self.action.with(b"action", key, value),
+            dataset: self.dataset.with(b"dataset", key, value),
+            time: self.time.with(b"time", key, value),
+            field: self.field.with(b"field", key, value),
+            region: self.region.with(b"box", key, value),
+            lo: self.lo.with(b"fromh", key, value),
+            hi: self.hi.with(b"toh", key, value),
+            finest: self.finest.with(b"maxh", key, value),
+            compression: self.compression.with(b"compression", key, value),
         })
     }
 
