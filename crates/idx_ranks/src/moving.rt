@@ -1,5 +1,5 @@
 //! Raw volumes, moved into jobs and back.
-ghost use Rattle.std.specs.Prelude.{◌≡◌, ◌<◌, ◌≤◌, [], All, IfOk, OnErr, OnOk, vec_capacity, vec_len};
+ghost use Rattle.std.specs.Prelude.{◌≡◌, ◌+◌, ◌<◌, ◌≤◌, ◌++◌, ◌∷◌, [], All, IfOk, OnErr, OnOk, vec_capacity, vec_len};
 ghost use Rattle.std.specs.List.{range_with_len};
 ghost use Rattle.idx_ranks.specs.Jobs.{IsBegun, ranks_of, raws_of, reads_of, region_of};
 
@@ -28,17 +28,30 @@ pub(crate) fn make_jobs<V: Source>(
     let count = raws.len();
     let mut jobs = Vec::with_capacity(alloc, count)?;
     for taken in 0..count {
-        let raw = raws.pop().unwrap();
-        let rank = (count - 1 - taken) as u32;
-        let job = Job {
-            raw,
-            region: region_of(header, count as u32, rank),
-            rank,
-            read: Err(RawRefusal::NoMemory),
-        };
+        let job = last_job(header, count as u32, raws);
         jobs.insert(0, job).unwrap();
     }
     Ok(jobs)
+}
+
+/// A job for the last raw volume, which is moved into it. Its rank is one of `n` that may have a part.
+fn last_job<V: Source>(header: &Header, n: u32, raws: &mut Vec<V>) -> Job<V>
+    requires some { 0 < vec_len raws.old }
+    requires few { vec_len raws.old ≤ 256 }
+    ensures raws { raws.old.items ≡ raws.new.items ++ result.raw ∷ [] }
+    ensures fewer { vec_len raws.old ≡ vec_len raws.new + 1 }
+    ensures rank { result.rank ≡ vec_len raws.new }
+    ensures begun { IsBegun header.now.box n result }
+    ensures room { vec_capacity raws.new ≡ vec_capacity raws.old }
+{
+    let raw = raws.pop().unwrap();
+    let rank = raws.len() as u32;
+    Job {
+        raw,
+        region: region_of(header, n, rank),
+        rank,
+        read: Err(RawRefusal::NoMemory),
+    }
 }
 
 /// The region of a rank, of `n` that may have a part, where it has one.

@@ -1,4 +1,4 @@
-ghost use Rattle.std.specs.Prelude.{◌≡◌, ◌<◌, ◌≤◌, ℕ, All, IfErr, IfOk, List, OnErr, OnOk, Some, drop, map, vec_len};
+ghost use Rattle.std.specs.Prelude.{◌≡◌, ◌<◌, ◌≤◌, ℕ, All, IfErr, IfOk, List, OnErr, OnOk, Some, drop, map, vec_capacity, vec_len};
 ghost use Rattle.idx_header.specs.Header.{volume_bytes};
 ghost use Rattle.idx_outside.specs.Counts.{NoneFell};
 ghost use Rattle.idx_outside.specs.Objects.{SameContents};
@@ -86,11 +86,25 @@ fn read_all<V: Source + Send, G: Gate, R: Threads + Sync>(
 {
     let whole = header.region();
     prove!(whole.axes() >= 2);
-    // It tells that the raw volumes fit in the room that they have, so that they can be moved back there.
-    raws.reserve(0)?;
-    let mut reads = Vec::with_capacity(alloc, raws.len())?;
+    let mut reads = room_for_reads(alloc, raws)?;
     let mut jobs = make_jobs(alloc, header, raws)?;
     run_all(rt, alloc, header, pieces, &mut jobs, gate);
     give_back(jobs, raws, &mut reads);
+    Ok(reads)
+}
+
+/// Room for what each raw volume gives. The raw volumes stay as they are.
+fn room_for_reads<V: Source>(
+    alloc: Global,
+    raws: &mut Vec<V>,
+) -> Result<Vec<Result<Vec<Parcel>, RawRefusal>>, NoMemory>
+    ensures same { raws.new.items ≡ raws.old.items }
+    ensures fit { OnOk result (vec_len raws.new ≤ vec_capacity raws.new) }
+    ensures none { IfOk result (λ reads. vec_len reads ≡ 0) }
+    ensures room { IfOk result (λ reads. vec_len raws.new ≤ vec_capacity reads) }
+{
+    // It tells that the raw volumes fit in the room that they have, so that they can be moved back there.
+    raws.reserve(0)?;
+    let reads = Vec::with_capacity(alloc, raws.len())?;
     Ok(reads)
 }
