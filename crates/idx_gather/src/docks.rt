@@ -2,7 +2,8 @@ ghost use Rattle.std.specs.Prelude.{◌≡◌, ◌≢◌, ◌↔◌, All, Contai
 ghost use Rattle.idx_dock.specs.Dock.{IsDivision, IsDock, new_dock};
 ghost use Rattle.idx_layout.specs.OfHeader.{placing_of};
 ghost use Rattle.idx_layout.specs.Placing.{file_numbers};
-ghost use Rattle.idx_gather.specs.States.{AreFull};
+ghost use Rattle.idx_pieces.specs.Pieces.{IsPiece};
+ghost use Rattle.idx_gather.specs.States.{AreFull, wanted};
 ghost use Rattle.idx_gather.specs.Windows.{window_of};
 
 use crate::wanted::wanted_pieces;
@@ -25,13 +26,12 @@ impl<L: Leaf> Opening<L> {
     {
         let left = &self.files[self.leaves.len()..];
         let count = window_count(&self.header, left, self.room);
-        let docks = make_docks(alloc, &self.header, &self.pieces, &left[..count])?;
-        let wanted = wanted_pieces(alloc, &self.header, &self.pieces, &left[..count])?;
+        let (docks, left) = make_window(alloc, &self.header, &self.pieces, &left[..count])?;
         Ok(Docking {
             opening: self,
             docks,
             done: 0,
-            left: wanted,
+            left,
         })
     }
 }
@@ -66,6 +66,24 @@ fn are_full(docks: &[Dock]) -> bool
         }
     }
     true
+}
+
+/// The docks of some files of a division of the box, and its pieces that have a point in one of these.
+fn make_window(
+    alloc: Global,
+    header: &Header,
+    pieces: &Vec<Piece>,
+    files: &[u64],
+) -> Result<(Vec<Dock>, Vec<Piece>), NoMemory>
+    requires files { All (Contains (file_numbers (placing_of header.now))) files.now }
+    requires division { IsDivision header.now pieces.now.items }
+    requires pieces { All (IsPiece header.now) pieces.now.items }
+    ensures docks { IfOk result (λ made. made.0.items ≡ map (new_dock header.now pieces.now.items) files.now) }
+    ensures wanted { IfOk result (λ made. made.1.items ≡ wanted header.now files.now pieces.now.items) }
+{
+    let docks = make_docks(alloc, header, pieces, files)?;
+    let wanted = wanted_pieces(alloc, header, pieces, files)?;
+    Ok((docks, wanted))
 }
 
 /// The docks of some files of a division of the box, to which nothing was delivered.

@@ -10,7 +10,7 @@ ghost use Rattle.idx_gather.specs.States.{IsStepOf};
 use crate::committing::commit_leaves;
 use crate::{GatherFault, Opening, Sealed};
 use idx_edition::Edition;
-use idx_outside::{Bay, BayFault, Blocks, Leaf};
+use idx_outside::{Bay, Blocks, Leaf};
 use std::alloc::Global;
 
 impl<L: Leaf> Opening<L> {
@@ -81,10 +81,7 @@ impl<L: Leaf> Sealed<L> {
         } = self;
         match commit_leaves(alloc, &header, step, leaves, bay) {
             Ok(edition) => Ok(edition),
-            Err(BayFault::Outage) => Err(GatherFault::StoreFault {
-                faults: bay.faults(),
-            }),
-            Err(BayFault::NoMemory) => Err(GatherFault::NoMemory),
+            Err(fault) => Err(GatherFault::of_bay(fault, bay)),
         }
     }
 }

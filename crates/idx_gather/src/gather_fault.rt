@@ -1,8 +1,8 @@
 ghost use Rattle.std.specs.Prelude.{◌≡◌};
-ghost use Rattle.idx_gather.specs.Causes.{fault_of_ranks};
+ghost use Rattle.idx_gather.specs.Causes.{fault_of_bay, fault_of_ranks};
 ghost use Rattle.idx_gather.specs.declared.gather_fault.GatherFault.TheVariants.{NoMemory as no_memory};
 
-use idx_outside::NoMemory;
+use idx_outside::{Bay, BayFault, NoMemory};
 use idx_ranks::RanksFault;
 use thiserror::Error;
 
@@ -21,6 +21,20 @@ pub enum GatherFault {
     /// There was no memory.
     #[error("not enough memory")]
     NoMemory,
+}
+
+impl GatherFault {
+    /// The fault of gathering where a call on the bay, or on a draft of it, answered this one.
+    pub(crate) fn of_bay<B: Bay>(fault: BayFault, bay: &B) -> GatherFault
+        ensures { result ≡ fault_of_bay (B.faults bay.now) fault }
+    {
+        match fault {
+            BayFault::Outage => GatherFault::StoreFault {
+                faults: bay.faults(),
+            },
+            BayFault::NoMemory => GatherFault::NoMemory,
+        }
+    }
 }
 
 /// The fault of gathering where there is no memory.

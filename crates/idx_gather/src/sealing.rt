@@ -7,7 +7,7 @@ ghost use Rattle.idx_gather.specs.States.{AreFull};
 ghost use Rattle.idx_seal.specs.Files.{dock_file};
 
 use crate::{Docking, GatherFault, Opening};
-use idx_outside::{Bay, BayFault, Gate, Leaf};
+use idx_outside::{Bay, Gate, Leaf};
 use idx_seal::seal_docks;
 use std::alloc::Global;
 use std::thread::Threads;
@@ -68,10 +68,7 @@ impl<L: Leaf> Docking<L> {
                 Ok(()) => Ok(opening),
                 Err(_) => Err(GatherFault::NoMemory),
             },
-            Err(BayFault::Outage) => Err(GatherFault::StoreFault {
-                faults: bay.faults(),
-            }),
-            Err(BayFault::NoMemory) => Err(GatherFault::NoMemory),
+            Err(fault) => Err(GatherFault::of_bay(fault, bay)),
         }
     }
 }
