@@ -13,7 +13,7 @@ use Rattle.idx_hall.specs.Posts.{Post}
 use Rattle.idx_turn.specs.LockId.{LockId}
 use Rattle.idx_turn.specs.Stands.{Begins, stand}
 use Rattle.idx_lock.specs.Seats.{SeatValue, seat_value}
-use Rattle.idx_edition.specs.Loaded.{Counts, IsBayFault, IsReaderFault}
+use Rattle.idx_edition.specs.Loaded.{IsBayFault, IsReaderFault}
 use Rattle.idx_edition.specs.declared.load_fault.LoadFault.TheVariants as loads
 use Rattle.idx_extract.specs.Extract.{IsHeaderFault, Known, Under}
 use Rattle.idx_serve.specs.declared.door.Summary.{Summary}

@@ -80,7 +80,7 @@ where
         Ok(opened) => opened,
         Err(fault) => return Err(fault),
     };
-    serve_hall(rt, alloc, &site, hall, workers, readers, doors, gate)
+    serve_hall(rt, alloc, site, hall, workers, readers, doors, gate)
 }
 
 /// Serves out of a hall that no one else has. There may be no memory for it to be taken in turn.
@@ -93,7 +93,7 @@ fn serve_hall<
 >(
     rt: &H,
     alloc: Global,
-    site: &Site,
+    site: Site,
     hall: Hall<Edition<L>>,
     workers: u32,
     readers: &mut Vec<R>,
@@ -102,14 +102,14 @@ fn serve_hall<
 ) -> Result<Summary, HostFault>
 where
     D::Link: Send,
-    requires shape { hall.shape ≡ shape_of site.now.header }
+    requires shape { hall.shape ≡ shape_of site.header }
     requires some { 0 < workers }
     requires few { workers ≤ 64 }
     requires a_door { workers ≤ vec_len doors.old }
     requires a_reader { workers ≤ vec_len readers.old }
     ensures served { IfOk result (AreServedOut
         (tells (link_tells D.Link.incoming D.Link.written D.Link.faults) D.told D.faults R.faults R.reads)
-        site.now workers doors.old.items doors.new.items readers.old.items readers.new.items hall.board hall.board) }
+        site workers doors.old.items doors.new.items readers.old.items readers.new.items hall.board hall.board) }
     ensures only { IfErr result (λ fault. fault ≡ HostFault.NoMemory) }
     ensures doors { OnErr result (doors.new.items ≡ doors.old.items) }
     ensures readers { OnErr result (readers.new.items ≡ readers.old.items) }
@@ -118,7 +118,7 @@ where
         return Err(HostFault::NoMemory);
     };
     let seat = lock.split(&mut writer);
-    let (seat, summary) = serve(rt, alloc, site, &lock, seat, doors, readers, workers, gate);
+    let (seat, summary) = serve(rt, alloc, &site, &lock, seat, doors, readers, workers, gate);
     lock.join(&mut writer, seat);
     Ok(summary)
 }

@@ -1,8 +1,11 @@
 ghost use Rattle.std.specs.Prelude.{◌≡◌, ◌≢◌, ◌≤◌, ◌<◌, Err, IfErr, IfOk, IfSome, None, Ok, [], vec_len};
+ghost use Rattle.idx_outside.specs.Calls.{last_failed};
 ghost use Rattle.idx_outside.specs.Cause.{MadeReads, NeverFalls};
 ghost use Rattle.idx_outside.specs.Files.{StillAdmits};
 ghost use Rattle.idx_outside.specs.Objects.{OthersUntouched, faults_at};
+ghost use Rattle.idx_outside.specs.declared.bay_call.BayCall.{BayCall};
 ghost use Rattle.idx_header.specs.HeaderOf.{header_of};
+ghost use Rattle.idx_header.specs.OfBay.{Gives, IsFaultOf, IsRefusal, OnlyAsks, asked_quietly};
 ghost use Rattle.idx_layout.specs.Shape.{shape_of};
 ghost use Rattle.idx_cache.specs.Cached.{cached};
 ghost use Rattle.idx_query.specs.Capacity.{capacity_for};
@@ -14,7 +17,7 @@ use crate::HostFault;
 use idx_board::hall_of;
 use idx_edition::Edition;
 use idx_hall::Hall;
-use idx_header::Header;
+use idx_header::{Header, HeaderRefusal};
 use idx_outside::{Bay, Bytes, NoMemory, Reader};
 use idx_query::capacity_of;
 use idx_serve::Site;
@@ -94,17 +97,30 @@ fn open_with<B: Bay, R: Reader<B::Leaf>>(
     ensures begun { B.begun bay.new ≡ B.begun bay.old }
     ensures changes { B.changes bay.new ≡ B.changes bay.old }
 {
-    let header = match Header::of_bay(alloc, bay) {
-        Ok(header) => header,
+    let site = match site_in(alloc, name, bay) {
+        Ok(site) => site,
         Err(refusal) => return Err(HostFault::from(refusal)),
     };
-    let name = match Bytes::from_slice(alloc, name) {
-        Ok(name) => name,
-        Err(NoMemory) => return Err(HostFault::NoMemory),
-    };
-    let capacity = capacity_of(&header, cache);
-    match hall_of(alloc, &header, capacity, bay, reader) {
-        Ok(hall) => Ok((Site { header, name }, hall)),
+    let capacity = capacity_of(&site.header, cache);
+    match hall_of(alloc, &site.header, capacity, bay, reader) {
+        Ok(hall) => Ok((site, hall)),
         Err(fault) => Err(HostFault::from(fault)),
+    }
+}
+
+/// The site of the header of a bay, with this name.
+fn site_in<B: Bay>(alloc: Global, name: &[u8], bay: &mut B) -> Result<Site, HeaderRefusal>
+    ensures name { IfOk result (λ site. site.name ≡ name.now) }
+    ensures gives { IfOk result (λ site. Gives (B.header bay.old) site.header) }
+    ensures refused { IfErr result (IsRefusal IsFaultOf (B.header bay.old) (B.faults bay.old) (B.faults bay.new)) }
+    ensures asks { OnlyAsks B.header B.files B.admits B.faults bay.old bay.new result }
+    ensures begun { B.begun bay.new ≡ B.begun bay.old }
+    ensures changes { B.changes bay.new ≡ B.changes bay.old }
+    ensures failed { B.failed bay.new ≡ last_failed BayCall.Header (asked_quietly result) (B.failed bay.old) }
+{
+    let header = Header::of_bay(alloc, bay)?;
+    match Bytes::from_slice(alloc, name) {
+        Ok(name) => Ok(Site { header, name }),
+        Err(NoMemory) => Err(HeaderRefusal::NoMemory),
     }
 }
