@@ -1,8 +1,10 @@
 -- What one call after another does to a bay.
-use Rattle.std.proofs.Common.{◌≡◌, ℕ, zero, suc, ◌+◌, ◌-◌, ◌≤◌, List, Option, Err, refl, sym, subst, ◌∙◌, arith}
+use Rattle.std.proofs.Common.{◌≡◌, ◌≢◌, ℕ, zero, suc, ◌+◌, ◌-◌, ◌≤◌, List, Option, Result, Ok, Err, refl, sym, subst, ◌∙◌, arith}
+use Rattle.std.specs.Result.{IsErrAnd}
 use Rattle.idx_outside.specs.Cause.{NeverFalls, Rose}
 use Rattle.idx_outside.specs.declared.bay_call.BayCall.{BayCall}
 use Rattle.idx_outside.specs.declared.bay_fault.BayFault.{BayFault}
+use Rattle.idx_outside.specs.declared.bay_fault.BayFault.TheVariants.{NoMemory, Outage}
 use Rattle.idx_outside.specs.declared.mem_file.MemFile.{MemFile}
 use Rattle.idx_seal.specs.Bay.{Answers, GivesUp, Keeps}
 
@@ -50,6 +52,20 @@ pub refused_then : (fault : BayFault) (before middle after : ℕ) (f g h : Optio
     after ≡ middle → h ≡ g → Answers {T = Unit {0}} (Err fault) before after f h
 refused_then fault before middle after f g h answers same unfailed =
     subst (λ n. Answers {T = Unit {0}} (Err fault) before n f h) (sym same) (subst (λ call. Answers {T = Unit {0}} (Err fault) before middle f call) (sym unfailed) answers)
+
+-- a refusal is handed on, before which the count and the call had stayed
+pub handed_on : {T : Type 0} (r : Result T BayFault) (fault : BayFault) (start before after : ℕ) (first f h : Option BayCall) →
+    IsErrAnd r (λ other. other ≡ fault) → Answers {T = Unit {0}} (Err fault) before after f h → before ≡ start → f ≡ first → Answers r start after first h
+handed_on (Ok value) fault start before after first f h gives answers same unfailed = absurd gives
+handed_on (Err other) fault start before after first f h gives answers same unfailed =
+    subst (λ e. Answers {T = Unit {0}} (Err e) start after first h) (sym gives)
+    (subst (λ n. Answers {T = Unit {0}} (Err fault) n after first h) same (subst (λ call. Answers {T = Unit {0}} (Err fault) before after call h) unfailed answers))
+
+-- at any answer but a fault that was counted, the call stayed
+pub call_stays : {T : Type 0} (r : Result T BayFault) (before after : ℕ) (f h : Option BayCall) → Answers r before after f h → r ≢ Err Outage → h ≡ f
+call_stays (Ok value) before after f h answers other = answers.1
+call_stays (Err NoMemory) before after f h answers other = answers.1
+call_stays (Err Outage) before after f h answers other = absurd (other refl)
 
 module _ {S : Type 0} (header : S → Option (List ℕ)) (files : S → Option (List MemFile)) (begun : S → Option (List ℕ)) (admits : S → List ℕ → Type 0) (faults : S → ℕ) where
   pub keeps_none : (bay : S) → Keeps header files begun admits faults bay bay

@@ -19,6 +19,11 @@ or_false : (a b : Bool) → (a || b) ≡ false → (a ≡ false) × (b ≡ false
 or_false true b none = absurd (cc)
 or_false false b none = (refl, none)
 
+-- what holds of each one, told one after the other
+pub all_in_turn : {X : Type 0} (P : X → Type 0) (xs : List X) → All P xs → AllByRecursion P xs
+all_in_turn P [] all = tt
+all_in_turn P (x ∷ xs) all = (All-head P x xs all, all_in_turn P xs (All-tail P x xs all))
+
 known_retold : (known : Option (List MemFile)) (bytes : List ℕ) → retold (known_with known []) bytes ≡ known_with known bytes
 known_retold None bytes = refl
 known_retold (Some files) bytes = refl

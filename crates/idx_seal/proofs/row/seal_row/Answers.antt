@@ -7,7 +7,7 @@ use Rattle.idx_outside.specs.Files.{shown}
 use Rattle.idx_seal.specs.Bay.{IsSealCall}
 use Rattle.idx_seal.specs.Files.{dock_file}
 use Rattle.idx_seal.specs.Jobs.{has_failed, job_shown, planned}
-use Rattle.idx_seal.proofs.BayLemmas.{refused_then}
+use Rattle.idx_seal.proofs.BayLemmas.{keeps_then, refused_then}
 use Rattle.idx_seal.proofs.RowLemmas.{opened_faultless, row_failed, row_leaves, row_sealed}
 use Rattle.idx_seal.proofs.row.seal_row.Goals as goal
 
@@ -54,3 +54,15 @@ returns-clause-leaves g c =
     row_leaves known (shown contents c.take_leaves.new.leaves.items) (shown contents c.args.leaves.now.items) (map (job_shown contents) new)
     (map planned old) (map f (into_iter_items c.open_row.new.docks)) (map f (into_iter_items c.args.docks.now))
     c.take_leaves.ensures.leaves made.1 c.in_default-open_row.ensures.planned
+
+pub returns-in-Err-clause-kept : goal.returns-in-Err-clause-kept
+returns-in-Err-clause-kept g c =
+    let bay = g.B.Bay in
+    keeps_then bay.header bay.files bay.begun bay.admits bay.faults c.args.bay.now c.open_row.new.bay c.give_all_up.new.bay
+    c.in-Err.ensures.kept c.give_all_up.ensures.kept
+
+pub returns-then-any_failed-clause-kept : goal.returns-then-any_failed-clause-kept
+returns-then-any_failed-clause-kept g c =
+    let bay = g.B.Bay in
+    keeps_then bay.header bay.files bay.begun bay.admits bay.faults c.args.bay.now c.open_row.new.bay c.give_all_up-then-any_failed.new.bay
+    c.in_default-open_row.ensures.kept c.give_all_up-then-any_failed.ensures.kept
