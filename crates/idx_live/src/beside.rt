@@ -18,7 +18,6 @@ use idx_lock::{Seat, TurnLock};
 use idx_outside::{Bay, Door, Gate, Reader, Source};
 use idx_serve::{Site, Summary};
 use std::alloc::Global;
-use std::mem;
 use std::sync::Wait;
 use std::thread::Threads;
 
@@ -70,17 +69,9 @@ where
     ensures written { IsWritten V.contents V.faults B.header B.files B.begun B.failed B.faults site.now time revision
         writer.seen.posts result.0.seen.posts raws.old.items raws.new.items bay.old bay.new result.1.ingested }
 {
-    let mut serving = Serving {
-        doors: mem::replace(doors, Vec::new(alloc)),
-        workers,
-        place: Some(lock.split(&mut writer)),
-    };
-    let mut writing = Writing {
-        raws: mem::replace(raws, Vec::new(alloc)),
-        time,
-        revision,
-        place: Some(writer),
-    };
+    let seat = lock.split(&mut writer);
+    let mut serving = Serving::new(alloc, doors, workers, seat);
+    let mut writing = Writing::new(alloc, raws, time, revision, writer);
     let ((seat, summary), (mut writer, ingested)) = run_sides(
         rt,
         alloc,
@@ -93,19 +84,8 @@ where
         bay,
     );
     lock.join(&mut writer, seat);
-    let Serving {
-        doors: served,
-        workers: _,
-        place: _,
-    } = serving;
-    mem::replace(doors, served).destroy_empty();
-    let Writing {
-        raws: used,
-        time: _,
-        revision: _,
-        place: _,
-    } = writing;
-    mem::replace(raws, used).destroy_empty();
+    serving.give_back(doors);
+    writing.give_back(raws);
     (writer, Live { summary, ingested })
 }
 

@@ -40,13 +40,19 @@ pub(crate) fn check_size<V: Source>(header: &Header, raws: &mut Vec<V>) -> Resul
 {
     let want = header.volume_bytes();
     match raws[0].len() {
-        Ok(found) => {
-            if found == want {
-                Ok(())
-            } else {
-                Err(LiveFault::RawWrongSize { want, found })
-            }
-        }
+        Ok(found) => size_is(want, found),
         Err(_) => Err(LiveFault::RawFault),
+    }
+}
+
+/// Refuses another length than the one that is wanted.
+fn size_is(want: u64, found: u64) -> Result<(), LiveFault>
+    ensures same { OnOk result (found ≡ want) }
+    ensures other { IfErr result (λ fault. (fault ≡ LiveFault.RawWrongSize want found) × (found ≢ want)) }
+{
+    if found == want {
+        Ok(())
+    } else {
+        Err(LiveFault::RawWrongSize { want, found })
     }
 }

@@ -1,5 +1,5 @@
 //! The two sides: those who serve, and the one who writes.
-ghost use Rattle.std.specs.Prelude.{◌≡◌, vec_len};
+ghost use Rattle.std.specs.Prelude.{◌≡◌, [], Some, vec_len};
 ghost use Rattle.idx_layout.specs.Shape.{shape_of};
 ghost use Rattle.idx_serve.specs.Visits.{link_tells};
 ghost use Rattle.idx_workers.specs.Workers.{tells};
@@ -13,6 +13,7 @@ use idx_outside::{Bay, Door, Gate, Leaf, Reader, Source};
 use idx_serve::{Site, Summary};
 use idx_workers::serve;
 use std::alloc::Global;
+use std::mem;
 use std::sync::Wait;
 use std::thread::Threads;
 
@@ -29,6 +30,79 @@ pub(crate) struct Writing<S, V> {
     pub(crate) time: u64,
     pub(crate) revision: u32,
     pub(crate) place: Option<Seat<S>>,
+}
+
+impl<S, D> Serving<S, D> {
+    /// So many workers at these doors, which are taken out of their list, and on this seat.
+    pub(crate) fn new(
+        alloc: Global,
+        doors: &mut Vec<D>,
+        workers: u32,
+        seat: Seat<S>,
+    ) -> Serving<S, D>
+        ensures doors { result.doors ≡ doors.old }
+        ensures taken { doors.new.items ≡ [] }
+        ensures workers { result.workers ≡ workers }
+        ensures place { result.place ≡ Some seat }
+    {
+        Serving {
+            doors: mem::replace(doors, Vec::new(alloc)),
+            workers,
+            place: Some(seat),
+        }
+    }
+
+    /// Gives the doors back to their list, which is empty.
+    pub(crate) fn give_back(self, doors: &mut Vec<D>)
+        requires { doors.old.items ≡ [] }
+        ensures { doors.new.items ≡ self.doors.items }
+    {
+        let Serving {
+            doors: served,
+            workers: _,
+            place: _,
+        } = self;
+        mem::replace(doors, served).destroy_empty();
+    }
+}
+
+impl<S, V> Writing<S, V> {
+    /// The writer of this step at this revision, on this seat, out of these raw volumes, which are taken out of their
+    /// list.
+    pub(crate) fn new(
+        alloc: Global,
+        raws: &mut Vec<V>,
+        time: u64,
+        revision: u32,
+        seat: Seat<S>,
+    ) -> Writing<S, V>
+        ensures raws { result.raws ≡ raws.old }
+        ensures taken { raws.new.items ≡ [] }
+        ensures time { result.time ≡ time }
+        ensures revision { result.revision ≡ revision }
+        ensures place { result.place ≡ Some seat }
+    {
+        Writing {
+            raws: mem::replace(raws, Vec::new(alloc)),
+            time,
+            revision,
+            place: Some(seat),
+        }
+    }
+
+    /// Gives the raw volumes back to their list, which is empty.
+    pub(crate) fn give_back(self, raws: &mut Vec<V>)
+        requires { raws.old.items ≡ [] }
+        ensures { raws.new.items ≡ self.raws.items }
+    {
+        let Writing {
+            raws: used,
+            time: _,
+            revision: _,
+            place: _,
+        } = self;
+        mem::replace(raws, used).destroy_empty();
+    }
 }
 
 impl<L: Leaf + Send + Sync, D: Door + Send> Serving<Hall<Edition<L>>, D> {
