@@ -1,6 +1,8 @@
+ghost use Rattle.std.specs.Prelude.{◌≡◌, [], ◌∷◌};
+
 use idx_geom::{Point, Region};
 use idx_hz::{Mask, MaskFault, guess};
-use std::test::Fail;
+use std::process::Abort;
 
 fn fault_of(text: &[u8]) -> Option<MaskFault> {
     Mask::parse(text).err()
@@ -24,7 +26,7 @@ fn tells_why_a_text_is_no_mask(rt: HostRuntime) {
 }
 
 /// Points of a mask of two axes with two bits each, with their Z addresses, their levels and their hierarchical addresses.
-const ADDRESSES: [([u64; 2], (u64, u32, u64)); 4] = [
+static ADDRESSES: [([u64; 2], (u64, u32, u64)); 4] = [
     ([0, 0], (0, 0, 0)),
     ([2, 2], (12, 2, 3)),
     ([1, 1], (3, 4, 9)),
@@ -51,29 +53,40 @@ fn points_at(mask: &Mask, z: u64, hz: u64) -> Option<[[u64; 2]; 2]> {
     Some([[by_z.get(0), by_z.get(1)], [by_hz.get(0), by_hz.get(1)]])
 }
 
-#[test]
-fn addresses_a_grid_of_four_by_four(rt: HostRuntime) -> Result<(), Fail> {
-    let mask = Mask::parse(b"V0101").map_err(|_| "no mask")?;
-    assert!(rt; (mask.len(), mask.bits(0), mask.axis(1), mask.axis(4)) == (4, 2, 0, 1));
-    for (p, (z, level, hz)) in ADDRESSES {
-        assert!(rt; addresses_of(&mask, p) == Some((z, level, hz)));
-        assert!(rt; points_at(&mask, z, hz) == Some([p, p]));
-    }
-    Ok(())
+/// A mask of two axes with two bits each.
+fn square_mask(rt: &impl Abort) -> Mask
+    ensures { result ≡ 0 ∷ 1 ∷ 0 ∷ 1 ∷ [] }
+{
+    Mask::parse(b"V0101").ok().expect(rt, "a mask")
 }
 
 #[test]
-fn tells_what_lies_below_a_mask(rt: HostRuntime) -> Result<(), Fail> {
-    let mask = Mask::parse(b"V0101").map_err(|_| "no mask")?;
-    let inner = Point::new(&[1, 3]).ok_or("no point")?;
-    let outer = Point::new(&[1, 4]).ok_or("no point")?;
+fn addresses_a_grid_of_four_by_four(rt: HostRuntime) {
+    let mask = square_mask(&rt);
+    assert!(rt; (mask.len(), mask.bits(0), mask.axis(1), mask.axis(4)) == (4, 2, 0, 1));
+    for &(p, (z, level, hz)) in &ADDRESSES {
+        assert!(rt; addresses_of(&mask, p) == Some((z, level, hz)));
+        assert!(rt; points_at(&mask, z, hz) == Some([p, p]));
+    }
+}
+
+fn point(rt: &impl Abort, first: u64, second: u64) -> Point {
+    Point::new(&[first, second]).expect(rt, "a point")
+}
+
+fn region(rt: &impl Abort, lo: Point, hi: Point) -> Region {
+    Region::new(lo, hi).expect(rt, "a region")
+}
+
+#[test]
+fn tells_what_lies_below_a_mask(rt: HostRuntime) {
+    let mask = square_mask(&rt);
+    let (inner, outer) = (point(&rt, 1, 3), point(&rt, 1, 4));
     assert!(rt; mask.names_axes(2) && !mask.names_axes(1));
     assert!(rt; mask.covers(&inner) && !mask.covers(&outer));
     assert!(rt; mask.has_address(&inner));
-    let part = Region::new(inner, inner).ok_or("no region")?;
-    let past = Region::new(inner, outer).ok_or("no region")?;
-    assert!(rt; mask.holds(&part) && !mask.holds(&past));
-    Ok(())
+    assert!(rt; mask.holds(&region(&rt, inner, inner)));
+    assert!(rt; !mask.holds(&region(&rt, inner, outer)));
 }
 
 /// The guessed mask of a box from the origin.

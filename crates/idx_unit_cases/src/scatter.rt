@@ -41,11 +41,8 @@ fn scatter(
 ) {
     let mask = order.mask();
     assert!(rt; mask.holds(order.region()));
-    assert!(rt; bits <= 20);
-    assert!(rt; bits <= mask.len());
-    assert!(rt; block < 1 << (mask.len() - bits));
-    assert!(rt; 1 <= size && size <= 64);
-    assert!(rt; samples.len() == size << bits);
+    assert!(rt; bits <= 20 && bits <= mask.len() && block < 1 << (mask.len() - bits));
+    assert!(rt; 1 <= size && size <= 64 && samples.len() == size << bits);
     assert!(rt; into.len() as u64 == size as u64 * order.count());
     scatter_block(order, bits, block, size, samples, into);
 }
@@ -78,36 +75,49 @@ fn widened(alloc: Global, numbers: &[u8], size: u8) -> Result<Vec<u8>, AllocErro
     Ok(samples)
 }
 
+/// An answer from the stored samples, each of so many bytes.
+fn widened_answer(
+    rt: &impl Abort,
+    alloc: Global,
+    order: &Order,
+    size: u8,
+) -> Result<Vec<u8>, AllocError> {
+    let stored = widened(alloc, &STORED, size)?;
+    answer(rt, alloc, order, 2, size as usize, &stored)
+}
+
+/// The ends of a region, its levels, and the samples of its answer.
+type Answer = ([u64; 2], [u64; 2], (u32, u32), &'static [u8]);
+
+static ANSWERS: [Answer; 8] = [
+    (
+        [0, 0],
+        [3, 3],
+        (0, 4),
+        &[0, 1, 2, 3, 4, 5, 6, 7, 8, 9, 10, 11, 12, 13, 14, 15],
+    ),
+    ([0, 0], [3, 3], (0, 2), &[0, 2, 8, 10]),
+    ([0, 0], [3, 3], (0, 3), &[0, 1, 2, 3, 8, 9, 10, 11]),
+    (
+        [0, 0],
+        [3, 3],
+        (3, 4),
+        &[1, 3, 4, 5, 6, 7, 9, 11, 12, 13, 14, 15],
+    ),
+    ([0, 0], [3, 3], (3, 3), &[1, 3, 9, 11]),
+    ([0, 0], [3, 3], (4, 4), &[4, 5, 6, 7, 12, 13, 14, 15]),
+    ([1, 1], [2, 3], (3, 3), &[9]),
+    ([1, 1], [1, 1], (0, 0), &[]),
+];
+
 #[test]
 fn an_answer_has_its_samples_in_row_major_order(rt: HostRuntime) -> Result<(), Fail> {
-    let table: [([u64; 2], [u64; 2], (u32, u32), &[u8]); 8] = [
-        (
-            [0, 0],
-            [3, 3],
-            (0, 4),
-            &[0, 1, 2, 3, 4, 5, 6, 7, 8, 9, 10, 11, 12, 13, 14, 15],
-        ),
-        ([0, 0], [3, 3], (0, 2), &[0, 2, 8, 10]),
-        ([0, 0], [3, 3], (0, 3), &[0, 1, 2, 3, 8, 9, 10, 11]),
-        (
-            [0, 0],
-            [3, 3],
-            (3, 4),
-            &[1, 3, 4, 5, 6, 7, 9, 11, 12, 13, 14, 15],
-        ),
-        ([0, 0], [3, 3], (3, 3), &[1, 3, 9, 11]),
-        ([0, 0], [3, 3], (4, 4), &[4, 5, 6, 7, 12, 13, 14, 15]),
-        ([1, 1], [2, 3], (3, 3), &[9]),
-        ([1, 1], [1, 1], (0, 0), &[]),
-    ];
     let mask = mask_of(&rt, b"V0101");
-    for (lo, hi, levels, numbers) in table {
-        let order = order_of(&rt, &mask, &region_of(&rt, &lo, &hi), levels);
+    for (lo, hi, levels, numbers) in &ANSWERS {
+        let order = order_of(&rt, &mask, &region_of(&rt, lo, hi), *levels);
         for size in [1, 2, 3, 5] {
-            let stored = widened(rt.alloc(), &STORED, size)?;
-            let wanted = widened(rt.alloc(), numbers, size)?;
-            let got = answer(&rt, rt.alloc(), &order, 2, size as usize, &stored)?;
-            assert!(rt; got.as_slice() == wanted.as_slice());
+            let got = widened_answer(&rt, rt.alloc(), &order, size)?;
+            assert!(rt; got == widened(rt.alloc(), numbers, size)?);
         }
     }
     Ok(())
@@ -133,6 +143,25 @@ fn addresses(
     Ok(addresses)
 }
 
+/// Whether an answer from blocks of each of these sizes has the sample of each point's address.
+fn has_samples_of_addresses(
+    rt: &impl Abort,
+    alloc: Global,
+    mask: &Mask,
+    region: &Region,
+    levels: (u32, u32),
+    stored: &[u8],
+) -> Result<bool, AllocError> {
+    let order = order_of(rt, mask, region, levels);
+    let wanted = addresses(rt, alloc, mask, region, levels)?;
+    for bits in [0, 2, 3, 6] {
+        if answer(rt, alloc, &order, bits, 1, stored)? != wanted {
+            return Ok(false);
+        }
+    }
+    Ok(true)
+}
+
 #[test]
 fn each_point_gets_the_sample_of_its_address(rt: HostRuntime) -> Result<(), Fail> {
     let mask = mask_of(&rt, b"V012012");
@@ -145,12 +174,9 @@ fn each_point_gets_the_sample_of_its_address(rt: HostRuntime) -> Result<(), Fail
         for coarsest in 0..=6 {
             for finest in coarsest..=6 {
                 let levels = (coarsest, finest);
-                let order = order_of(&rt, &mask, &region, levels);
-                let wanted = addresses(&rt, rt.alloc(), &mask, &region, levels)?;
-                for bits in [0, 2, 3, 6] {
-                    let got = answer(&rt, rt.alloc(), &order, bits, 1, &stored)?;
-                    assert!(rt; got.as_slice() == wanted.as_slice());
-                }
+                assert!(rt;
+                    has_samples_of_addresses(&rt, rt.alloc(), &mask, &region, levels, &stored)?
+                );
             }
         }
     }

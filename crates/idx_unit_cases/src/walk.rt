@@ -1,4 +1,4 @@
-ghost use Rattle.std.specs.Prelude.{◌≡◌, ◌≤◌, IfOk, length};
+ghost use Rattle.std.specs.Prelude.{◌≡◌, ◌≤◌, IfOk, IfSome, length};
 ghost use Rattle.idx_stride.specs.Strides.{end_of};
 
 use idx_geom::{Point, Region};
@@ -21,7 +21,7 @@ struct Case {
 
 /// Volumes of two to five axes with odd extents, whose masks name the axes in any order and some axes not at all, and
 /// regions that begin off the grids.
-const CASES: [Case; 6] = [
+static CASES: [Case; 6] = [
     Case {
         mask: b"V0101",
         extent: [&[0, 0], &[3, 3]],
@@ -67,10 +67,13 @@ fn region_of(rt: &impl Abort, ends: [&[u64]; 2]) -> Region {
 }
 
 /// The samples that a walk visits.
-fn visited(alloc: Global, walk: &Strides, raw: &[u8]) -> Result<Bytes, NoMemory>
-    requires end { end_of walk.now ≤ length raw.now }
-    requires few { walk.now.size ≤ 64 }
+fn visited(alloc: Global, walk: Option<&Strides>, raw: &[u8]) -> Result<Bytes, NoMemory>
+    requires end { IfSome walk (λ w. end_of w.now ≤ length raw.now) }
+    requires few { IfSome walk (λ w. w.now.size ≤ 64) }
 {
+    let Some(walk) = walk else {
+        return Ok(Bytes::new(alloc));
+    };
     let mut samples = Bytes::zeros(alloc, (walk.count() * walk.size()) as usize)?;
     walk.gather(raw, 0, samples.as_mut_slice());
     Ok(samples)
@@ -87,31 +90,56 @@ fn volume(alloc: Global, size: u64) -> Result<Bytes, NoMemory>
     Ok(bytes)
 }
 
+/// A region that is asked for, in a volume of samples of so many bytes, with the volume's box and mask.
+#[derive(Clone, Copy)]
+struct Asked {
+    mask: Mask,
+    extent: Region,
+    region: Region,
+    size: u64,
+}
+
+fn asked_of(rt: &impl Abort, case: &Case) -> Asked {
+    Asked {
+        mask: Mask::parse(case.mask).expect(rt, "a mask"),
+        extent: region_of(rt, case.extent),
+        region: region_of(rt, case.region),
+        size: case.size,
+    }
+}
+
+/// Whether a walk over these levels visits the samples that the search finds.
+fn agree(
+    rt: &impl Abort,
+    alloc: Global,
+    asked: &Asked,
+    levels: (u32, u32),
+    raw: &[u8],
+) -> Result<bool, NoMemory> {
+    let Asked {
+        mask,
+        extent,
+        region,
+        size,
+    } = *asked;
+    assert!(rt; mask.holds(&extent) && extent.holds(&region));
+    assert!(rt; levels.0 <= levels.1 && levels.1 <= mask.len());
+    assert!(rt; 1 <= size && size <= 64 && raw.len() as u64 == size * extent.count());
+    let found = answer_by_points(alloc, &mask, &extent, &region, levels, size, raw)?;
+    let walk = walk(&mask, &extent, &region, levels.0, levels.1, size);
+    let walked = visited(alloc, walk.as_ref(), raw)?;
+    Ok(walked.as_slice() == found.as_slice())
+}
+
 #[test]
 fn a_walk_visits_what_the_search_finds(rt: HostRuntime) -> Result<(), Fail> {
     for case in &CASES {
-        let mask = Mask::parse(case.mask).expect(&rt, "a mask");
-        let extent = region_of(&rt, case.extent);
-        let region = region_of(&rt, case.region);
-        assert!(rt; mask.holds(&extent) && extent.holds(&region));
-        assert!(rt; 1 <= case.size && case.size <= 64);
-        let raw = volume(rt.alloc(), case.size * extent.count())?;
-        for hi in 0..mask.len() + 1 {
+        let asked = asked_of(&rt, case);
+        assert!(rt; asked.size <= 64);
+        let raw = volume(rt.alloc(), asked.size * asked.extent.count())?;
+        for hi in 0..asked.mask.len() + 1 {
             for lo in 0..hi + 1 {
-                let found = answer_by_points(
-                    rt.alloc(),
-                    &mask,
-                    &extent,
-                    &region,
-                    (lo, hi),
-                    case.size,
-                    raw.as_slice(),
-                )?;
-                let samples = match walk(&mask, &extent, &region, lo, hi, case.size) {
-                    None => Bytes::new(rt.alloc()),
-                    Some(walk) => visited(rt.alloc(), &walk, raw.as_slice())?,
-                };
-                assert!(rt; samples.as_slice() == found.as_slice());
+                assert!(rt; agree(&rt, rt.alloc(), &asked, (lo, hi), raw.as_slice())?);
             }
         }
     }
