@@ -48,7 +48,7 @@ fn holds(rt: &HostRuntime, path: &str, bytes: &[u8]) -> bool {
 }
 
 /// What is no regular file, or cannot be reached, and why.
-const NO_FILES: [(&str, &str); 3] = [
+static NO_FILES: [(&str, &str); 3] = [
     ("/dev/null/source.raw", "Not a directory (os error 20)"),
     (".", "not a regular file"),
     ("/dev/null", "not a regular file"),

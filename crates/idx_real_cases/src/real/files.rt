@@ -20,6 +20,12 @@ fn source(rt: &HostRuntime, path: &str) -> Result<FileSource<HostRuntime>, Fail>
     Ok(FileSource::new(rt.clone()?, path))
 }
 
+/// A file with these bytes at this path.
+fn written(rt: &HostRuntime, path: &str, bytes: &[u8]) -> Result<FileSource<HostRuntime>, Fail> {
+    fs::write(rt, path, bytes)?;
+    source(rt, path)
+}
+
 fn length(file: &mut FileSource<HostRuntime>) -> Option<u64> {
     file.len().ok()
 }
@@ -84,8 +90,7 @@ fn a_long_file_is_read_in_two_pieces_also_where_its_path_is_gone(
     rt: HostRuntime,
 ) -> Result<(), Fail> {
     let bytes = long_bytes(rt.alloc(), 1_600_000)?;
-    fs::write(&rt, "long.raw", bytes.as_slice())?;
-    let mut file = source(&rt, "long.raw")?;
+    let mut file = written(&rt, "long.raw", bytes.as_slice())?;
     assert!(rt; length(&mut file) == Some(1_600_000));
     fs::remove_file(&rt, "long.raw")?;
     for (at, count) in [(1_100_777, 499_223), (777, 1_100_000)] {
@@ -96,8 +101,7 @@ fn a_long_file_is_read_in_two_pieces_also_where_its_path_is_gone(
 
 #[test]
 fn a_range_that_passes_the_end_is_a_fault(rt: HostRuntime) -> Result<(), Fail> {
-    fs::write(&rt, "short.raw", [1u8, 2, 3, 4, 5].as_slice())?;
-    let mut file = source(&rt, "short.raw")?;
+    let mut file = written(&rt, "short.raw", &[1, 2, 3, 4, 5])?;
     for (at, want) in [
         (2, Some([3, 4, 5])),
         (0, Some([1, 2, 3])),
@@ -114,8 +118,7 @@ fn a_range_that_passes_the_end_is_a_fault(rt: HostRuntime) -> Result<(), Fail> {
 
 #[test]
 fn a_file_that_has_shrunk_is_a_fault(rt: HostRuntime) -> Result<(), Fail> {
-    fs::write(&rt, "shrunk.raw", [1u8, 2, 3].as_slice())?;
-    let mut file = source(&rt, "shrunk.raw")?;
+    let mut file = written(&rt, "shrunk.raw", &[1, 2, 3])?;
     assert!(rt; three_bytes(&mut file, 0).is_some());
     fs::write(&rt, "shrunk.raw", [9u8].as_slice())?;
     assert!(rt; three_bytes(&mut file, 0).is_none());
@@ -134,7 +137,7 @@ fn fails_for(rt: &HostRuntime, path: &str, reason: &str) -> Result<bool, Fail> {
 
 #[test]
 fn what_is_no_regular_file_is_a_fault_with_its_reason(rt: HostRuntime) -> Result<(), Fail> {
-    for (path, reason) in NO_FILES {
+    for &(path, reason) in &NO_FILES {
         assert!(rt; fails_for(&rt, path, reason)?);
     }
     assert!(rt;
@@ -153,32 +156,36 @@ fn leaf(alloc: Global, path: &str) -> Result<FileLeaf, Fail> {
     Ok(FileLeaf::new(String::from_str(alloc, path)?, 2))
 }
 
-/// Two bytes of a finished file.
-fn two_bytes(reader: &mut FileReader<HostRuntime>, leaf: &FileLeaf, at: u64) -> Option<[u8; 2]> {
+/// Two bytes of the finished file at this path; none where the call failed.
+fn two_bytes(
+    alloc: Global,
+    reader: &mut FileReader<HostRuntime>,
+    path: &str,
+    at: u64,
+) -> Result<Option<[u8; 2]>, Fail> {
     let mut into = [0u8; 2];
-    reader.read_at(leaf, at, &mut into).ok().map(|()| into)
+    let leaf = leaf(alloc, path)?;
+    Ok(reader.read_at(&leaf, at, &mut into).ok().map(|()| into))
 }
+
+/// Places of two files and of one that is not there, in the order of their reads, with two bytes from there on.
+static PLACES: [(&str, u64, Option<[u8; 2]>); 6] = [
+    ("one.raw", 1, Some([2, 3])),
+    ("two.raw", 1, Some([5, 6])),
+    ("two.raw", 0, Some([4, 5])),
+    ("not.raw", 0, None),
+    ("one.raw", 0, Some([1, 2])),
+    ("one.raw", 2, None),
+];
 
 #[test]
 fn finished_files_are_read_by_places(rt: HostRuntime) -> Result<(), Fail> {
     let alloc = rt.alloc();
     fs::write(&rt, "one.raw", [1u8, 2, 3].as_slice())?;
     fs::write(&rt, "two.raw", [4u8, 5, 6].as_slice())?;
-    let (one, two, gone) = (
-        leaf(alloc, "one.raw")?,
-        leaf(alloc, "two.raw")?,
-        leaf(alloc, "not.raw")?,
-    );
     let mut reader = FileReader::new(rt.clone()?, alloc);
-    for (leaf, at, want) in [
-        (&one, 1, Some([2, 3])),
-        (&two, 1, Some([5, 6])),
-        (&two, 0, Some([4, 5])),
-        (&gone, 0, None),
-        (&one, 0, Some([1, 2])),
-        (&one, 2, None),
-    ] {
-        assert!(rt; two_bytes(&mut reader, leaf, at) == want);
+    for &(path, at, want) in &PLACES {
+        assert!(rt; two_bytes(alloc, &mut reader, path, at)? == want);
     }
     let want = "one.raw: the range that was asked for passes the end of the file";
     assert!(rt; is_text(alloc, reader.last_fault(), want)?);

@@ -7,9 +7,15 @@ fn header(alloc: Global, bay: &mut FolderBay<HostRuntime>) -> Result<Option<Byte
     Ok(bay.header(&mut into).ok().map(|()| into))
 }
 
+/// The header at this path behind one letter; none where the call failed.
+fn header_at(rt: &HostRuntime, path: &str) -> Result<Option<Bytes>, Fail> {
+    let mut bay = folder(rt, path)?;
+    header(rt.alloc(), &mut bay)
+}
+
 /// Whether the header reads so behind one letter.
 fn reads(rt: &HostRuntime, path: &str, want: &[u8]) -> Result<bool, Fail> {
-    match header(rt.alloc(), &mut folder(rt, path)?)? {
+    match header_at(rt, path)? {
         Some(text) => Ok(text.as_slice() == want),
         None => Ok(false),
     }
@@ -26,6 +32,11 @@ fn fault_of_put(rt: &HostRuntime, path: &str) -> Result<String, Fail> {
     text(rt.alloc(), bay.last_fault())
 }
 
+/// Whether a header is not put for this reason.
+fn is_not_put(rt: &HostRuntime, path: &str, reason: &str) -> Result<bool, Fail> {
+    Ok(fault_of_put(rt, path)?.as_str() == reason)
+}
+
 /// The fault of a call that reads a header.
 fn fault_of_read(rt: &HostRuntime, path: &str) -> Result<String, Fail> {
     let mut bay = folder(rt, path)?;
@@ -40,7 +51,7 @@ fn a_header_is_put_once_and_read(rt: HostRuntime) -> Result<(), Fail> {
     assert!(rt; reads(&rt, path, b"a")?);
     assert!(rt; puts(&rt, path, b"text")? && reads(&rt, path, b"atext")?);
     let want = "first/set/dataset.idx: something stands there already";
-    assert!(rt; fault_of_put(&rt, path)?.as_str() == want);
+    assert!(rt; is_not_put(&rt, path, want)?);
     assert!(rt; reads(&rt, path, b"atext")?);
     assert!(rt; !stands(&rt, "first/set/dataset.idx.part0"));
     fs::remove_dir_all(&rt, "first")?;
@@ -62,14 +73,19 @@ fn an_empty_header_file_is_none_and_a_staged_one_is_left_alone(
     Ok(())
 }
 
+/// Writes a file of so many bytes.
+fn write_sevens(rt: &HostRuntime, path: &str, length: usize) -> Result<(), Fail> {
+    let bytes = vec![in rt.alloc(); 7u8; length]?;
+    Ok(fs::write(rt, path, bytes.as_slice())?)
+}
+
 /// How many bytes are read of a header file of so many.
 fn length_read(rt: &HostRuntime, length: usize) -> Result<Option<usize>, Fail> {
-    let (path, alloc) = ("long.idx", rt.alloc());
-    let bytes = vec![in alloc; 7u8; length]?;
-    fs::write(rt, path, bytes.as_slice())?;
-    let text = header(alloc, &mut folder(rt, path)?)?;
+    let path = "long.idx";
+    write_sevens(rt, path, length)?;
+    let read = header_at(rt, path)?.map(|text| text.len());
     fs::remove_file(rt, path)?;
-    Ok(text.map(|text| text.len()))
+    Ok(read)
 }
 
 #[test]
@@ -90,11 +106,11 @@ fn fails_for(rt: &HostRuntime, path: &str, reason: &str) -> Result<bool, Fail> {
 fn a_header_that_is_no_regular_file_is_a_fault_with_its_reason(
     rt: HostRuntime,
 ) -> Result<(), Fail> {
-    for (path, reason) in NO_FILES {
+    for &(path, reason) in &NO_FILES {
         assert!(rt; fails_for(&rt, path, reason)?);
     }
+    assert!(rt; fault_of_read(&rt, "gone/dataset.idx")?.is_empty());
     let (_pipe, path) = dead_pipe(&rt)?;
     assert!(rt; fails_for(&rt, path.as_str(), "not a regular file")?);
-    assert!(rt; fault_of_read(&rt, "gone/dataset.idx")?.is_empty());
     Ok(())
 }

@@ -95,15 +95,31 @@ fn why<R: Clock + Drop>(alloc: Global, link: &TcpLink<TcpStream, R>) -> Result<S
     }
 }
 
+/// Whether a link failed last for this reason.
+fn failed_for<R: Clock + Drop>(
+    alloc: Global,
+    link: &TcpLink<TcpStream, R>,
+    reason: &str,
+) -> Result<bool, Fail> {
+    Ok(why(alloc, link)?.as_str() == reason)
+}
+
+/// What a link takes of a peer that asks, and of the end of its input behind the answer.
+fn converse<L: Link>(link: &mut L, peer: &mut TcpStream) -> Result<[Option<usize>; 2], Fail> {
+    peer.write_all(b"ask")?;
+    let asked = takes(link);
+    if !gives(link, b"answer") {
+        return Err(Fail::from("no answer"));
+    }
+    peer.shutdown(Shutdown::Write)?;
+    Ok([asked, takes(link)])
+}
+
 #[test]
 fn bytes_go_both_ways(rt: HostRuntime) -> Result<(), Fail> {
     let (mut door, mut peer) = door_and_peer(&rt, rt.alloc(), Some(1), Patience::of_a_server())?;
     let mut link = next_link(&mut door)?;
-    peer.write_all(b"ask")?;
-    assert!(rt; takes(&mut link) == Some(3));
-    assert!(rt; gives(&mut link, b"answer"));
-    peer.shutdown(Shutdown::Write)?;
-    assert!(rt; takes(&mut link) == Some(0));
+    assert!(rt; converse(&mut link, &mut peer)? == [Some(3), Some(0)]);
     door.finish(link, Vec::new(rt.alloc()));
     assert!(rt; ends_with(rt.alloc(), &mut peer, b"answer")?);
     assert!(rt; gave_all(&mut door));
@@ -112,13 +128,19 @@ fn bytes_go_both_ways(rt: HostRuntime) -> Result<(), Fail> {
     Ok(())
 }
 
+/// Sends more than a link reads at once.
+fn send_much(peer: &mut TcpStream) -> Result<(), Fail> {
+    for _ in 0..200 {
+        peer.write_all(&[7; 100])?;
+    }
+    Ok(())
+}
+
 #[test]
 fn a_last_piece_reaches_a_peer_that_still_sends(rt: HostRuntime) -> Result<(), Fail> {
     let (mut door, mut peer) = door_and_peer(&rt, rt.alloc(), None, hasty())?;
     let mut link = next_link(&mut door)?;
-    for _ in 0..200 {
-        peer.write_all(&[7; 100])?;
-    }
+    send_much(&mut peer)?;
     assert!(rt; takes(&mut link) == Some(8));
     assert!(rt; gives(&mut link, b"last"));
     door.finish(link, Vec::new(rt.alloc()));
@@ -126,17 +148,51 @@ fn a_last_piece_reaches_a_peer_that_still_sends(rt: HostRuntime) -> Result<(), F
     Ok(())
 }
 
+/// Two doors of one listener, and its address.
+fn two_doors<R: Sockets>(
+    rt: &R,
+    alloc: Global,
+) -> Result<(TcpDoor<R>, TcpDoor<R>, SocketAddr), Fail> {
+    let shared = listener(alloc, "127.0.0.1:0")?;
+    let address = shared.bind(rt)?;
+    let first = TcpDoor::new(*rt, Arc::try_clone(&shared)?, None, hasty());
+    Ok((first, TcpDoor::new(*rt, shared, None, hasty()), address))
+}
+
+/// A peer that has sent these bytes.
+fn peer_that_sent<R: Sockets>(
+    rt: &R,
+    address: SocketAddr,
+    bytes: &[u8],
+) -> Result<TcpStream, Fail> {
+    let mut peer = peer_of(rt, address)?;
+    peer.write_all(bytes)?;
+    Ok(peer)
+}
+
+/// How many bytes a door's next link takes at once.
+fn next_takes<D: Door>(door: &mut D) -> Result<Option<usize>, Fail>
+where
+    D::Link: Drop,
+{
+    let mut link = next_link(door)?;
+    Ok(takes(&mut link))
+}
+
+/// How many bytes the next link of each of two doors takes at once, the first door's before the second's.
+fn both_take<D: Door>(first: &mut D, second: &mut D) -> Result<[Option<usize>; 2], Fail>
+where
+    D::Link: Drop,
+{
+    Ok([next_takes(first)?, next_takes(second)?])
+}
+
 #[test]
 fn doors_share_a_listener(rt: HostRuntime) -> Result<(), Fail> {
-    let shared = listener(rt.alloc(), "127.0.0.1:0")?;
-    let address = shared.bind(&rt)?;
-    let mut first = TcpDoor::new(rt, Arc::try_clone(&shared)?, None, hasty());
-    let mut second = TcpDoor::new(rt, shared, None, hasty());
-    let (mut one, mut other) = (peer_of(&rt, address)?, peer_of(&rt, address)?);
-    one.write_all(b"one")?;
-    other.write_all(b"other")?;
-    assert!(rt; takes(&mut next_link(&mut first)?) == Some(3));
-    assert!(rt; takes(&mut next_link(&mut second)?) == Some(5));
+    let (mut first, mut second, address) = two_doors(&rt, rt.alloc())?;
+    let _one = peer_that_sent(&rt, address, b"one")?;
+    let _other = peer_that_sent(&rt, address, b"other")?;
+    assert!(rt; both_take(&mut first, &mut second)? == [Some(3), Some(5)]);
     Ok(())
 }
 
@@ -157,7 +213,7 @@ fn fails_for<R: Sockets>(rt: &R, alloc: Global, address: &str, reason: &str) -> 
 }
 
 /// What cannot be listened at, and why.
-const NO_ADDRESSES: [(&str, &str); 3] = [
+static NO_ADDRESSES: [(&str, &str); 3] = [
     (
         "192.0.2.1:0",
         "Cannot assign requested address (os error 99)",
@@ -172,13 +228,18 @@ const NO_ADDRESSES: [(&str, &str); 3] = [
     ),
 ];
 
+/// Where a peer has connected.
+fn address_of(alloc: Global, peer: &TcpStream) -> Result<String, Fail> {
+    Ok(format!(in alloc; "{}", peer.peer_addr()?)?)
+}
+
 #[test]
 fn what_cannot_be_listened_at_is_told(rt: HostRuntime) -> Result<(), Fail> {
-    for (address, reason) in NO_ADDRESSES {
+    for &(address, reason) in &NO_ADDRESSES {
         assert!(rt; fails_for(&rt, rt.alloc(), address, reason)?);
     }
     let (_door, peer) = door_and_peer(&rt, rt.alloc(), None, hasty())?;
-    let taken = format!(in rt.alloc(); "{}", peer.peer_addr()?)?;
+    let taken = address_of(rt.alloc(), &peer)?;
     let reason = "Address already in use (os error 98)";
     assert!(rt; fails_for(&rt, rt.alloc(), taken.as_str(), reason)?);
     Ok(())
@@ -194,6 +255,19 @@ fn gives_until_refused<L: Link>(link: &mut L) -> bool {
     false
 }
 
+/// Whether a link failed last since its peer was gone, which the system tells in two ways.
+fn lost_its_peer<R: Clock + Drop>(
+    alloc: Global,
+    link: &TcpLink<TcpStream, R>,
+) -> Result<bool, Fail> {
+    let why = why(alloc, link)?;
+    let reasons = [
+        "Broken pipe (os error 32)",
+        "Connection reset by peer (os error 104)",
+    ];
+    Ok(reasons.contains(&why.as_str()))
+}
+
 #[test]
 fn a_peer_that_is_gone_is_a_fault(rt: HostRuntime) -> Result<(), Fail> {
     let (mut door, peer) = door_and_peer(&rt, rt.alloc(), None, hasty())?;
@@ -201,10 +275,6 @@ fn a_peer_that_is_gone_is_a_fault(rt: HostRuntime) -> Result<(), Fail> {
     drop(peer);
     assert!(rt; gives_until_refused(&mut link));
     assert!(rt; link.faults() == 1);
-    let gone = [
-        "Broken pipe (os error 32)",
-        "Connection reset by peer (os error 104)",
-    ];
-    assert!(rt; gone.contains(&why(rt.alloc(), &link)?.as_str()));
+    assert!(rt; lost_its_peer(rt.alloc(), &link)?);
     Ok(())
 }

@@ -1,5 +1,6 @@
 //! Steps in the test's own folder.
 use super::*;
+use std::process::Abort;
 
 fn begins(bay: &mut FolderBay<HostRuntime>, folder: &str) -> bool {
     bay.begin_step(folder.as_bytes()).is_ok()
@@ -19,6 +20,11 @@ fn written(bay: &mut FolderBay<HostRuntime>, path: &str, bytes: &[u8]) -> Option
             None
         }
     }
+}
+
+/// Whether a file of the step that was begun is written.
+fn writes(bay: &mut FolderBay<HostRuntime>, path: &str, bytes: &[u8]) -> bool {
+    written(bay, path, bytes).is_some()
 }
 
 /// Gives up a file of the step that was begun.
@@ -62,20 +68,42 @@ fn length_of(bay: &mut FolderBay<HostRuntime>, path: &str) -> Option<Option<u64>
     Some(bay.leaf(path.as_bytes()).ok()?.map(|leaf| leaf.len()))
 }
 
+/// Whether this is the text of the last fault, or of none.
+fn fails_for(alloc: Global, bay: &FolderBay<HostRuntime>, want: &str) -> Result<bool, Fail> {
+    is_text(alloc, bay.last_fault(), want)
+}
+
+/// Begins a step, writes a file of it, and gives up another one.
+fn staged(bay: &mut FolderBay<HostRuntime>) -> Option<FileLeaf> {
+    if !begins(bay, "d/t0") {
+        return None;
+    }
+    let leaf = written(bay, "d/t0/0/0.bin", &[1, 2, 3])?;
+    gives_up(bay, "d/t0/0/8.bin");
+    Some(leaf)
+}
+
+/// Whether the step's file stands in its staged folder alone.
+fn is_staged(rt: &HostRuntime) -> bool {
+    stands(rt, "new/set/d/t0.part/0/0.bin") && !stands(rt, "new/set/d/t0")
+}
+
+/// Whether the step's file stands in its folder alone, without the one that was given up.
+fn is_committed(rt: &HostRuntime) -> bool {
+    holds(rt, "new/set/d/t0/0/0.bin", &[1, 2, 3])
+        && !stands(rt, "new/set/d/t0.part")
+        && !stands(rt, "new/set/d/t0/0/8.bin")
+}
+
 #[test]
 fn a_step_stands_once_it_is_committed(rt: HostRuntime) -> Result<(), Fail> {
-    let alloc = rt.alloc();
     let mut bay = folder(&rt, "new/set/dataset.idx")?;
     assert!(rt; has(&mut bay, "d/t0") == Some(false));
-    assert!(rt; begins(&mut bay, "d/t0"));
-    let leaf = written(&mut bay, "d/t0/0/0.bin", &[1, 2, 3]).ok_or("no leaf")?;
+    let leaf = staged(&mut bay).ok_or("no leaf")?;
     assert!(rt; (leaf.len(), leaf.path()) == (3, "new/set/d/t0/0/0.bin"));
-    gives_up(&mut bay, "d/t0/0/8.bin");
-    assert!(rt; stands(&rt, "new/set/d/t0.part/0/0.bin") && !stands(&rt, "new/set/d/t0"));
-    assert!(rt; length_of(&mut bay, "d/t0/0/0.bin") == Some(None));
-    assert!(rt; commits(alloc, &mut bay, "d/t0", "d/t0/0/0.bin", leaf)?);
-    assert!(rt; holds(&rt, "new/set/d/t0/0/0.bin", &[1, 2, 3]));
-    assert!(rt; !stands(&rt, "new/set/d/t0.part") && !stands(&rt, "new/set/d/t0/0/8.bin"));
+    assert!(rt; is_staged(&rt) && length_of(&mut bay, "d/t0/0/0.bin") == Some(None));
+    assert!(rt; commits(rt.alloc(), &mut bay, "d/t0", "d/t0/0/0.bin", leaf)?);
+    assert!(rt; is_committed(&rt));
     fs::remove_dir_all(&rt, "new")?;
     Ok(())
 }
@@ -89,23 +117,28 @@ fn a_step_that_stands_is_found(rt: HostRuntime) -> Result<(), Fail> {
     assert!(rt; (has(&mut bay, "t0"), has(&mut bay, "plain")) == (Some(true), Some(false)));
     assert!(rt; length_of(&mut bay, "t0/0.bin") == Some(Some(3)));
     assert!(rt; length_of(&mut bay, "t0").is_none());
-    assert!(rt; is_text(alloc, bay.last_fault(), "found/t0: not a regular file")?);
+    assert!(rt; fails_for(alloc, &bay, "found/t0: not a regular file")?);
     assert!(rt; has(&mut bay, "plain/t").is_none());
     is_sendable(&bay);
     fs::remove_dir_all(&rt, "found")?;
     Ok(())
 }
 
+/// Leaves a staged folder, as a run does that ends too early.
+fn leave_staged(rt: &HostRuntime) -> Result<(), Fail> {
+    fs::create_dir_all(rt, "old/t0.part/x/y")?;
+    fs::write(rt, "old/t0.part/x/left.bin", "left")?;
+    Ok(fs::write(rt, "old/t0.part/left.bin", "left")?)
+}
+
 #[test]
 fn what_an_earlier_run_left_is_dropped(rt: HostRuntime) -> Result<(), Fail> {
     let mut bay = folder(&rt, "old/dataset.idx")?;
-    fs::create_dir_all(&rt, "old/t0.part/x/y")?;
-    fs::write(&rt, "old/t0.part/x/left.bin", "left")?;
-    fs::write(&rt, "old/t0.part/left.bin", "left")?;
+    leave_staged(&rt)?;
     assert!(rt; saves(rt.alloc(), &mut bay, "t0")?);
     assert!(rt; !stands(&rt, "old/t0/x") && !stands(&rt, "old/t0/left.bin"));
     // The same of a step that is begun twice.
-    assert!(rt; begins(&mut bay, "t1") && written(&mut bay, "t1/1.bin", &[4]).is_some());
+    assert!(rt; begins(&mut bay, "t1") && writes(&mut bay, "t1/1.bin", &[4]));
     assert!(rt; saves(rt.alloc(), &mut bay, "t1")? && !stands(&rt, "old/t1/1.bin"));
     fs::remove_dir_all(&rt, "old")?;
     Ok(())
@@ -120,17 +153,20 @@ fn fault_of(rt: &HostRuntime, folder_name: &str) -> Result<String, Fail> {
     text(rt.alloc(), bay.last_fault())
 }
 
+/// What no step can be saved over, and why.
+static TAKEN: [(&str, &str); 4] = [
+    ("plain", "set/plain: something stands there already"),
+    ("folder", "set/folder: something stands there already"),
+    ("plain/t", "set/plain: File exists (os error 17)"),
+    ("staged", "set/staged.part: something stands there already"),
+];
+
 #[test]
 fn nothing_is_put_over_what_stands(rt: HostRuntime) -> Result<(), Fail> {
     fs::create_dir_all(&rt, "set/folder")?;
     fs::write(&rt, "set/plain", "plain")?;
     fs::write(&rt, "set/staged.part", "plain")?;
-    for (name, want) in [
-        ("plain", "set/plain: something stands there already"),
-        ("folder", "set/folder: something stands there already"),
-        ("plain/t", "set/plain: File exists (os error 17)"),
-        ("staged", "set/staged.part: something stands there already"),
-    ] {
+    for &(name, want) in &TAKEN {
         assert!(rt; fault_of(&rt, name)?.as_str() == want);
     }
     fs::remove_dir_all(&rt, "set")?;
@@ -141,59 +177,64 @@ fn nothing_is_put_over_what_stands(rt: HostRuntime) -> Result<(), Fail> {
 fn a_file_is_made_once_and_in_the_step_that_was_begun(rt: HostRuntime) -> Result<(), Fail> {
     let alloc = rt.alloc();
     let mut bay = folder(&rt, "made/dataset.idx")?;
-    assert!(rt; begins(&mut bay, "t1") && written(&mut bay, "t1/0.bin", &[1]).is_some());
-    assert!(rt; written(&mut bay, "t1/0.bin", &[2]).is_none());
-    assert!(rt;
-        is_text(
-            alloc,
-            bay.last_fault(),
-            "made/t1.part/0.bin: File exists (os error 17)"
-        )?
-    );
-    assert!(rt; written(&mut bay, "t10/0.bin", &[1]).is_none());
+    assert!(rt; begins(&mut bay, "t1") && writes(&mut bay, "t1/0.bin", &[1]));
+    assert!(rt; !writes(&mut bay, "t1/0.bin", &[2]));
+    let want = "made/t1.part/0.bin: File exists (os error 17)";
+    assert!(rt; fails_for(alloc, &bay, want)?);
+    assert!(rt; !writes(&mut bay, "t10/0.bin", &[1]));
     let want = "made/t10/0.bin: the file is not in the step that was begun";
-    assert!(rt; is_text(alloc, bay.last_fault(), want)?);
+    assert!(rt; fails_for(alloc, &bay, want)?);
     fs::remove_dir_all(&rt, "made")?;
+    Ok(())
+}
+
+/// A run beside one that writes a step: it is refused this step, saves another one, begins a third and dies.
+fn run_beside(rt: &impl Abort, alloc: Global, mut bay: FolderBay<HostRuntime>) -> Result<(), Fail> {
+    assert!(rt; !begins(&mut bay, "t0"));
+    let want = "two/t0.part: another run is writing this step";
+    assert!(rt; fails_for(alloc, &bay, want)?);
+    assert!(rt; saves(alloc, &mut bay, "t1")? && begins(&mut bay, "t2"));
     Ok(())
 }
 
 #[test]
 fn one_run_at_a_time_writes_a_step(rt: HostRuntime) -> Result<(), Fail> {
-    let alloc = rt.alloc();
-    let (mut first, mut second) = (
-        folder(&rt, "two/dataset.idx")?,
-        folder(&rt, "two/dataset.idx")?,
-    );
-    assert!(rt; begins(&mut first, "t0") && !begins(&mut second, "t0"));
-    assert!(rt;
-        is_text(
-            alloc,
-            second.last_fault(),
-            "two/t0.part: another run is writing this step"
-        )?
-    );
-    assert!(rt; saves(alloc, &mut second, "t1")? && begins(&mut second, "t2"));
+    let second = folder(&rt, "two/dataset.idx")?;
+    let mut first = folder(&rt, "two/dataset.idx")?;
+    assert!(rt; begins(&mut first, "t0"));
+    run_beside(&rt, rt.alloc(), second)?;
     // A run that dies lets its step go.
-    drop(second);
-    assert!(rt; saves(alloc, &mut first, "t2")? && saves(alloc, &mut first, "t0")?);
+    assert!(rt; saves(rt.alloc(), &mut first, "t2")? && saves(rt.alloc(), &mut first, "t0")?);
     fs::remove_dir_all(&rt, "two")?;
     Ok(())
 }
 
+/// Begins a step, writes a file of it, and puts another folder in place of its staged one.
+fn exchanged(rt: &HostRuntime, bay: &mut FolderBay<HostRuntime>) -> Result<FileLeaf, Fail> {
+    if !begins(bay, "t0") {
+        return Err(Fail::from("no step"));
+    }
+    let leaf = written(bay, "t0/0.bin", &[1]).ok_or("no leaf")?;
+    fs::rename(rt, "begun/t0.part", "begun/taken")?;
+    fs::create_dir(rt, "begun/t0.part")?;
+    Ok(leaf)
+}
+
+/// Makes a staged folder of a step that is not begun, and tells whether the step is committed.
+fn commits_unbegun(rt: &HostRuntime, bay: &mut FolderBay<HostRuntime>) -> Result<bool, Fail> {
+    fs::create_dir(rt, "begun/t1.part")?;
+    let leaf = FileLeaf::new(String::from_str(rt.alloc(), "begun/t1/0.bin")?, 1);
+    commits(rt.alloc(), bay, "t1", "t1/0.bin", leaf)
+}
+
 #[test]
 fn only_the_staged_folder_that_was_begun_is_committed(rt: HostRuntime) -> Result<(), Fail> {
-    let alloc = rt.alloc();
     let mut bay = folder(&rt, "begun/dataset.idx")?;
-    assert!(rt; begins(&mut bay, "t0"));
-    let leaf = written(&mut bay, "t0/0.bin", &[1]).ok_or("no leaf")?;
-    fs::rename(&rt, "begun/t0.part", "begun/taken")?;
-    fs::create_dir(&rt, "begun/t0.part")?;
-    assert!(rt; !commits(alloc, &mut bay, "t0", "t0/0.bin", leaf)?);
+    let leaf = exchanged(&rt, &mut bay)?;
+    assert!(rt; !commits(rt.alloc(), &mut bay, "t0", "t0/0.bin", leaf)?);
     let want = "begun/t0: the staged folder is not the one that was begun";
-    assert!(rt; is_text(alloc, bay.last_fault(), want)?);
-    let leaf = FileLeaf::new(String::from_str(alloc, "begun/t1/0.bin")?, 1);
-    fs::create_dir(&rt, "begun/t1.part")?;
-    assert!(rt; !commits(alloc, &mut bay, "t1", "t1/0.bin", leaf)? && !stands(&rt, "begun/t1"));
+    assert!(rt; fails_for(rt.alloc(), &bay, want)?);
+    assert!(rt; !commits_unbegun(&rt, &mut bay)? && !stands(&rt, "begun/t1"));
     fs::remove_dir_all(&rt, "begun")?;
     Ok(())
 }
@@ -222,6 +263,6 @@ fn a_draft_that_cannot_be_written_is_a_fault_of_its_bay(rt: HostRuntime) -> Resu
     let mut bay = folder(&rt, "dataset.idx")?;
     assert!(rt; gives_up_closed(&mut bay, &rt, path)? && !stands(&rt, path));
     let want = "closed.raw: Bad file descriptor (os error 9)";
-    assert!(rt; is_text(rt.alloc(), bay.last_fault(), want)?);
+    assert!(rt; fails_for(rt.alloc(), &bay, want)?);
     Ok(())
 }

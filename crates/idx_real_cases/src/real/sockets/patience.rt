@@ -7,7 +7,7 @@ fn a_silent_peer_is_a_fault(rt: HostRuntime) -> Result<(), Fail> {
     let mut link = next_link(&mut door)?;
     assert!(rt; takes(&mut link).is_none());
     assert!(rt; link.faults() == 1);
-    assert!(rt; why(rt.alloc(), &link)?.as_str() == "the peer let the link wait for too long");
+    assert!(rt; failed_for(rt.alloc(), &link, "the peer let the link wait for too long")?);
     Ok(())
 }
 
@@ -69,6 +69,6 @@ fn a_slow_peer_has_a_minute_from_reply_to_reply(rt: HostRuntime) -> Result<(), F
     let (mut door, mut peer) = door_and_peer(&ticking, rt.alloc(), None, Patience::of_a_server())?;
     let mut link = next_link(&mut door)?;
     assert!(rt; bytes_in_time(&mut link, &mut peer)? == 59);
-    assert!(rt; why(rt.alloc(), &link)?.as_str() == "the peer sent its bytes too slowly");
+    assert!(rt; failed_for(rt.alloc(), &link, "the peer sent its bytes too slowly")?);
     Ok(())
 }
