@@ -108,15 +108,20 @@ fn a_step_stands_once_it_is_committed(rt: HostRuntime) -> Result<(), Fail> {
     Ok(())
 }
 
+/// Whether the step `t0` and its file are found, and the plain file is no step.
+fn finds_the_step(bay: &mut FolderBay<HostRuntime>) -> bool {
+    has(bay, "t0") == Some(true)
+        && has(bay, "plain") == Some(false)
+        && length_of(bay, "t0/0.bin") == Some(Some(3))
+}
+
 #[test]
 fn a_step_that_stands_is_found(rt: HostRuntime) -> Result<(), Fail> {
     let alloc = rt.alloc();
     let mut bay = folder(&rt, "found/dataset.idx")?;
     assert!(rt; saves(alloc, &mut bay, "t0")?);
     fs::write(&rt, "found/plain", "plain")?;
-    assert!(rt; (has(&mut bay, "t0"), has(&mut bay, "plain")) == (Some(true), Some(false)));
-    assert!(rt; length_of(&mut bay, "t0/0.bin") == Some(Some(3)));
-    assert!(rt; length_of(&mut bay, "t0").is_none());
+    assert!(rt; finds_the_step(&mut bay) && length_of(&mut bay, "t0").is_none());
     assert!(rt; fails_for(alloc, &bay, "found/t0: not a regular file")?);
     assert!(rt; has(&mut bay, "plain/t").is_none());
     is_sendable(&bay);
@@ -131,15 +136,25 @@ fn leave_staged(rt: &HostRuntime) -> Result<(), Fail> {
     Ok(fs::write(rt, "old/t0.part/left.bin", "left")?)
 }
 
+/// Whether a step is saved without what an earlier run left of it.
+fn drops_what_was_left(rt: &HostRuntime, bay: &mut FolderBay<HostRuntime>) -> Result<bool, Fail> {
+    Ok(saves(rt.alloc(), bay, "t0")? && !stands(rt, "old/t0/x") && !stands(rt, "old/t0/left.bin"))
+}
+
+/// The same of a step that is begun twice.
+fn drops_what_was_begun(rt: &HostRuntime, bay: &mut FolderBay<HostRuntime>) -> Result<bool, Fail> {
+    if !begins(bay, "t1") || !writes(bay, "t1/1.bin", &[4]) {
+        return Ok(false);
+    }
+    Ok(saves(rt.alloc(), bay, "t1")? && !stands(rt, "old/t1/1.bin"))
+}
+
 #[test]
 fn what_an_earlier_run_left_is_dropped(rt: HostRuntime) -> Result<(), Fail> {
     let mut bay = folder(&rt, "old/dataset.idx")?;
     leave_staged(&rt)?;
-    assert!(rt; saves(rt.alloc(), &mut bay, "t0")?);
-    assert!(rt; !stands(&rt, "old/t0/x") && !stands(&rt, "old/t0/left.bin"));
-    // The same of a step that is begun twice.
-    assert!(rt; begins(&mut bay, "t1") && writes(&mut bay, "t1/1.bin", &[4]));
-    assert!(rt; saves(rt.alloc(), &mut bay, "t1")? && !stands(&rt, "old/t1/1.bin"));
+    assert!(rt; drops_what_was_left(&rt, &mut bay)?);
+    assert!(rt; drops_what_was_begun(&rt, &mut bay)?);
     fs::remove_dir_all(&rt, "old")?;
     Ok(())
 }
@@ -220,6 +235,12 @@ fn exchanged(rt: &HostRuntime, bay: &mut FolderBay<HostRuntime>) -> Result<FileL
     Ok(leaf)
 }
 
+/// Whether a step is committed whose staged folder was exchanged.
+fn commits_exchanged(rt: &HostRuntime, bay: &mut FolderBay<HostRuntime>) -> Result<bool, Fail> {
+    let leaf = exchanged(rt, bay)?;
+    commits(rt.alloc(), bay, "t0", "t0/0.bin", leaf)
+}
+
 /// Makes a staged folder of a step that is not begun, and tells whether the step is committed.
 fn commits_unbegun(rt: &HostRuntime, bay: &mut FolderBay<HostRuntime>) -> Result<bool, Fail> {
     fs::create_dir(rt, "begun/t1.part")?;
@@ -230,8 +251,7 @@ fn commits_unbegun(rt: &HostRuntime, bay: &mut FolderBay<HostRuntime>) -> Result
 #[test]
 fn only_the_staged_folder_that_was_begun_is_committed(rt: HostRuntime) -> Result<(), Fail> {
     let mut bay = folder(&rt, "begun/dataset.idx")?;
-    let leaf = exchanged(&rt, &mut bay)?;
-    assert!(rt; !commits(rt.alloc(), &mut bay, "t0", "t0/0.bin", leaf)?);
+    assert!(rt; !commits_exchanged(&rt, &mut bay)?);
     let want = "begun/t0: the staged folder is not the one that was begun";
     assert!(rt; fails_for(rt.alloc(), &bay, want)?);
     assert!(rt; !commits_unbegun(&rt, &mut bay)? && !stands(&rt, "begun/t1"));
