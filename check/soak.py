@@ -8,13 +8,15 @@ The dataset has 16 steps of 64^3 samples of four bytes, 64 blocks of 16 KiB each
 n + t * 2^18. Each link asks for random boxes between random levels of random steps, one question after another, and after so
 many questions the next one takes its place. What a reply with status 200 has is compared with the samples that the format
 says; the cache is smaller than the data. With --ingest the server gathers a further revision of a step meanwhile, whose
-samples are n + (t + 1000) * 2^18. The memory of the server is looked at each second.
+samples are n + (t + 1000) * 2^18. The memory of the server is looked at each second; it runs with MALLOC_ARENA_MAX=1, as
+docs/SERVING.md advises for many workers, unless the environment says otherwise.
 
 The last line is `N requests, W wrong, ...`; the exit status is 1 where a byte was wrong, a link ended early, or the
 memory grew by more than a tenth behind the first ten seconds. It is no part of the quick checks.
 """
 import argparse
 import array
+import os
 import random
 import socket
 import subprocess
@@ -192,7 +194,8 @@ def main():
                  "--workers", str(given.workers), "--links", str(links)]
         if given.ingest:
             words += ["--ingest", str(new), "--raw", str(again)]
-        with subprocess.Popen(words, stdout=subprocess.PIPE, stderr=subprocess.PIPE) as server:
+        environment = {"MALLOC_ARENA_MAX": "1"} | os.environ
+        with subprocess.Popen(words, stdout=subprocess.PIPE, stderr=subprocess.PIPE, env=environment) as server:
             try:
                 line = server.stderr.readline().decode()
                 address = ("127.0.0.1", int(line.split(",")[0].rsplit(":", 1)[1]))
