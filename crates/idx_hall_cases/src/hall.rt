@@ -220,13 +220,21 @@ fn mark(looked: &Looked<Step>) -> u8 {
     }
 }
 
+/// A hall with room for four blocks, which has 3, 2, 1 and 0.
+fn hall_of_four(alloc: Global, rt: &impl Abort) -> Result<Hall<Step>, Fail>
+    ensures { IfOk result HasOneStep }
+{
+    let mut hall = hall_with_room(alloc, rt, 4)?;
+    fill(alloc, &mut hall, 0)?;
+    fill(alloc, &mut hall, 1)?;
+    fill(alloc, &mut hall, 2)?;
+    fill(alloc, &mut hall, 3)?;
+    Ok(hall)
+}
+
 #[test]
 fn a_time_is_published_again(rt: HostRuntime) -> Result<(), Fail> {
-    let mut hall = hall_with_room(rt.alloc(), &rt, 4)?;
-    fill(rt.alloc(), &mut hall, 0)?;
-    fill(rt.alloc(), &mut hall, 1)?;
-    fill(rt.alloc(), &mut hall, 2)?;
-    fill(rt.alloc(), &mut hall, 3)?;
+    let mut hall = hall_of_four(rt.alloc(), &rt)?;
     assert!(rt; sizes(&hall) == (4, 4, 1));
     assert!(rt; publish_again(rt.alloc(), &rt, &mut hall)? == 1);
     assert!(rt; sizes(&hall) == (4, 0, 2));

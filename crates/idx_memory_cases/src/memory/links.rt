@@ -124,19 +124,27 @@ fn handed_out(door: &MemDoor) -> (usize, usize) {
     (door.handed().len(), written)
 }
 
-#[test]
-fn links_come_back_in_order(rt: HostRuntime) -> Result<(), Fail> {
-    let alloc = rt.alloc();
-    let links = vec![in alloc;
-        link_of(alloc, b"a", &[], &[])?,
-        link_of(alloc, b"bc", &[], &[])?,
-    ]?;
-    let mut door = MemDoor::new(links, vec![in alloc; 2]?);
-    let answers = [Ok(Some(1)), Err(Outage), Ok(Some(2)), Ok(None)];
-    assert!(rt; serve(alloc, &mut door)? == answers);
+/// A door of two links, whose second call fails.
+fn door_of_two(alloc: Global) -> Result<MemDoor, Fail> {
+    let mut links = Vec::new(alloc);
+    links.push(link_of(alloc, b"a", &[], &[])?)?;
+    links.push(link_of(alloc, b"bc", &[], &[])?)?;
+    Ok(MemDoor::new(links, vec![in alloc; 2]?))
+}
+
+/// Whether both links came back, in order and each with its entry.
+fn both_came_back(alloc: Global, door: &MemDoor) -> Result<bool, Fail> {
     let first = (Bytes::from_slice(alloc, b"a")?, 200);
     let second = (Bytes::from_slice(alloc, b"bc")?, 404);
-    assert!(rt; came_back(alloc, &door)? == vec![in alloc; first, second]?);
+    Ok(came_back(alloc, door)? == vec![in alloc; first, second]?)
+}
+
+#[test]
+fn links_come_back_in_order(rt: HostRuntime) -> Result<(), Fail> {
+    let mut door = door_of_two(rt.alloc())?;
+    let answers = [Ok(Some(1)), Err(Outage), Ok(Some(2)), Ok(None)];
+    assert!(rt; serve(rt.alloc(), &mut door)? == answers);
+    assert!(rt; both_came_back(rt.alloc(), &door)?);
     assert!(rt; handed_out(&door) == (2, 0));
     is_sent(&door);
     Ok(())
