@@ -236,6 +236,34 @@ fn is_written(
     Ok(bytes.as_slice() == written.bytes(alloc)?.as_slice())
 }
 
+/// The dock of one of the two files, to which shipments were delivered. It takes them as it is to.
+fn dock_with(
+    alloc: Global,
+    rt: &impl Abort,
+    header: &Header,
+    number: usize,
+    deliveries: &[Delivery],
+) -> Result<Dock, Fail> {
+    let pieces = pieces_with(alloc, rt, header, DIGITS, 2)?;
+    let mut dock = dock_of(alloc, rt, header, &pieces, number)?;
+    assert!(rt; dock.missing() == Some(0));
+    assert!(rt; takes_all(alloc, rt, header, &pieces, &mut dock, deliveries)?);
+    Ok(dock)
+}
+
+/// Whether a dock writes the file that is to be written.
+fn writes(
+    alloc: Global,
+    rt: &impl Abort,
+    header: &Header,
+    dock: Dock,
+    written: &Written,
+) -> Result<bool, Fail> {
+    let mut bay = bay_of(alloc, rt, header, NONE)?;
+    let leaf = written_by(alloc, rt, header, &mut bay, dock)?;
+    is_written(alloc, rt, &leaf, written)
+}
+
 /// Delivers shipments to the dock of one of the two files, which takes them as it is to, and then writes that file.
 fn docks(
     alloc: Global,
@@ -245,13 +273,8 @@ fn docks(
     deliveries: &[Delivery],
 ) -> Result<bool, Fail> {
     let header = BASE.header(alloc, rt);
-    let pieces = pieces_with(alloc, rt, &header, DIGITS, 2)?;
-    let mut dock = dock_of(alloc, rt, &header, &pieces, number)?;
-    assert!(rt; dock.missing() == Some(0));
-    assert!(rt; takes_all(alloc, rt, &header, &pieces, &mut dock, deliveries)?);
-    let mut bay = bay_of(alloc, rt, &header, NONE)?;
-    let leaf = written_by(alloc, rt, &header, &mut bay, dock)?;
-    is_written(alloc, rt, &leaf, written)
+    let dock = dock_with(alloc, rt, &header, number, deliveries)?;
+    writes(alloc, rt, &header, dock, written)
 }
 
 #[test]

@@ -1,5 +1,5 @@
 //! Datasets in memory, with halls of their steps.
-ghost use Rattle.std.specs.Prelude.{◌≡◌, ◌≤◌};
+ghost use Rattle.std.specs.Prelude.{◌≡◌, ◌≤◌, IfOk};
 ghost use Rattle.idx_layout.specs.Shape.{shape_of};
 ghost use Rattle.idx_hall.specs.Calls.{IsAfter};
 
@@ -139,13 +139,8 @@ pub fn stage_of(
     files: &[Stored],
     room: u32,
 ) -> Result<Stage, Fail> {
-    assert!(rt; 1 <= room && room <= 65536);
     let header = header_of(alloc, rt, text);
-    let mut bay = bay_of(alloc, files, &[])?;
-    let mut reader = reader_of(alloc, &[])?;
-    let hall = hall_of(alloc, &header, room, &mut bay, &mut reader)
-        .ok()
-        .expect(rt, "a hall");
+    let hall = hall_with(alloc, rt, &header, files, room)?;
     let name = Bytes::from_slice(alloc, b"v")?;
     Ok(Stage {
         site: Site { header, name },
@@ -153,11 +148,60 @@ pub fn stage_of(
     })
 }
 
+/// The hall of the steps of these files, with room for so many cached blocks.
+fn hall_with(
+    alloc: Global,
+    rt: &impl Abort,
+    header: &Header,
+    files: &[Stored],
+    room: u32,
+) -> Result<Hall<Edition<MemLeaf>>, Fail>
+    ensures { IfOk result (λ hall. hall.shape ≡ shape_of header.now) }
+{
+    assert!(rt; 1 <= room && room <= 65536);
+    let mut bay = bay_of(alloc, files, &[])?;
+    let mut reader = reader_of(alloc, &[])?;
+    let hall = hall_of(alloc, header, room, &mut bay, &mut reader);
+    Ok(hall.ok().expect(rt, "a hall"))
+}
+
 /// The number of the newest post of this time, if there is one.
 fn newest_in(hall: &Hall<Edition<MemLeaf>>, time: u64) -> Option<u64>
     ensures { IsAfter hall.now.board time result }
 {
     hall.newest(time)
+}
+
+/// The step of this time out of these files.
+fn edition_of(
+    alloc: Global,
+    rt: &impl Abort,
+    header: &Header,
+    time: u64,
+    files: &[Stored],
+) -> Result<Edition<MemLeaf>, Fail>
+    ensures { IfOk result (λ edition. ⟦<Edition<MemLeaf> as Blocks>⟧.shape edition ≡ shape_of header.now) }
+{
+    let mut bay = bay_of(alloc, files, &[])?;
+    let mut reader = reader_of(alloc, &[])?;
+    let loaded = Edition::load(alloc, header, time, &mut bay, &mut reader);
+    Ok(loaded.ok().expect(rt, "an answer").expect(rt, "a step"))
+}
+
+/// Publishes a step behind those of its time that are there.
+fn publish(
+    alloc: Global,
+    rt: &impl Abort,
+    hall: &mut Hall<Edition<MemLeaf>>,
+    edition: Edition<MemLeaf>,
+) -> Result<(), Fail>
+    requires { ⟦<Edition<MemLeaf> as Blocks>⟧.shape edition ≡ hall.old.shape }
+    ensures { hall.new.shape ≡ hall.old.shape }
+{
+    let edition = Arc::new(alloc, edition)?;
+    let after = newest_in(hall, edition.time());
+    assert!(rt; hall.publish(edition, after).is_ok());
+    Ok(())
 }
 
 /// The same once a step of this time is published, out of these files, behind those of the time that are there.
@@ -169,12 +213,7 @@ pub fn with_step(
     files: &[Stored],
 ) -> Result<Stage, Fail> {
     let Stage { site, mut hall } = stage;
-    let mut bay = bay_of(alloc, files, &[])?;
-    let mut reader = reader_of(alloc, &[])?;
-    let loaded = Edition::load(alloc, &site.header, time, &mut bay, &mut reader);
-    let edition = loaded.ok().expect(rt, "an answer").expect(rt, "a step");
-    let edition = Arc::new(alloc, edition)?;
-    let after = newest_in(&hall, edition.time());
-    assert!(rt; hall.publish(edition, after).is_ok());
+    let edition = edition_of(alloc, rt, &site.header, time, files)?;
+    publish(alloc, rt, &mut hall, edition)?;
     Ok(Stage { site, hall })
 }
