@@ -5,10 +5,14 @@
 
 The volume has SIDE^3 samples of four bytes, each its own number in row-major order. The file of one rank is held against
 what the format says of it: its length, and the samples of a coarse slice; those of the others against it, byte for byte.
+A conversion whose standard error is a terminal has to say there how far it is, and to take the line away at the end.
 The last line is `N passed, M failed`.
 """
 import argparse
 import array
+import os
+import pty
+import re
 import subprocess
 import sys
 import tempfile
@@ -41,6 +45,34 @@ def slice_of(side):
     return array.array("I", [plane + y * side + x for y in rows for x in rows]).tobytes()
 
 
+def shown(argv):
+    """What a run writes to a terminal, and whether it ended with 0."""
+    master, slave = pty.openpty()
+    with subprocess.Popen(argv, stdin=subprocess.DEVNULL, stdout=subprocess.DEVNULL, stderr=slave) as run:
+        os.close(slave)
+        text = b""
+        try:
+            while piece := os.read(master, 65536):
+                text += piece
+        except OSError:
+            # the terminal is gone once nobody writes to it
+            pass
+        status = run.wait(timeout=120)
+    os.close(master)
+    return text, status == 0
+
+
+def says_how_far(text, dataset, raw, side):
+    """Whether a line of a conversion into one file was shown, then how far that was, never less than before, and then nothing."""
+    first = f"  converting {raw} into {dataset}, 1 ranks".encode()
+    line = rb"\r  ([01]) of 1 files, ([0-9]+) of ([0-9]+) MiB, [0-9]+ MiB/s\x1b\[K"
+    if not (text.startswith(first) and re.fullmatch(rb"(%s)*\r\x1b\[K" % line, text[len(first):])):
+        return False
+    lines = [tuple(map(int, found)) for found in re.findall(line, text)]
+    whole = 4 * side ** 3 >> 20
+    return all(written <= whole == of for _, written, of in lines) and lines == sorted(lines)
+
+
 def main():
     parser = argparse.ArgumentParser(description=__doc__, formatter_class=argparse.RawDescriptionHelpFormatter)
     parser.add_argument("program")
@@ -66,6 +98,10 @@ def main():
                 asked = subprocess.run(slice_words(given.program, dataset, side), capture_output=True, timeout=120)
                 results.append(("a coarse slice", asked.returncode == 0 and asked.stdout == slice_of(side)))
             results.append((f"the files of {ranks} ranks", run.returncode == 0 and not run.stderr and files == first))
+        dataset = top / "shown" / "n.idx"
+        dataset.parent.mkdir()
+        text, is_done = shown(words(given.program, dataset, raw, side, 1))
+        results.append(("the line on a terminal", is_done and says_how_far(text, dataset, raw, side)))
     for name, is_right in results:
         if not is_right:
             print(f"{name}: wrong")

@@ -11,6 +11,7 @@ use std::alloc::Global;
 use std::test::Fail;
 
 mod links;
+mod progress;
 mod step_of_blocks;
 
 fn bytes_of(alloc: Global, bytes: &[u8]) -> Result<Bytes, NoMemory>
@@ -82,14 +83,20 @@ fn write_file<B: Bay>(bay: &mut B, path: &[u8], bytes: &[u8]) -> Result<B::Leaf,
     }
 }
 
-/// A step of one file, under a header.
-fn save<B: Bay>(alloc: Global, bay: &mut B, path: &[u8], bytes: &[u8]) -> Result<(), BayFault>
+/// A step of one file, under a header of this text.
+fn save<B: Bay>(
+    alloc: Global,
+    bay: &mut B,
+    text: &[u8],
+    path: &[u8],
+    bytes: &[u8],
+) -> Result<(), BayFault>
     requires new { ForSome (B.files bay.old) (λ files. ¬ (HasStep (116 ∷ []) files)) }
     requires within { LiesIn (116 ∷ []) path.now }
     ensures { OnOk result (B.files bay.new
         ≡ added (B.files bay.old) (file_of (116 ∷ []) (path.now, bytes.now) ∷ [])) }
 {
-    bay.set_header(b"text")?;
+    bay.set_header(text)?;
     bay.begin_step(b"t")?;
     let leaf = write_file(bay, path, bytes)?;
     let path = Bytes::from_slice(alloc, path)?;
@@ -159,7 +166,7 @@ fn saved(
     draft_fails: u64,
 ) -> Result<(Result<(), BayFault>, usize, u64), Fail> {
     let mut bay = empty_bay(alloc, fails, draft_fails)?;
-    let result = save(alloc, &mut bay, &[116, 47, 48], &[1, 2]);
+    let result = save(alloc, &mut bay, b"text", &[116, 47, 48], &[1, 2]);
     Ok((result, bay.committed().len(), bay.faults()))
 }
 
@@ -204,7 +211,7 @@ fn what_stands_is_found_and_read(rt: HostRuntime) -> Result<(), Fail> {
 /// The file of a bay that never fails, which keeps what it was made with and no step that is saved.
 fn sure_front(alloc: Global) -> Result<Option<[u8; 2]>, Fail> {
     let mut bay = SureBay::new(Bytes::new(alloc), one_file(alloc)?);
-    save(alloc, &mut bay, &[116, 47, 49], &[7])?;
+    save(alloc, &mut bay, b"text", &[116, 47, 49], &[7])?;
     can_be_sent(&bay, &SureReader::new());
     Ok(file_front(&mut bay, &mut SureReader::new(), &[116, 47, 48])?)
 }

@@ -18,6 +18,7 @@ mod usage;
 mod work_line;
 
 use idx_commands::{Cause, Done, run};
+use idx_progress::WatchedBay;
 use idx_real::{Sockets, StdSink};
 use outside::{StdDoor, dataset_files, file_readers, last_fault, raw_files, tcp_doors};
 use report::report;
@@ -81,11 +82,10 @@ fn run_over_files<T: Threads + Wait + Sync, R: Sockets + Send>(
     requires { 0 < vec_len doors }
 {
     let mut raws = raw_files(rt, words)?;
-    let mut bay = dataset_files(rt, words)?;
+    let files = dataset_files(rt, words)?;
     let mut readers = file_readers(rt, words)?;
     let mut out = StdSink::new(rt.stdout());
-    let mut err = rt.stderr();
-    let is_shown = show_work(rt.alloc(), &mut err, words);
+    let mut bay = WatchedBay::new(rt.alloc(), files, show_work(rt, words));
     let done = run(
         threads,
         rt.alloc(),
@@ -96,10 +96,11 @@ fn run_over_files<T: Threads + Wait + Sync, R: Sockets + Send>(
         &mut out,
         &mut doors,
     );
-    if is_shown {
+    let mut err = rt.stderr();
+    if bay.is_watched() {
         clear_work(&mut err);
     }
-    let fault = last_fault(done.cause, &raws, &bay, &readers, &out, &doors);
+    let fault = last_fault(done.cause, &raws, bay.bay(), &readers, &out, &doors);
     Ok(report(rt.alloc(), &mut err, done, words, fault))
 }
 

@@ -1,24 +1,34 @@
-//! A line that says on a terminal what is being done, as long as it is done.
+//! A line that says on a terminal what is being done and how far it is, as long as it is done.
 use crate::long_buffer::long_buffer;
 use crate::paths::{dataset_path, raw_path};
 use crate::shown::Shown;
+use idx_progress::Line;
 use idx_words::{Command, read_words};
-use std::alloc::Global;
-use std::io::{self, IsTerminal, Write};
+use std::io::{self, IsTerminal, Stderr, Write};
 
-/// Says that a volume is being converted, where it is and where this is a terminal, and answers whether it did.
-pub fn show_work<W: Write + IsTerminal>(alloc: Global, err: &mut W, words: &[String]) -> bool {
+/// A line on standard error.
+pub type StdLine = Line<HostRuntime, Stderr>;
+
+/// Says that a volume is being converted, where it is and where this is a terminal, and gives the line that says from then
+/// on how far that is. `None` where it said nothing.
+pub fn show_work(rt: &HostRuntime, words: &[String]) -> Option<StdLine> {
     let Ok(Command::Convert(convert)) = read_words(words) else {
-        return false;
+        return None;
     };
-    let mut line = long_buffer(alloc);
+    let mut err = rt.stderr();
+    if !err.is_terminal() {
+        return None;
+    }
+    let line = Line::begin(rt.alloc(), *rt, err)?;
+    let mut text = long_buffer(rt.alloc());
     let _ = write_work(
-        &mut line,
+        &mut text,
         raw_path(words),
         dataset_path(words),
         convert.ranks,
     );
-    err.is_terminal() && err.write_all(line.as_slice()).is_ok()
+    err.write_all(text.as_slice()).ok()?;
+    Some(line)
 }
 
 /// Takes the line away. One that cannot be taken away stays.
