@@ -3,9 +3,9 @@ ghost use Rattle.idx_outside.specs.Cause.{counted, NeverFalls, Rose};
 ghost use Rattle.idx_real.specs.DoorState.{one_less};
 ghost use Rattle.idx_real.specs.Faults.{no_faults};
 
-use crate::notice::Notice;
 use idx_outside::{Bay, Door, Outage, Served};
 use idx_real::{Fault, Sockets, TcpDoor, TcpLink};
+use idx_report::Notice;
 use std::io::Write;
 use std::marker::{Model, PhantomData};
 use std::net::TcpStream;

@@ -5,31 +5,21 @@
 ghost use Rattle.std.specs.Prelude.{◌<◌, vec_len};
 
 mod announced_door;
-mod long_buffer;
-mod notice;
 mod outside;
-mod paths;
-mod plain_words;
-mod report;
-mod shown;
-#[cfg(test)]
-mod tests;
-mod usage;
 mod work_line;
 
 use idx_commands::{Cause, Done, run};
 use idx_progress::WatchedBay;
 use idx_real::{Sockets, StdSink};
+use idx_report::{clear_work, report, text_asked_for, write_text};
 use outside::{StdDoor, dataset_files, file_readers, last_fault, raw_files, tcp_doors};
-use report::report;
 use std::alloc::AllocError;
 use std::io::ErrorKind;
 use std::process::ExitCode;
 use std::sync::Wait;
 use std::thread::Threads;
 use std::{env, io};
-use usage::{text_asked_for, write_text};
-use work_line::{clear_work, show_work};
+use work_line::show_work;
 
 fn main(rt: HostRuntime) -> ExitCode {
     match given_words(&rt) {

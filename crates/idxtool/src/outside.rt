@@ -1,18 +1,18 @@
 //! The objects of the outside that a run uses: files, standard output and sockets, as the words name them.
-ghost use Rattle.std.specs.Prelude.{◌≡◌, ◌+◌, ◌/◌, ◌%◌, ◌<◌, ◌≤◌, IfOk, if◌then◌else◌, map, nat_lt, option_map, string_bytes, vec_len};
+ghost use Rattle.std.specs.Prelude.{◌≡◌, ◌<◌, IfOk, map, string_bytes, vec_len};
 ghost use Rattle.idx_words.specs.declared.command.Command.{Command};
 ghost use Rattle.idx_words.specs.ConvertValue.{ConvertValue};
 ghost use Rattle.idx_words.specs.ServeValue.{ServeValue};
 ghost use Rattle.idx_words.specs.Words.{Give};
 
 use crate::announced_door::AnnouncedDoor;
-use crate::notice::Notice;
-use crate::paths::{dataset_path, door_address, raw_path};
 use idx_commands::Cause;
 use idx_real::{
     Fault, FileReader, FileSource, FolderBay, Patience, SharedListener, Sockets, StdSink, TcpDoor,
 };
-use idx_words::{Command, read_words};
+use idx_report::{
+    Notice, dataset_path, door_address, links_of, ranks_of, raw_path, share_of, workers_of,
+};
 use std::alloc::AllocError;
 use std::io::{Stderr, Stdout};
 use std::sync::Arc;
@@ -37,17 +37,6 @@ pub fn raw_files(
         raws.push(FileSource::new(rt.clone()?, path))?;
     }
     Ok(raws)
-}
-
-/// How many ranks convert by the words; 1 where they do not say.
-fn ranks_of(words: &[String]) -> u32
-    ensures some { 1 ≤ result }
-    ensures convert { (c : ConvertValue) → Give (map string_bytes words.now) (Command.Convert c) → result ≡ c.ranks }
-{
-    match read_words(words) {
-        Ok(Command::Convert(convert)) => convert.ranks,
-        _ => 1,
-    }
 }
 
 /// The dataset that the words name, or one without a path.
@@ -110,39 +99,6 @@ pub fn tcp_doors<R: Sockets>(
         doors.push(AnnouncedDoor::new(notice.take(), door))?;
     }
     Ok(doors)
-}
-
-/// How many links the door of this worker hands out, of so many in all: as many as each other door, and one more at the
-/// first doors where they cannot be shared out evenly.
-pub fn share_of(links: Option<u64>, workers: u32, worker: u32) -> Option<u64>
-    requires { worker < workers }
-    ensures { result ≡ option_map (λ links. links / workers + (if nat_lt worker (links % workers) then 1 else 0)) links }
-{
-    let links = links?;
-    let workers = u64::from(workers);
-    let more = u64::from(u64::from(worker) < links % workers);
-    Some(links / workers + more)
-}
-
-/// How many workers serve by the words; 1 where they do not say.
-fn workers_of(words: &[String]) -> u32
-    ensures some { 1 ≤ result }
-    ensures serve { (v : ServeValue) → Give (map string_bytes words.now) (Command.Serve v) → result ≡ v.workers }
-{
-    match read_words(words) {
-        Ok(Command::Serve(serve)) => serve.workers,
-        _ => 1,
-    }
-}
-
-/// How many links the words let the doors hand out; `None` for as many as come.
-fn links_of(words: &[String]) -> Option<u64>
-    ensures serve { (v : ServeValue) → Give (map string_bytes words.now) (Command.Serve v) → result ≡ v.links }
-{
-    match read_words(words) {
-        Ok(Command::Serve(serve)) => serve.links,
-        _ => None,
-    }
 }
 
 /// Why the call failed that ended a run with this cause, and where.

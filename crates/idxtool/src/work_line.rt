@@ -1,10 +1,8 @@
-//! A line that says on a terminal what is being done and how far it is, as long as it is done.
-use crate::long_buffer::long_buffer;
-use crate::paths::{dataset_path, raw_path};
-use crate::shown::Shown;
+//! A line on standard error that says on a terminal what is being done, and how far it is.
 use idx_progress::Line;
+use idx_report::{dataset_path, long_buffer, raw_path, write_work};
 use idx_words::{Command, read_words};
-use std::io::{self, IsTerminal, Stderr, Write};
+use std::io::{IsTerminal, Stderr, Write};
 
 /// A line on standard error.
 pub type StdLine = Line<HostRuntime, Stderr>;
@@ -29,15 +27,4 @@ pub fn show_work(rt: &HostRuntime, words: &[String]) -> Option<StdLine> {
     );
     err.write_all(text.as_slice()).ok()?;
     Some(line)
-}
-
-/// Takes the line away. One that cannot be taken away stays.
-pub fn clear_work<W: Write>(err: &mut W) {
-    let _ = err.write_all(b"\r\x1b[K");
-}
-
-/// Writes which volume is converted into which dataset, by how many ranks.
-pub fn write_work<W: Write>(out: &mut W, raw: &str, dataset: &str, ranks: u32) -> io::Result<()> {
-    let (raw, dataset) = (Shown(raw), Shown(dataset));
-    write!(out, "  converting {raw} into {dataset}, {ranks} ranks")
 }

@@ -1,6 +1,6 @@
 ghost use Rattle.std.specs.Prelude.{◌≡◌};
 
-use crate::long_buffer::long_buffer;
+use crate::buffer::long_buffer;
 use crate::shown::Shown;
 use idx_header::Header;
 use idx_outside::Bay;

@@ -1,5 +1,5 @@
 use Rattle.std.proofs.Common.{◌≡◌}
-use Rattle.idxtool.proofs.notice.standing_steps.Given as goal
+use Rattle.idx_report.proofs.notice.standing_steps.Given as goal
 
 -- the bay is as it was but for its faults
 abbrev pub invariant-loop-step : goal.invariant-loop-step

@@ -1,14 +1,12 @@
-use crate::notice::{standing_steps, write_notice};
-use crate::outside::share_of;
-use crate::paths::raw_path;
-use crate::report::report;
-use crate::usage::{text_asked_for, write_text};
-use crate::work_line::write_work;
 use idx_commands::{Cause, Done};
 use idx_header::HeaderKind;
 use idx_memory::{MemBay, MemSink};
 use idx_outside::{Bytes, MemFile};
 use idx_real::{Fault, Reason};
+use idx_report::{
+    raw_path, report, share_of, standing_steps, text_asked_for, write_notice, write_text,
+    write_work,
+};
 use std::alloc::{AllocError, Global};
 use std::net::SocketAddr;
 use std::test::Fail;

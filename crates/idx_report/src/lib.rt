@@ -1,0 +1,20 @@
+//! What main asks of its words, and what is printed of a run for people.
+#![tactic(auto)]
+
+mod buffer;
+mod notice;
+mod numbers;
+mod paths;
+mod plain_words;
+mod printing;
+mod shown;
+mod usage;
+mod work_line;
+
+pub use buffer::long_buffer;
+pub use notice::{Notice, standing_steps, write_notice};
+pub use numbers::{links_of, ranks_of, share_of, workers_of};
+pub use paths::{dataset_path, door_address, raw_path};
+pub use printing::{print_cause, report};
+pub use usage::{text_asked_for, write_text};
+pub use work_line::{clear_work, write_work};
