@@ -22,6 +22,25 @@ module _ (ss : List Section) (version : first_of (version_faults ss) ≡ None) (
       first_of (value_faults ss) ≡ first_of (time_faults ss)
   behind_template bits blocks template = behind_blocks bits blocks ∙ passed (template_faults ss) _ template
 
+pub returns-in_err-check_version-clause-fault : goal.returns-in_err-check_version-clause-fault
+returns-in_err-check_version-clause-fault c =
+    handed_on c.from_residual.result c.in_err-check_version.field-0.0 _ c.from_residual.ensures.1
+    (λ k. stopped (version_faults c.args.sections.now) _ c.in_err-check_version.field-0.0 c.in_err-check_version.ensures.err)
+
+pub returns-in_err-space-clause-fault : goal.returns-in_err-space-clause-fault
+returns-in_err-space-clause-fault c =
+    let ss : List Section = c.args.sections.now in
+    handed_on c.from_residual-in_err-space.result c.in_err-space.field-0.0 _ c.from_residual-in_err-space.ensures.1
+    (λ k. passed (version_faults ss) _ c.in_ok-check_version.ensures.ok
+    ∙ stopped (box_faults ss) _ c.in_err-space.field-0.0 c.in_err-space.ensures.err)
+
+pub returns-in_err-fields-clause-fault : goal.returns-in_err-fields-clause-fault
+returns-in_err-fields-clause-fault c =
+    let ss : List Section = c.args.sections.now in
+    handed_on c.from_residual-in_err-fields.result c.in_err-fields.field-0.0 _ c.from_residual-in_err-fields.ensures.1
+    (λ k. passed (version_faults ss) _ c.in_ok-check_version.ensures.ok ∙ passed (box_faults ss) _ c.in_ok-space.ensures.ok.0
+    ∙ stopped (fields_faults ss) _ c.in_err-fields.field-0.0 (c.in_err-fields.ensures.err k))
+
 pub returns-in_err-block_bits-clause-fault : goal.returns-in_err-block_bits-clause-fault
 returns-in_err-block_bits-clause-fault c =
     let ss : List Section = c.args.sections.now in
