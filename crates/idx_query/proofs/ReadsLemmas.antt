@@ -1,8 +1,8 @@
 -- Reads of the blocks of an answer, where it is refused.
-use Rattle.std.proofs.Common.{◌≡◌, inl, inr, ℕ, ◌+◌, ◌%◌, ◌^◌, ◌<◌, Bool, List, length, refl, sym, ap, subst, ◌∙◌, arith}
+use Rattle.std.proofs.Common.{◌≡◌, inl, inr, ℕ, ◌+◌, ◌%◌, ◌^◌, ◌<◌, Bool, List, drop, length, refl, sym, ap, subst, ◌∙◌, arith}
 use Rattle.std.specs.Prelude.{Option, Result, Ok, Err, IfErr, OnErr}
 use Rattle.std.specs.Result.{IsErrAnd}
-use Rattle.std.proofs.lemmas.List.{length-map}
+use Rattle.std.proofs.lemmas.List.{length-map, length-take}
 use Rattle.idx_outside.specs.declared.blocks.Fetched.{Fetched}
 use Rattle.idx_outside.specs.declared.blocks.Fetched.TheVariants as ways
 use Rattle.idx_header.specs.Header.{HeaderValue}
@@ -11,7 +11,7 @@ use Rattle.idx_plan.specs.Needed.{key_of, needed, needed_keys}
 use Rattle.idx_plan.specs.Plan.{PlanValue}
 use Rattle.idx_plan.specs.declared.ask.Ask.{Ask}
 use Rattle.idx_query.specs.Reads.{ReadsAtMost, ReadsOnce}
-use Rattle.idx_query.specs.Steps.{AreDone, LoadingValue}
+use Rattle.idx_query.specs.Steps.{AreDone, LoadingValue, part_of}
 use Rattle.idx_query.specs.declared.report.Report.{Report}
 
 -- what is so is so of an error
@@ -46,3 +46,11 @@ pub reads_needed : (h : HeaderValue) (ask : Ask) (keys : List Key) (before after
     ReadsAtMost before after (length (needed h ask))
 reads_needed h ask keys before after are =
     subst (ReadsAtMost before after) (ap (λ (ks : List Key). length ks) are ∙ length-map (needed h ask) (key_of ask))
+
+-- a part has no more keys than it was made with
+pub reads_of_part : (plan part : PlanValue) (first many before after : ℕ) → part ≡ part_of plan first many → ReadsAtMost before after (length part.keys) → ReadsAtMost before after many
+reads_of_part plan part first many before after is read = record {
+  reads = read.reads;
+  few = omega (arith, read.few, ap (λ (p : PlanValue). length p.keys) is, length-take many (drop first plan.keys));
+  made = read.made;
+}

@@ -1,6 +1,6 @@
 -- A round of an answer, out of what its steps say.
 use Rattle.std.proofs.Common.{◌≡◌, ℕ, ◌+◌, ◌-◌, ◌*◌, ◌/◌, ◌^◌, ◌<◌, ◌≤◌, ◌⊎◌, inl, inr, Bool, List, [], ◌∷◌, ◌++◌, length, map, get_or, take, drop, refl, sym, ap, ◌∙◌, subst, arith, Some, None, Option}
-use Rattle.std.specs.Prelude.{All, IfSome, option_map, slice_get, slice_index, true}
+use Rattle.std.specs.Prelude.{◌≢◌, All, IfSome, option_map, slice_get, slice_index, true}
 use Rattle.std.specs.List.{IsDistinct}
 use Rattle.std.proofs.lemmas.List.{take_all, length-map}
 use Rattle.std.proofs.lemmas.List.Elements.{All-cons, All-drop, All-nil, All-get_or, All-from_get_or, All-head, All-tail, All-take}
@@ -19,7 +19,7 @@ use Rattle.idx_plan.specs.Needed.{key_of, needed, needed_keys, plan_fault}
 use Rattle.idx_plan.specs.Plan.{IsPlan, PlanValue}
 use Rattle.idx_plan.specs.declared.ask.Ask.{Ask}
 use Rattle.idx_query.specs.Blocks.{AreCopied, IsPlanOf, blocks_of, lacking}
-use Rattle.idx_query.specs.Fault.{HasPost, IsCaused}
+use Rattle.idx_query.specs.Fault.{HasPost, IsCaused, IsUnread}
 use Rattle.idx_query.specs.Rounds.{missed}
 use Rattle.idx_query.specs.Steps.{AreDone, CanCopy, HasLooked, IsBlock, FirstLeft, IsEditionOf, IsPartOf, IsSeen, IsStoreFault, LeftFirstLook, LeftLook, LoadingValue, MadeRound, RoundLeft, held_for, part_of}
 use Rattle.idx_query.specs.declared.query_fault.QueryFault.{QueryFault}
@@ -216,3 +216,20 @@ later-refused number keys posts tells kept_before kept_after held_before held_af
 later-refused number keys posts tells kept_before kept_after held_before held_after before after look faults.NoMemory is = inr look
 later-refused number keys posts tells kept_before kept_after held_before held_after before after look (faults.Plan fault) is = absurd is
 later-refused number keys posts tells kept_before kept_after held_before held_after before after look (faults.NotPublished board) is = absurd is
+
+-- a look that is refused leaves no more than its hold
+pub look-refused : (step : ℕ) (keys : List Key) (posts : List Post) (tells : Bool) (kept_before kept_after : Option HallValue) (held_before held_after : ℕ) → (tells ≡ true → kept_after ≡ kept_before) → MadeHolds held_before held_after 1 →
+    (fault : QueryFault) → (fault ≡ faults.NoMemory) ⊎ ((fault ≡ faults.NotPublished (length posts)) × Lacks step posts) → FirstLeft step keys posts tells kept_before kept_after held_before held_after fault
+look-refused step keys posts tells kept_before kept_after held_before held_after kept held fault (inl memory) = subst (FirstLeft step keys posts tells kept_before kept_after held_before held_after) (sym memory) (inl (kept, inr held))
+look-refused step keys posts tells kept_before kept_after held_before held_after kept held fault (inr lacks) = subst (FirstLeft step keys posts tells kept_before kept_after held_before held_after) (sym lacks.0) (kept, held)
+
+-- a step with a post is not lacked
+pub not-lacked : (posts : List Post) (step number : ℕ) (post : Post) → IsNewestOf posts step number post → Lacks step posts → ⊥
+not-lacked posts step number post newest lacks = at_each (λ (p : Post). p.time ≢ step) posts number post lacks newest.at newest.time
+
+-- a fault of the reader comes behind its first read
+pub store-read : (before after : ℕ) (fault : QueryFault) → IsStoreFault before after fault → IsUnread fault → ⊥
+store-read before after (faults.StoreFault count) is unread = unread
+store-read before after faults.NoMemory is unread = unread
+store-read before after (faults.Plan fault) is unread = is
+store-read before after (faults.NotPublished board) is unread = is

@@ -1,6 +1,6 @@
 -- What is known of a hall that is taken and given back.
-use Rattle.std.proofs.Common.{◌≡◌, ℕ, Bool, true, false, cond, List, [], refl, sym, ◌∙◌, subst, Some, Option}
-use Rattle.std.specs.Prelude.{IfSome, slice_get}
+use Rattle.std.proofs.Common.{◌≡◌, ℕ, Bool, true, false, cond, List, [], ◌∷◌, refl, sym, ◌∙◌, subst, Some, Option}
+use Rattle.std.specs.Prelude.{◌==◌, IfSome, length, slice_get}
 use Rattle.std.proofs.lemmas.Option.{same_Some}
 use Rattle.idx_outside.specs.Shape.{Shape}
 use Rattle.idx_cache.specs.Cached.{put_all}
@@ -10,7 +10,7 @@ use Rattle.idx_hall.specs.Hall.{HallValue, after_fill, name_eq, named_pairs, wit
 use Rattle.idx_hall.specs.Calls.{IsStepOf}
 use Rattle.idx_turn.specs.Stands.{Begins, MayGive, Stand, stand}
 use Rattle.idx_turn.proofs.BeginsLemmas.{begins_whole}
-use Rattle.idx_query.specs.Steps.{IsEditionOf}
+use Rattle.idx_query.specs.Steps.{IsEditionOf, held_for}
 
 -- what went out may come back
 pub given-back : (given : Option Stand) (may_add : Bool) (shape now_shape : Shape) (posts now : List Post) → given ≡ Some (stand shape posts) → now_shape ≡ shape → now ≡ posts → MayGive given may_add (stand now_shape now)
@@ -47,3 +47,8 @@ filled-none number h = elim (is_newest h.board number) as (λ b. cond b (with_pa
   | true ↦ refl
   | false ↦ refl
 ]
+
+-- some blocks are put at one hold
+pub held-some : (pairs : List (Key × List ℕ)) → (length pairs == 0) ≡ false → held_for pairs ≡ 1
+held-some [] none = cc
+held-some (pair ∷ pairs) some = refl

@@ -1,13 +1,15 @@
 use Rattle.std.proofs.Common.{◌≡◌, List, take, refl, sym, ap, ◌∙◌, subst, Some}
 use Rattle.std.specs.Prelude.{All, IfSome}
+use Rattle.idx_outside.specs.Shape.{Shape}
 use Rattle.idx_hall.specs.declared.key.Key.{Key}
-use Rattle.idx_hall.specs.Posts.{IsNewestOf, IsPostOf, Post}
+use Rattle.idx_hall.specs.Posts.{IsNewestOf, IsPostOf, Lacks, Post}
 use Rattle.idx_hall.specs.Hall.{HallValue}
+use Rattle.idx_turn.proofs.BeginsLemmas.{begins_more}
 use Rattle.idx_plan.specs.Plan.{PlanValue}
 use Rattle.idx_query.specs.Fault.{IsCaused}
-use Rattle.idx_query.specs.Steps.{DidRound, IsPartOf, IsSeen, MadeRound}
-use Rattle.idx_query.proofs.ReadsLemmas.{err_is}
-use Rattle.idx_query.proofs.RoundLemmas.{first-refused, following, look-caused, look-left, part-apart, part-times, store-caused}
+use Rattle.idx_query.specs.Steps.{DidRound, FirstLeft, HasLooked, IsPartOf, IsSeen, MadeRound}
+use Rattle.idx_query.proofs.ReadsLemmas.{err_is, reads_of_part}
+use Rattle.idx_query.proofs.RoundLemmas.{first-refused, following, look-caused, look-left, look-refused, not-lacked, part-apart, part-times, store-caused, store-read}
 use Rattle.idx_query.proofs.RoundsLemmas.{did-round}
 use Rattle.idx_query.proofs.rounds.first_round.Goals as goal
 
@@ -74,3 +76,51 @@ pub returns-in_err-seen-clause-cause : goal.returns-in_err-seen-clause-cause
 returns-in_err-seen-clause-cause g c =
     err_is c.from_residual-in_err-seen.result c.in_err-seen.field-0.0 (IsCaused c.args.header.now c.args.ask.now (g.T.Turn.seen c.look_up.new.turn) (g.R.Reader.faults c.args.reader.now) (g.R.Reader.faults c.args.reader.now)) c.from_residual-in_err-seen.ensures.1
     (look-caused c.args.header.now c.args.ask.now (g.T.Turn.seen c.look_up.new.turn) (g.R.Reader.faults c.args.reader.now) c.requires.sound c.in_err-seen.field-0.0 c.in_err-seen.ensures.refused)
+
+pub make_round-requires-clause-looked : goal.make_round-requires-clause-looked
+make_round-requires-clause-looked g c =
+    let keys_is : c.keys.result.now ≡ c.new-part.result.keys = c.keys.ensures in
+    subst (λ (s : Shape). HasLooked g.E.Blocks.time g.E.Blocks.shape g.E.Blocks.has g.E.Blocks.stored s (g.T.Turn.seen c.look_up.new.turn) c.args.ask.now.time c.in_ok-seen.seen.post c.new-part.result.keys c.look_up.new.looked) (sym c.in_ok-seen.ensures.shape)
+    (subst (λ (ks : List Key). HasLooked g.E.Blocks.time g.E.Blocks.shape g.E.Blocks.has g.E.Blocks.stored (g.T.Turn.shape c.args.turn.now) (g.T.Turn.seen c.look_up.new.turn) c.args.ask.now.time c.in_ok-seen.seen.post ks c.look_up.new.looked) keys_is c.in_ok-seen.ensures.looked)
+
+pub make_round-requires-clause-valid : goal.make_round-requires-clause-valid
+make_round-requires-clause-valid g c = c.requires.valid
+
+pub make_round-requires-clause-room : goal.make_round-requires-clause-room
+make_round-requires-clause-room g c = c.requires.room
+
+pub returns-in_err-seen-clause-left : goal.returns-in_err-seen-clause-left
+returns-in_err-seen-clause-left g c =
+    let keys : List Key = take c.args.many c.args.plan.now.keys in
+    err_is c.from_residual-in_err-seen.result c.in_err-seen.field-0.0 (FirstLeft c.args.ask.now.time keys (g.T.Turn.seen c.look_up.new.turn) g.T.Turn.tells (g.T.Turn.kept c.args.turn.now) (g.T.Turn.kept c.look_up.new.turn) (g.T.Turn.holds c.args.turn.now) (g.T.Turn.holds c.look_up.new.turn))
+    c.from_residual-in_err-seen.ensures.1
+    (look-refused c.args.ask.now.time keys (g.T.Turn.seen c.look_up.new.turn) g.T.Turn.tells (g.T.Turn.kept c.args.turn.now) (g.T.Turn.kept c.look_up.new.turn) (g.T.Turn.holds c.args.turn.now) (g.T.Turn.holds c.look_up.new.turn)
+    c.in_err-seen.ensures.kept c.in_err-seen.ensures.held c.in_err-seen.field-0.0 c.in_err-seen.ensures.refused)
+
+pub returns-in-Ok-clause-unpublished : goal.returns-in-Ok-clause-unpublished
+returns-in-Ok-clause-unpublished g c = λ alone lacks.
+    absurd (not-lacked (g.T.Turn.seen c.look_up.new.turn) c.args.ask.now.time c.in_ok-seen.seen.post c.in_ok-seen.ensures.newest.0 c.in_ok-seen.ensures.newest.1
+    (subst (Lacks c.args.ask.now.time) (sym (c.in_ok-seen.ensures.same alone)) lacks))
+
+pub returns-clause-unpublished : goal.returns-clause-unpublished
+returns-clause-unpublished g c = λ alone lacks.
+    absurd (not-lacked (g.T.Turn.seen c.look_up.new.turn) c.args.ask.now.time c.in_ok-seen.seen.post c.in_ok-seen.ensures.newest.0 c.in_ok-seen.ensures.newest.1
+    (subst (Lacks c.args.ask.now.time) (sym (c.in_ok-seen.ensures.same alone)) lacks))
+
+pub returns-in-Ok-clause-begins : goal.returns-in-Ok-clause-begins
+returns-in-Ok-clause-begins g c = begins_more c.in_ok-seen.ensures.begins c.in-Ok.ensures.begins
+
+pub returns-clause-begins : goal.returns-clause-begins
+returns-clause-begins g c = begins_more c.in_ok-seen.ensures.begins c.in-Err.ensures.begins
+
+pub returns-in-Ok-clause-same : goal.returns-in-Ok-clause-same
+returns-in-Ok-clause-same g c = λ alone.
+    c.in-Ok.ensures.same (c.in_ok-seen.ensures.may_add ∙ alone) ∙ c.in_ok-seen.ensures.same alone
+
+pub returns-clause-unread : goal.returns-clause-unread
+returns-clause-unread g c = λ unread.
+    absurd (store-read (g.R.Reader.faults c.args.reader.now) (g.R.Reader.faults c.make_round.new.reader) c.in-Err.fault c.in-Err.ensures.cause unread)
+
+pub returns-clause-few_reads : goal.returns-clause-few_reads
+returns-clause-few_reads g c =
+    reads_of_part c.args.plan.now c.new-part.result 0 c.args.many (g.R.Reader.reads c.args.reader.now) (g.R.Reader.reads c.make_round.new.reader) c.new-part.ensures c.in-Err.ensures.few_reads

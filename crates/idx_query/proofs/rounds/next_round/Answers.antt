@@ -1,12 +1,14 @@
 use Rattle.std.proofs.Common.{◌≡◌, List, take, drop, sym, ap, ◌∙◌, subst, Some}
 use Rattle.std.specs.Prelude.{All, IfSome, slice_get}
+use Rattle.idx_outside.specs.Shape.{Shape}
 use Rattle.std.proofs.lemmas.Option.{same_Some}
 use Rattle.idx_hall.specs.declared.key.Key.{Key}
 use Rattle.idx_hall.specs.Posts.{Post}
 use Rattle.idx_hall.specs.Hall.{HallValue}
-use Rattle.idx_turn.proofs.BeginsLemmas.{begins_at}
+use Rattle.idx_turn.proofs.BeginsLemmas.{begins_at, begins_more}
 use Rattle.idx_plan.specs.Plan.{PlanValue}
 use Rattle.idx_query.specs.Steps.{HasLooked, IsPartOf, IsSeen, MadeRound}
+use Rattle.idx_query.proofs.ReadsLemmas.{reads_of_part}
 use Rattle.idx_query.proofs.RoundLemmas.{later-refused, look-left, part-apart, part-times}
 use Rattle.idx_query.proofs.RoundsLemmas.{did-round}
 use Rattle.idx_query.proofs.rounds.next_round.Goals as goal
@@ -49,3 +51,29 @@ returns-clause-left g c =
     (λ said. subst (λ (ks : List Key). IfSome (g.T.Turn.kept c.args.turn.now) (λ hall. IsSeen hall c.args.post (g.T.Turn.shape c.args.turn.now) ks (g.T.Turn.kept c.look_again.new.turn) posts c.look_again.new.looked.found c.in_ok-seen.seen.room)) keys_is (c.in_ok-seen.ensures.told said))
     c.in_ok-seen.ensures.held (ap g.T.Turn.kept same) (ap g.T.Turn.holds same) (ap g.T.Turn.seen same))
     c.in-Err.fault c.in-Err.ensures.cause
+
+pub make_round-requires-clause-looked : goal.make_round-requires-clause-looked
+make_round-requires-clause-looked g c =
+    subst (λ n. HasLooked g.E.Blocks.time g.E.Blocks.shape g.E.Blocks.has g.E.Blocks.stored (g.T.Turn.shape c.look_again.new.turn) (g.T.Turn.seen c.look_again.new.turn) c.args.ask.now.time n c.new-part.result.keys c.look_again.new.looked) (sym c.in_ok-seen.ensures.post)
+    (subst (λ (s : Shape). HasLooked g.E.Blocks.time g.E.Blocks.shape g.E.Blocks.has g.E.Blocks.stored s (g.T.Turn.seen c.look_again.new.turn) c.args.ask.now.time c.args.post c.new-part.result.keys c.look_again.new.looked) (sym c.in_ok-seen.ensures.shape)
+    (subst (λ (ks : List Key). HasLooked g.E.Blocks.time g.E.Blocks.shape g.E.Blocks.has g.E.Blocks.stored (g.T.Turn.shape c.args.turn.now) (g.T.Turn.seen c.look_again.new.turn) c.args.ask.now.time c.args.post ks c.look_again.new.looked) c.keys.ensures c.in_ok-seen.ensures.looked))
+
+pub make_round-requires-clause-valid : goal.make_round-requires-clause-valid
+make_round-requires-clause-valid g c = c.requires.valid
+
+pub make_round-requires-clause-room : goal.make_round-requires-clause-room
+make_round-requires-clause-room g c = c.requires.room
+
+pub returns-in-Ok-clause-begins : goal.returns-in-Ok-clause-begins
+returns-in-Ok-clause-begins g c = begins_more c.in_ok-seen.ensures.begins c.in-Ok.ensures.begins
+
+pub returns-clause-begins : goal.returns-clause-begins
+returns-clause-begins g c = begins_more c.in_ok-seen.ensures.begins c.in-Err.ensures.begins
+
+pub returns-in-Ok-clause-same : goal.returns-in-Ok-clause-same
+returns-in-Ok-clause-same g c = λ alone.
+    c.in-Ok.ensures.same (c.in_ok-seen.ensures.may_add ∙ alone) ∙ c.in_ok-seen.ensures.same alone
+
+pub returns-clause-few_reads : goal.returns-clause-few_reads
+returns-clause-few_reads g c =
+    reads_of_part c.args.plan.now c.new-part.result c.args.first c.args.many (g.R.Reader.reads c.args.reader.now) (g.R.Reader.reads c.make_round.new.reader) c.new-part.ensures c.in-Err.ensures.few_reads

@@ -1,11 +1,14 @@
-use Rattle.std.proofs.Common.{◌≡◌, sym, ap, ◌∙◌, subst, Some}
-use Rattle.std.specs.Prelude.{All, slice_get}
+use Rattle.std.proofs.Common.{◌≡◌, false, length, rules, sym, ap, ◌∙◌, subst, Some}
+use Rattle.std.specs.Prelude.{◌==◌, All, slice_get}
+use Rattle.std.proofs.lemmas.List.{length-map}
 use Rattle.idx_outside.specs.Shape.{Shape}
 use Rattle.idx_hall.specs.Posts.{Post}
 use Rattle.idx_hall.specs.Hall.{HallValue, IsBlockOf}
 use Rattle.idx_hall.specs.Calls.{pairs_of}
+use Rattle.idx_turn.specs.Stands.{MadeHolds}
 use Rattle.idx_turn.proofs.BeginsLemmas.{begins_at}
-use Rattle.idx_query.proofs.TakeLemmas.{filled-board, filled-shape, given-back}
+use Rattle.idx_query.specs.Steps.{held_for}
+use Rattle.idx_query.proofs.TakeLemmas.{filled-board, filled-shape, given-back, held-some}
 use Rattle.idx_query.proofs.taking.fill_cache.Goals as goal
 
 pub fill-stale-requires : goal.fill-stale-requires
@@ -28,3 +31,11 @@ give-requires g c =
     given-back _ _ c.take-held.result.shape c.fill-stale.new.self.shape c.take-held.result.board c.fill-stale.new.self.board c.take-held.ensures.given
     (ap (λ (h : HallValue). h.shape) c.fill-stale.ensures.filled ∙ filled-shape c.args.post pairs c.get_mut.result.now ∙ ap (λ (h : HallValue). h.shape) c.get_mut.ensures.value)
     (ap (λ (h : HallValue). h.board) c.fill-stale.ensures.filled ∙ filled-board c.args.post pairs c.get_mut.result.now ∙ ap (λ (h : HallValue). h.board) c.get_mut.ensures.value)
+
+pub returns-clause-held : goal.returns-clause-held
+returns-clause-held g c =
+    let pairs = pairs_of c.args.loaded.items in
+    let some : (length c.args.loaded.items == 0) ≡ false = search rules in
+    let once : held_for pairs ≡ 1 = held-some pairs (ap (λ n. n == 0) (length-map c.args.loaded.items _) ∙ some) in
+    subst (λ n. MadeHolds (g.T.Turn.holds c.args.turn.now) (g.T.Turn.holds c.give.new.self) n) (sym once)
+    (subst (λ n. MadeHolds (g.T.Turn.holds c.args.turn.now) n 1) (sym c.give.ensures.holds) c.take-held.ensures.held)
