@@ -1,4 +1,4 @@
-use Rattle.std.proofs.Common.{◌≡◌, ◌*◌, ◌%◌, List, length, Some, sym, ap, subst, ◌∙◌, arith}
+use Rattle.std.proofs.Common.{◌≡◌, ◌*◌, ◌%◌, ◌≤◌, List, length, Some, sym, ap, subst, ◌∙◌, arith}
 use Rattle.std.specs.Prelude.{IfSome}
 use Rattle.std.specs.Option.{ForSome}
 use Rattle.std.proofs.Math.Nat.{mul-mod_right}
@@ -14,6 +14,13 @@ use Rattle.idx_edition.specs.Stored.{fault_of_bytes}
 use Rattle.idx_edition.specs.Tables.{EndWithin, IsTable}
 use Rattle.idx_edition.proofs.LoadLemmas.{IsFront, front_of, cause-table, front-rows, front-sound, front-bad, front-table, front-ends}
 use Rattle.idx_edition.proofs.load.read_rows.Goals as goal
+
+pub read-requires-clause-fields : goal.read-requires-clause-fields
+read-requires-clause-fields g c =
+    let h = c.args.header.now in
+    let l = placing_of h in
+    let count : length c.args.lengths.now.items ≡ length h.fields = ap length c.requires ∙ length-map-range_with_len (block_bytes l) 0 (length l.sizes) ∙ length-map h.fields sample_bytes in
+    subst (λ n. 1 ≤ n) (sym count) c.row_count.ensures.fields
 
 pub read-requires-clause-whole : goal.read-requires-clause-whole
 read-requires-clause-whole g c =

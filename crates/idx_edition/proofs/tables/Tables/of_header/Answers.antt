@@ -1,8 +1,8 @@
-use Rattle.std.proofs.Common.{◌≡◌, ◌<◌, ◌++◌, ◌∷◌, [], List, ℕ, Some, map, sym, ap, subst, ◌∙◌, append_assoc, append-nil}
+use Rattle.std.proofs.Common.{◌≡◌, ◌<◌, ◌++◌, ◌∷◌, [], List, ℕ, Some, length, map, sym, ap, subst, ◌∙◌, append_assoc, append-nil}
 use Rattle.std.specs.Prelude.{slice_get}
 use Rattle.std.specs.List.{AllByRecursion}
-use Rattle.std.proofs.lemmas.List.{map-append}
-use Rattle.idx_header.specs.Header.{HeaderValue, block_count}
+use Rattle.std.proofs.lemmas.List.{length-map, map-append}
+use Rattle.idx_header.specs.Header.{HeaderValue, IsHeader, block_count}
 use Rattle.idx_table.specs.declared.row.Row.{Row}
 use Rattle.idx_layout.specs.Placing.{file_numbers}
 use Rattle.idx_layout.specs.Files.{rows_of_file}
@@ -60,3 +60,10 @@ of_files-requires-clause-rising c =
 pub of_files-requires-clause-each : goal.of_files-requires-clause-each
 of_files-requires-clause-each c = λ i rows at.
     subst (λ (k : HeaderValue). IsTable (block_lengths (placing_of k)) k.blocks_per_file rows) (sym c.in_ok-copy.ensures) (c.loop-file.invariant.each i rows at)
+
+pub of_files-requires-clause-same : goal.of_files-requires-clause-same
+of_files-requires-clause-same c =
+    ap length c.loop-file.invariant.tables ∙ length-map c.loop-file.numbers.items (rows_of_file c.args.layout (placing_of c.args.header.now))
+
+pub returns-clause-valid : goal.returns-clause-valid
+returns-clause-valid c = subst IsHeader c.in_ok-copy.ensures c.of_files.ensures.valid
