@@ -1,6 +1,6 @@
 -- The newest revision of a step that stands is one that stands.
 use Rattle.std.proofs.Common.{◌≡◌, ℕ, zero, suc, ◌<◌, ◌↔◌, true, List, Option, Some, None, IfSome, sym, ◌∙◌, subst, arith}
-use Rattle.std.specs.Prelude.{Err, IfOk, Ok, Result}
+use Rattle.std.specs.Prelude.{Err, IfErr, IfOk, Ok, Result}
 use Rattle.std.proofs.lemmas.Option.{same_Some}
 use Rattle.idx_outside.specs.Files.{has_folder}
 use Rattle.idx_outside.specs.declared.mem_file.MemFile.{MemFile}
@@ -8,7 +8,11 @@ use Rattle.idx_header.specs.Header.{HeaderValue, HasTime, at_revision}
 use Rattle.idx_header.specs.Names.{step_folder}
 use Rattle.idx_header.specs.Revisions.{header_that_stands, last_header, next_revision, stands_at, stands_in}
 use Rattle.idx_header.proofs.RevisionLemmas.{next_below}
-use Rattle.idx_edition.specs.Stored.{IsAbsent, Stands, StandsAs}
+use Rattle.idx_edition.specs.Loaded.{Counts, IsLoadCause}
+use Rattle.idx_edition.specs.Newest.{HasBadTable, IsNewestCause}
+use Rattle.idx_edition.specs.Stored.{IsAbsent, Stands, StandsAs, first_bad}
+use Rattle.idx_edition.specs.declared.load_fault.LoadFault.{LoadFault}
+use Rattle.idx_edition.proofs.SoFarLemmas.{cause_since}
 
 some_none : {A : Type 0} {x : A} → Some x ≡ None → ⊥
 some_none e = cc e
@@ -54,3 +58,16 @@ pub newest-none : {T E : Type 0} (r : Result (Option T) E) (h revised : HeaderVa
     → IfOk r (λ loaded. IfSome known (λ files. (loaded ≡ None) ↔ IsAbsent h step files))
 newest-none (Ok loaded) h revised step known now found has same is newest none = none_of h revised step known now found loaded has same is newest none
 newest-none (Err fault) h revised step known now found has same is newest none = tt
+
+-- the cause of the newest revision's refusal is the step's
+pub newest-cause : {T : Type 0} (r : Result T LoadFault) (h revised : HeaderValue) (step : ℕ) (known now : Option (List MemFile)) (found : Option HeaderValue) (c d : Counts) → HasTime h step → now ≡ known → found ≡ Some revised
+    → IfSome known (λ files. found ≡ header_that_stands h step files) → c ≡ d → IfErr r (IsLoadCause revised step now c) → IfErr r (IsNewestCause h step known d)
+newest-cause (Ok loaded) h revised step known now found c d has same is newest counted cause = tt
+newest-cause (Err fault) h revised step known now found c d has same is newest counted cause =
+    cause_since (λ bad. IfSome now (λ files. Stands revised step files × (first_bad revised step files ≡ Some bad))) (λ bad. IfSome known (λ files. HasBadTable h step files bad))
+    (λ bad first. of_newest known bad newest (subst (λ (o : Option (List MemFile)). IfSome o (λ files. Stands revised step files × (first_bad revised step files ≡ Some bad))) same first)) c d counted fault cause
+  where
+    of_newest : (o : Option (List MemFile)) (bad : LoadFault) → IfSome o (λ files. found ≡ header_that_stands h step files) → IfSome o (λ files. Stands revised step files × (first_bad revised step files ≡ Some bad))
+        → IfSome o (λ files. HasBadTable h step files bad)
+    of_newest None bad stands first = tt
+    of_newest (Some files) bad stands first = (revised, ((has, sym stands ∙ is), first.1))

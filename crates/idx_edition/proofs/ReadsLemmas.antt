@@ -1,6 +1,7 @@
 -- Reads of the tables of a step's files, file after file.
 use Rattle.std.proofs.Common.{◌≡◌, ◌≢◌, inl, inr, ℕ, ◌+◌, ◌%◌, ◌^◌, ◌≤◌, List, ◌∷◌, length, Some, None, refl, sym, ap, subst, ◌∙◌, arith}
-use Rattle.std.specs.Prelude.{Option, IfSome, Result, Ok, Err, OnErr}
+use Rattle.std.specs.Prelude.{Option, IfErr, IfSome, Result, Ok, Err, OnErr}
+use Rattle.std.specs.Result.{IsErrAnd}
 use Rattle.std.specs.Option.{option_map}
 use Rattle.std.specs.List.{cons_option, filter_map}
 use Rattle.idx_outside.specs.Cause.{MadeReads}
@@ -92,3 +93,8 @@ module _ (h : HeaderValue) (step : ℕ) where
 pub on_err : {T E : Type 0} (result : Result T E) (P : Type 0) → P → OnErr result P
 on_err (Ok x) P holds = tt
 on_err (Err fault) P holds = holds
+
+-- what holds of the error that is answered
+pub err_is : {T E : Type 0} (r : Result T E) (x : E) (P : E → Type 0) → IsErrAnd r (λ y. y ≡ x) → P x → IfErr r P
+err_is (Ok v) x P gives holds = absurd gives
+err_is (Err y) x P gives holds = subst P (sym gives) holds

@@ -1,22 +1,23 @@
 -- The files of a step, one after another.
 use Rattle.std.proofs.Common.{◌≡◌, ℕ, zero, suc, ◌+◌, ◌%◌, ◌^◌, ◌≤◌, ◌⊎◌, inl, inr, Bool, true, false, cond, List, [], ◌∷◌, ◌++◌, length, Some, None, refl, sym, ap, subst, ◌∙◌, arith, append_assoc, append-nil, length-append}
-use Rattle.std.specs.Prelude.{Option, IfSome, filter, slice_get}
+use Rattle.std.specs.Prelude.{◌↔◌, Option, IfSome, IsTrue, filter, slice_get}
 use Rattle.std.specs.Option.{ForSome, option_map}
 use Rattle.std.specs.List.{cons_option, filter_map, range_with_len}
 use Rattle.std.proofs.lemmas.List.{map-append}
 use Rattle.std.proofs.lemmas.Option.{slice_get_within}
-use Rattle.idx_outside.specs.Files.{entry_shown, file_at, shown}
+use Rattle.idx_outside.specs.Files.{HasStep as HasCommitted, entry_shown, file_at, shown}
+use Rattle.idx_outside.specs.declared.bay_call.BayCall.{BayCall}
 use Rattle.idx_outside.specs.declared.mem_file.MemFile.{MemFile}
 use Rattle.idx_table.specs.Table.{rows_of}
 use Rattle.idx_table.specs.declared.row.Row.{Row}
-use Rattle.idx_header.specs.Header.{HeaderValue}
-use Rattle.idx_header.specs.Names.{file_name}
+use Rattle.idx_header.specs.Header.{HasTime, HeaderValue}
+use Rattle.idx_header.specs.Names.{file_name, step_folder}
 use Rattle.idx_layout.specs.Placing.{Placing, block_count, file_numbers}
 use Rattle.idx_layout.specs.Files.{row_count}
 use Rattle.idx_layout.specs.OfHeader.{placing_of}
-use Rattle.idx_edition.specs.Stored.{fault_of_file, first_bad}
+use Rattle.idx_edition.specs.Stored.{Stands, fault_of_file, first_bad}
 use Rattle.idx_edition.specs.Tables.{AreTablesOf, EndWithin, IsTable, RiseFrom}
-use Rattle.idx_edition.specs.Loaded.{Counts, IsCause, found_table, leaf_at, number_at, rows_at, table_at}
+use Rattle.idx_edition.specs.Loaded.{Counts, IsCause, IsLoadCause, IsOpenCause, found_table, leaf_at, number_at, rows_at, table_at}
 use Rattle.idx_edition.specs.declared.load_fault.LoadFault.{LoadFault}
 use Rattle.idx_edition.specs.declared.load_fault.LoadFault.TheVariants.{BadTable, StoreFault, NoMemory}
 
@@ -235,6 +236,26 @@ cause_since P Q more c d same fault is = subst (λ (k : Counts). IsCause Q k fau
     by_fault (BadTable file row kind) is = (more (BadTable file row kind) is.0, is.1, is.2)
     by_fault (StoreFault faults) is = is
     by_fault NoMemory is = is
+
+-- a cause by what was known when the step was asked for: it stands
+pub cause_standing : (h : HeaderValue) (step : ℕ) (known now : Option (List MemFile)) (stands : Bool) (c d : Counts) → now ≡ known → c ≡ d → HasTime h step → IsTrue stands →
+    IfSome known (λ files. IsTrue stands ↔ IfSome (step_folder h step) (λ folder. HasCommitted folder files)) → (fault : LoadFault) → IsOpenCause h step now c fault → IsLoadCause h step known d fault
+cause_standing h step known now stands c d same counted has there means fault cause =
+    cause_since (λ bad. IfSome now (λ files. first_bad h step files ≡ Some bad)) (λ bad. IfSome known (λ files. Stands h step files × (first_bad h step files ≡ Some bad)))
+    (λ bad first. standing known bad means (subst (λ (o : Option (List MemFile)). IfSome o (λ files. first_bad h step files ≡ Some bad)) same first)) c d counted fault cause
+  where
+    standing : (o : Option (List MemFile)) (bad : LoadFault) → IfSome o (λ files. IsTrue stands ↔ IfSome (step_folder h step) (λ folder. HasCommitted folder files)) → IfSome o (λ files. first_bad h step files ≡ Some bad)
+        → IfSome o (λ files. Stands h step files × (first_bad h step files ≡ Some bad))
+    standing None bad means first = tt
+    standing (Some files) bad means first = ((has, means.0 there), first)
+
+-- counts that begin where others do, and end as they do
+pub same_counts : (b b' after_b : ℕ) (f f' after_f : Option BayCall) (r r' after_r : ℕ) → b ≡ b' → f ≡ f' → r ≡ r' →
+    ◌≡◌ {A = Counts} (record { bay_before = b; bay_after = after_b; failed_before = f; failed_after = after_f; reader_before = r; reader_after = after_r })
+    (record { bay_before = b'; bay_after = after_b; failed_before = f'; failed_after = after_f; reader_before = r'; reader_after = after_r })
+same_counts b b' after_b f f' after_f r r' after_r bay failed reader =
+    let of : ℕ → Option BayCall → ℕ → Counts = λ x y z. record { bay_before = x; bay_after = after_b; failed_before = y; failed_after = after_f; reader_before = z; reader_after = after_r } in
+    ap (λ x. of x f r) bay ∙ ap (λ y. of b' y r) failed ∙ ap (λ z. of b' f' z) reader
 
 -- one more read
 pub reads_more : (before now after n : ℕ) → now % 2 ^ 64 ≡ (before + n) % 2 ^ 64 → after ≡ (now + 1) % 2 ^ 64 → after % 2 ^ 64 ≡ (before + (n + 1)) % 2 ^ 64

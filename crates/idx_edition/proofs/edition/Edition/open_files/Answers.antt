@@ -11,11 +11,13 @@ use Rattle.idx_layout.specs.OfHeader.{placing_of}
 use Rattle.idx_layout.specs.Shape.{block_lengths}
 use Rattle.idx_edition.specs.Asked.{AskedAtMost}
 use Rattle.idx_edition.specs.Tables.{AreTablesOf, EndWithin, IsTable, RiseFrom, TablesValue, has_in_tables, shape_in, stored_in, tables_of}
-use Rattle.idx_edition.specs.Loaded.{HoldsStored}
+use Rattle.idx_edition.specs.Stored.{fault_of_file, first_bad}
+use Rattle.idx_edition.specs.Loaded.{HoldsStored, counts}
+use Rattle.idx_edition.specs.declared.load_fault.LoadFault.{LoadFault}
 use Rattle.idx_edition.specs.Reads.{ReadsFiles, ReadsOne, count_there, most_reads}
 use Rattle.idx_edition.proofs.AskedLemmas.{asked_more, asked_none}
-use Rattle.idx_edition.proofs.SoFarLemmas.{HoldSoFar, files_rise, no_tables, no_leaves, hold_none, hold_skip, hold_more, numbers_skip, numbers_more, tables_more, leaves_more, found_none, found_some, sound_since, reads_more}
-use Rattle.idx_edition.proofs.ReadsLemmas.{few_more, few_none, few_skip, is_there, on_err, reads_pushed, reads_with}
+use Rattle.idx_edition.proofs.SoFarLemmas.{HoldSoFar, bad_first, bad_since, cause_since, same_counts, files_rise, no_tables, no_leaves, hold_none, hold_skip, hold_more, numbers_skip, numbers_more, tables_more, leaves_more, found_none, found_some, sound_since, reads_more}
+use Rattle.idx_edition.proofs.ReadsLemmas.{err_is, few_more, few_none, few_skip, is_there, on_err, reads_pushed, reads_with}
 use Rattle.idx_edition.proofs.HeldLemmas.{holds_stored}
 use Rattle.idx_edition.proofs.edition.Edition.open_files.Goals as goal
 
@@ -147,6 +149,31 @@ returns-clause-holds g c =
 pub returns-in_err-push_found-clause-admits : goal.returns-in_err-push_found-clause-admits
 returns-in_err-push_found-clause-admits g c = λ path admitted.
     c.in_ok-found.ensures.admits path (c.loop-file.invariant.admits path admitted)
+
+pub returns-in_err-found-clause-cause : goal.returns-in_err-found-clause-cause
+returns-in_err-found-clause-cause g c =
+    let h = c.args.header.now in
+    let bay = g.B.Bay in
+    let reader = g.R.Reader in
+    let known = bay.files c.loop-file.bay in
+    let since = bay.files c.args.bay.now in
+    let before = c.loop-file.invariant in
+    let file = c.in-Some.file in
+    let fault : LoadFault = c.in_err-found.field-0.0 in
+    let same = same_counts (bay.faults c.loop-file.bay) (bay.faults c.args.bay.now) (bay.faults c.open_file.new.bay) (bay.failed c.loop-file.bay) (bay.failed c.args.bay.now) (bay.failed c.open_file.new.bay)
+    (reader.faults c.loop-file.reader) (reader.faults c.args.reader.now) (reader.faults c.open_file.new.reader) before.quiet before.failed before.reader_quiet in
+    err_is c.from_residual-in_err-found.result fault _ c.from_residual-in_err-found.ensures.1
+    (cause_since (λ bad. IfSome known (λ files. fault_of_file h c.args.time files file ≡ Some bad)) (λ bad. IfSome since (λ files. first_bad h c.args.time files ≡ Some bad))
+    (λ bad is. bad_first h c.args.time since c.loop-file.file-iterator c.next.new.self c.loop-file.numbers.items file c.loop-file.tables.items (shown g.L.Leaf.contents c.loop-file.leaves.items) bad c.in-Some.ensures.steps before.holds
+    (bad_since h c.args.time file bad known since before.files is))
+    (counts bay.faults bay.failed reader.faults c.loop-file.bay c.open_file.new.bay c.loop-file.reader c.open_file.new.reader)
+    (counts bay.faults bay.failed reader.faults c.args.bay.now c.open_file.new.bay c.args.reader.now c.open_file.new.reader)
+    same fault c.in_err-found.ensures.cause)
+
+pub invariant_of-result : goal.invariant_of-result
+invariant_of-result g c = record {
+  fits = subst (λ (t : TablesValue). AreTablesOf t.tables (shown g.L.Leaf.contents c.loop-file.leaves.items)) (sym c.of_files.ensures.tables) c.loop-file.invariant.fits;
+}
 
 pub returns-in_err-found-clause-few_reads : goal.returns-in_err-found-clause-few_reads
 returns-in_err-found-clause-few_reads g c =
