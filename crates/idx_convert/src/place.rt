@@ -138,13 +138,19 @@ fn check_size<V: Source>(header: &Header, raws: &mut Vec<V>) -> Result<(), Conve
 {
     let want = header.volume_bytes();
     match raws[0].len() {
-        Ok(found) => {
-            if found == want {
-                Ok(())
-            } else {
-                Err(ConvertFault::RawWrongSize { want, found })
-            }
-        }
+        Ok(found) => size_is(want, found),
         Err(_) => Err(ConvertFault::RawFault),
+    }
+}
+
+/// Refuses another length than the one that is wanted.
+fn size_is(want: u64, found: u64) -> Result<(), ConvertFault>
+    ensures same { OnOk result (found ≡ want) }
+    ensures other { IfErr result (λ fault. (fault ≡ ConvertFault.RawWrongSize want found) × (found ≢ want)) }
+{
+    if found == want {
+        Ok(())
+    } else {
+        Err(ConvertFault::RawWrongSize { want, found })
     }
 }
