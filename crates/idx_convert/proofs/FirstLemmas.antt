@@ -89,6 +89,10 @@ module _ {V : Type 0} (old new first after rest : List V) (parted : Parted old n
   numbers : (count : V → ℕ) → length (map count after) ≡ length (map count first)
   numbers count = length-map after count ∙ parted.number ∙ sym (length-map first count)
 
+  -- what stays of each of the first stays of all
+  pub same_all : {T : Type 0} (count : V → T) → map count after ≡ map count first → map count new ≡ map count old
+  same_all count same = now_counts count ∙ ap (λ counts. counts ++ map count rest) same ∙ sym (was_counts count)
+
   pub none_falls_all : (count : V → ℕ) → NoneFalls (map count first) (map count after) → NoneFalls (map count old) (map count new)
   none_falls_all count each =
       subst (λ before. NoneFalls before (map count new)) (sym (was_counts count))

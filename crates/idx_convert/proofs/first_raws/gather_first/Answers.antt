@@ -1,34 +1,60 @@
-use Rattle.std.proofs.Common.{◌≡◌, ◌<◌, ◌++◌, arith, length}
+use Rattle.std.proofs.Common.{◌<◌, arith, length, min, subst, vec_len}
+use Rattle.std.specs.Prelude.{IfErr, OnOk}
 use Rattle.std.proofs.lemmas.Grind.{common_steps}
-use Rattle.idx_convert.proofs.FirstLemmas.{as_many, caused_all, first_alike, none_falls_all}
+use Rattle.std.proofs.lemmas.Result.{on_ok_weaker}
+use Rattle.idx_gather.specs.Gather.{Leaves, SomeStepAdded}
+use Rattle.idx_convert.proofs.FirstLemmas.{Parted, as_many, caused_all, contents_first, first_alike, idle_all, none_falls_all, same_all}
 use Rattle.idx_convert.proofs.first_raws.gather_first.Goals as goal
+use Rattle.idx_convert.proofs.first_raws.gather_first.Goals.{After-put_back}
 
 pub gather-gathered-requires-clause-alike : goal.gather-gathered-requires-clause-alike
 gather-gathered-requires-clause-alike g c κs within =
-    let was : c.args.raws.now.items ≡ c.keep_first.new.from.items ++ c.keep_first.new.rest.items = c.keep_first.ensures.split in
     let some : 0 < length c.keep_first.new.from.items = grind (arith, common_steps) in
-    first_alike g.V.Source.contents c.args.raws.now.items c.keep_first.new.from.items c.keep_first.new.rest.items was some c.requires.alike
+    first_alike g.V.Source.contents c.args.raws.now.items c.keep_first.new.from.items c.keep_first.new.rest.items c.keep_first.ensures.split some c.requires.alike
+
+-- the raw volumes that were gathered from are the first, and the rest are behind them again
+parted : (g : _) (c : After-put_back g) → Parted c.args.raws.now.items c.put_back.new.into.items c.keep_first.new.from.items c.gather-gathered.new.raws.items c.keep_first.new.rest.items
+parted g c = record {
+  was = c.keep_first.ensures.split;
+  is = c.put_back.ensures;
+  number = as_many g.V.Source.contents c.keep_first.new.from.items c.gather-gathered.new.raws.items c.gather-gathered.ensures.same;
+  some = grind (arith, common_steps);
+}
+
+pub returns-clause-added : goal.returns-clause-added
+returns-clause-added g c =
+    subst (λ raw. OnOk c.gather-gathered.result (SomeStepAdded c.args.header.now c.args.step raw (g.B.Bay.files c.args.bay.now) (g.B.Bay.files c.gather-gathered.new.bay)))
+    (contents_first c.args.raws.now.items c.put_back.new.into.items c.keep_first.new.from.items c.gather-gathered.new.raws.items c.keep_first.new.rest.items (parted g (goal.at.returns-clause-added g c).After-put_back) g.V.Source.contents)
+    c.gather-gathered.ensures.added
 
 pub returns-clause-cause : goal.returns-clause-cause
 returns-clause-cause g c =
-    let first = c.keep_first.new.from.items in
-    let after = c.gather-gathered.new.raws.items in
-    let rest = c.keep_first.new.rest.items in
-    let was : c.args.raws.now.items ≡ c.keep_first.new.from.items ++ c.keep_first.new.rest.items = c.keep_first.ensures.split in
-    let is : c.put_back.new.into.items ≡ c.gather-gathered.new.raws.items ++ c.keep_first.new.rest.items = c.put_back.ensures in
-    let some : 0 < length c.keep_first.new.from.items = grind (arith, common_steps) in
-    caused_all c.args.raws.now.items c.put_back.new.into.items first after rest
-    (record { was = was; is = is; number = as_many g.V.Source.contents first after c.gather-gathered.ensures.same; some = some })
+    caused_all c.args.raws.now.items c.put_back.new.into.items c.keep_first.new.from.items c.gather-gathered.new.raws.items c.keep_first.new.rest.items (parted g (goal.at.returns-clause-cause g c).After-put_back)
     g.V.Source.contents g.V.Source.faults c.args.header.now _ _ c.gather-gathered.result c.gather-gathered.ensures.cause
+
+pub returns-clause-leaves : goal.returns-clause-leaves
+returns-clause-leaves g c =
+    subst (λ raw. IfErr c.gather-gathered.result (Leaves c.args.header.now c.args.step raw (g.B.Bay.files c.args.bay.now) (g.B.Bay.files c.gather-gathered.new.bay)))
+    (contents_first c.args.raws.now.items c.put_back.new.into.items c.keep_first.new.from.items c.gather-gathered.new.raws.items c.keep_first.new.rest.items (parted g (goal.at.returns-clause-leaves g c).After-put_back) g.V.Source.contents)
+    c.gather-gathered.ensures.leaves
+
+pub returns-clause-raw_quiet : goal.returns-clause-raw_quiet
+returns-clause-raw_quiet g c =
+    on_ok_weaker c.gather-gathered.result
+    (same_all c.args.raws.now.items c.put_back.new.into.items c.keep_first.new.from.items c.gather-gathered.new.raws.items c.keep_first.new.rest.items (parted g (goal.at.returns-clause-raw_quiet g c).After-put_back) g.V.Source.faults)
+    c.gather-gathered.ensures.raw_quiet
+
+pub returns-clause-same : goal.returns-clause-same
+returns-clause-same g c =
+    same_all c.args.raws.now.items c.put_back.new.into.items c.keep_first.new.from.items c.gather-gathered.new.raws.items c.keep_first.new.rest.items (parted g (goal.at.returns-clause-same g c).After-put_back)
+    g.V.Source.contents c.gather-gathered.ensures.same
+
+pub returns-clause-idle : goal.returns-clause-idle
+returns-clause-idle g c =
+    idle_all c.args.raws.now.items c.put_back.new.into.items c.keep_first.new.from.items c.gather-gathered.new.raws.items c.keep_first.new.rest.items (parted g (goal.at.returns-clause-idle g c).After-put_back)
+    (min c.args.ranks (vec_len c.args.raws.now)) (omega arith)
 
 pub returns-clause-raw_count : goal.returns-clause-raw_count
 returns-clause-raw_count g c =
-    let first = c.keep_first.new.from.items in
-    let after = c.gather-gathered.new.raws.items in
-    let rest = c.keep_first.new.rest.items in
-    let was : c.args.raws.now.items ≡ c.keep_first.new.from.items ++ c.keep_first.new.rest.items = c.keep_first.ensures.split in
-    let is : c.put_back.new.into.items ≡ c.gather-gathered.new.raws.items ++ c.keep_first.new.rest.items = c.put_back.ensures in
-    let some : 0 < length c.keep_first.new.from.items = grind (arith, common_steps) in
-    none_falls_all c.args.raws.now.items c.put_back.new.into.items first after rest
-    (record { was = was; is = is; number = as_many g.V.Source.contents first after c.gather-gathered.ensures.same; some = some })
+    none_falls_all c.args.raws.now.items c.put_back.new.into.items c.keep_first.new.from.items c.gather-gathered.new.raws.items c.keep_first.new.rest.items (parted g (goal.at.returns-clause-raw_count g c).After-put_back)
     g.V.Source.faults c.gather-gathered.ensures.raw_count
