@@ -1,18 +1,26 @@
 -- What the stages of a conversion say, for the whole of it.
 use Rattle.std.proofs.Common.{◌≡◌, ◌≢◌, ℕ, ◌<◌, ◌≤◌, List, Option, Some, None, Ok, Err, slice_index, inl, inr, refl, sym, ap, subst, ◌∙◌, arith}
-use Rattle.std.specs.Prelude.{Result, IfErr, IfSome}
+use Rattle.std.specs.Prelude.{◌⊎◌, Result, IfErr, IfSome, IsSome, length}
+use Rattle.std.specs.Result.{IsErrAnd}
 use Rattle.idx_outside.specs.declared.bay_call.BayCall.{BayCall}
 use Rattle.idx_outside.specs.declared.bay_call.BayCall.TheVariants as calls
-use Rattle.idx_header.specs.Header.{HeaderValue}
+use Rattle.idx_header.specs.Header.{HeaderValue, volume_bytes}
 use Rattle.idx_header.specs.HeaderOf.{header_of}
 use Rattle.idx_header.specs.Revisions.{IsRevisionOf}
-use Rattle.idx_gather.specs.Gather.{HasVolume, LacksVolume, SomeStepAdded}
+use Rattle.idx_gather.specs.Gather.{HasVolume, IsCaused, IsFailedCall as IsFailedGather, LacksVolume, Leaves, LeavesFailed as LeavesFailedGather, SomeStepAdded}
+use Rattle.idx_gather.specs.declared.gather_fault.GatherFault.{GatherFault}
+use Rattle.idx_gather.specs.declared.gather_fault.GatherFault.TheVariants as gathers
 use Rattle.idx_convert.specs.declared.convert_fault.ConvertFault.{ConvertFault}
 use Rattle.idx_convert.specs.declared.convert_fault.ConvertFault.TheVariants as faults
-use Rattle.idx_convert.specs.Convert.{Asks, AsksFor, BeginsAt, Ends, HasPut, IsCause, IsEarly, IsFailedCall, IsNext, LeavesAsked, LeavesFailed, LeavesFiles, LeavesHeader, Takes}
+use Rattle.idx_convert.specs.Convert.{Asks, AsksFor, Begins, BeginsAt, Converted, Ends, HasPut, IsCause, IsEarly, IsFailedCall, IsNext, IsRight, LeavesAsked, LeavesFailed, LeavesFiles, LeavesHeader, Takes}
 use Rattle.idx_convert.specs.Counts.{SomeHigher}
 use Rattle.idx_convert.specs.Known.{KeepsBay, Known}
-use Rattle.idx_convert.specs.Stages.{IsFirstCall, IsStop}
+use Rattle.idx_convert.specs.Stages.{IsFirstCall, IsStop, cause_of_gather}
+
+-- What is so of a fault that is handed on is so of the answer.
+pub handed_on : {T E : Type 0} (r : Result T E) (x : E) (P : Result T E → Type 0) → IsErrAnd r (λ y. y ≡ x) → P (Err x) → P r
+handed_on (Ok done) x P gives holds = absurd gives
+handed_on (Err y) x P gives holds = subst (λ e. P (Err e)) (sym gives) holds
 
 -- A fault that comes late is none that can be known before the first change.
 pub late_only : {T : Type 0} (P : Type 0) (result : Result T ConvertFault) (raw later : Option (List ℕ)) → later ≡ raw →
@@ -167,5 +175,119 @@ module _ (text : List ℕ) (step : ℕ) (k : Known) where
           raw_answered = λ more. ap Err (raw_more more);
           raw_quiet = tt;
           store_answered = λ more. ap Err (bay_more more);
+          count = count;
+        }
+
+  -- A refusal of the gathering, behind the header's text and the beginning of the step.
+  module _ (h written : HeaderValue) (asked : AsksFor text step h) (taken : Takes h step k.header k.files) (size : HasVolume h k.raw)
+      (revised : IsRevisionOf h written) (next : IsNext h step k.files written) (put : HasPut text k) (begun : BeginsAt written step k) where
+    added_converted : SomeStepAdded written step k.raw k.files k.files_after → Converted text step k
+    added_converted added = record {
+      header = h;
+      written = written;
+      asked = asked;
+      taken = taken;
+      size = size;
+      revised = revised;
+      next = next;
+      added = added;
+      put = put;
+      begun = begun;
+    }
+
+    same_volume : volume_bytes written ≡ volume_bytes h
+    same_volume = ap volume_bytes revised.same
+
+    -- a raw volume of another length than it was found to have is not known
+    unknown : (raw : Option (List ℕ)) (want found : ℕ) → HasVolume h raw → want ≡ volume_bytes written → found ≢ want → IfSome raw (λ bytes. found ≡ length bytes) → raw ≡ None
+    unknown None want found fits wanted other is = refl
+    unknown (Some bytes) want found fits wanted other is = absurd (other (is ∙ fits ∙ sym same_volume ∙ sym wanted))
+
+    early_known : (raw : Option (List ℕ)) (P : Type 0) → raw ≡ None → IsSome raw → P
+    early_known None P none some = absurd (cc)
+    early_known (Some bytes) P none some = absurd (cc)
+
+    asked_known : (raw : Option (List ℕ)) (P : Type 0) → raw ≡ None → IfSome raw (λ _. P)
+    asked_known None P none = tt
+    asked_known (Some bytes) P none = absurd (cc)
+
+    begins : Asks text step (λ g. IsRight g step k × Begins g step k)
+    begins = (h, (asked, ((taken, size), (written, (revised, next, begun)))))
+
+    gathered_cause : (fault : GatherFault) → IsCaused written k.raw k.raw_before k.raw_after k.bay_before k.bay_after fault → IsCause text step k (cause_of_gather fault)
+    gathered_cause (gathers.RawWrongSize want found) c = (h, (asked, (taken, c.0 ∙ same_volume, c.1, c.2)))
+    gathered_cause (gathers.RawFault rank count) c = (h, (asked, (taken, (rank, (c.0.within, c.0.rose)))))
+    gathered_cause (gathers.StoreFault count) c = (h, (asked, c.2))
+    gathered_cause gathers.NoMemory c = tt
+
+    gathered_header : (fault : GatherFault) → IsCaused written k.raw k.raw_before k.raw_after k.bay_before k.bay_after fault → LeavesHeader text k (cause_of_gather fault)
+    gathered_header (gathers.RawWrongSize want found) c = inr (unknown k.raw want found size c.0 c.1 c.2, put)
+    gathered_header (gathers.RawFault rank count) c = inr put
+    gathered_header (gathers.StoreFault count) c = inr put
+    gathered_header gathers.NoMemory c = inr put
+
+    added_or_not : (k.files_after ≡ k.files) ⊎ SomeStepAdded written step k.raw k.files k.files_after → (k.files_after ≡ k.files) ⊎ Converted text step k
+    added_or_not (inl same) = inl same
+    added_or_not (inr added) = inr (added_converted added)
+
+    gathered_files : (fault : GatherFault) → Leaves written step k.raw k.files k.files_after fault → LeavesFiles text step k (cause_of_gather fault)
+    gathered_files (gathers.RawWrongSize want found) same = same
+    gathered_files (gathers.RawFault rank count) same = same
+    gathered_files (gathers.StoreFault count) left = added_or_not left
+    gathered_files gathers.NoMemory same = same
+
+    gathered_early : (fault : GatherFault) → IsCaused written k.raw k.raw_before k.raw_after k.bay_before k.bay_after fault → IsEarly k.raw (cause_of_gather fault) → KeepsBay k
+    gathered_early (gathers.RawWrongSize want found) c early = early_known k.raw (KeepsBay k) (unknown k.raw want found size c.0 c.1 c.2) early
+    gathered_early (gathers.RawFault rank count) c early = absurd early
+    gathered_early (gathers.StoreFault count) c early = absurd early
+    gathered_early gathers.NoMemory c early = absurd early
+
+    gathered_asked : (fault : GatherFault) → IsCaused written k.raw k.raw_before k.raw_after k.bay_before k.bay_after fault → LeavesAsked k (cause_of_gather fault)
+    gathered_asked (gathers.RawWrongSize want found) c = asked_known k.raw (k.asked_after ≡ k.asked_before) (unknown k.raw want found size c.0 c.1 c.2)
+    gathered_asked (gathers.RawFault rank count) c = tt
+    gathered_asked (gathers.StoreFault count) c = tt
+    gathered_asked gathers.NoMemory c = tt
+
+    failed_call : (left : (k.files_after ≡ k.files) ⊎ SomeStepAdded written step k.raw k.files k.files_after) (call : Option BayCall) → IsFailedGather k.files k.files_after call → IsFailedCall text step k call
+    failed_call left (Some calls.Create) same = (same, put, begins)
+    failed_call left (Some calls.Retire) same = (same, put, begins)
+    failed_call left (Some calls.Commit) done = (added_or_not left, put, begins)
+    failed_call left call wrong = absurd wrong
+
+    gathered_failed : {T : Type 0} (r : Result T GatherFault) (fault : GatherFault) → r ≡ Err fault → Leaves written step k.raw k.files k.files_after fault →
+        LeavesFailedGather k.files k.files_after k.failed k.failed_after r → LeavesFailed {T = Unit {0}} text step k (Err (cause_of_gather fault))
+    gathered_failed r (gathers.RawWrongSize want found) is left failed = subst (LeavesFailedGather k.files k.files_after k.failed k.failed_after) is failed
+    gathered_failed r (gathers.RawFault rank count) is left failed = subst (LeavesFailedGather k.files k.files_after k.failed k.failed_after) is failed
+    gathered_failed r (gathers.StoreFault count) is left failed = failed_call left k.failed_after (subst (LeavesFailedGather k.files k.files_after k.failed k.failed_after) is failed)
+    gathered_failed r gathers.NoMemory is left failed = subst (LeavesFailedGather k.files k.files_after k.failed k.failed_after) is failed
+
+    raw_told : (fault : GatherFault) → IsCaused written k.raw k.raw_before k.raw_after k.bay_before k.bay_after fault → SomeHigher k.raw_before k.raw_after → cause_of_gather fault ≡ faults.RawFault
+    raw_told (gathers.RawWrongSize want found) c more = absurd (none_higher k.raw_before k.raw_after c.3 more)
+    raw_told (gathers.RawFault rank count) c more = refl
+    raw_told (gathers.StoreFault count) c more = absurd (none_higher k.raw_before k.raw_after c.3 more)
+    raw_told gathers.NoMemory c more = absurd (none_higher k.raw_before k.raw_after c.1 more)
+
+    store_told : (fault : GatherFault) → IsCaused written k.raw k.raw_before k.raw_after k.bay_before k.bay_after fault → k.bay_before < k.bay_after → cause_of_gather fault ≡ faults.StoreFault
+    store_told (gathers.RawWrongSize want found) c more = absurd (omega (arith, c.4, more))
+    store_told (gathers.RawFault rank count) c more = absurd (omega (arith, c.1, more))
+    store_told (gathers.StoreFault count) c more = refl
+    store_told gathers.NoMemory c more = absurd (omega (arith, c.2, more))
+
+    pub gathered_ends : {T : Type 0} (r : Result T GatherFault) (fault : GatherFault) → r ≡ Err fault → IsCaused written k.raw k.raw_before k.raw_after k.bay_before k.bay_after fault → Leaves written step k.raw k.files k.files_after fault →
+        LeavesFailedGather k.files k.files_after k.failed k.failed_after r → k.bay_before ≤ k.bay_after → Ends {T = Unit {0}} text step k (Err (cause_of_gather fault))
+    gathered_ends r fault is caused left failed count =
+        record {
+          converted = tt;
+          cause = gathered_cause fault caused;
+          header = gathered_header fault caused;
+          files = gathered_files fault left;
+          early = gathered_early fault caused;
+          asked = gathered_asked fault caused;
+          unasked = asks_none h asked size;
+          begun = inr (h, (asked, (written, (revised, next, begun))));
+          failed = gathered_failed r fault is left failed;
+          raw_answered = λ more. ap Err (raw_told fault caused more);
+          raw_quiet = tt;
+          store_answered = λ more. ap Err (store_told fault caused more);
           count = count;
         }

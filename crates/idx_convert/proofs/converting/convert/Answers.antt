@@ -1,7 +1,8 @@
-use Rattle.std.proofs.Common.{List, None, ap, map, refl, rules, slice_index_or, subst, ℕ}
+use Rattle.std.proofs.Common.{List, None, ap, map, refl, slice_index_or, subst, ℕ}
 use Rattle.idx_gather.specs.Gather.{NoneFalls}
+use Rattle.idx_convert.specs.Convert.{Ends}
 use Rattle.idx_convert.specs.Known.{known_of}
-use Rattle.idx_convert.proofs.StageLemmas.{asked_ends, late_only, stop_ends}
+use Rattle.idx_convert.proofs.StageLemmas.{asked_ends, handed_on, late_only, stop_ends}
 use Rattle.idx_convert.proofs.converting.convert.Goals as goal
 
 pub returns-in_err-header-clause-ends : goal.returns-in_err-header-clause-ends
@@ -12,7 +13,7 @@ returns-in_err-header-clause-ends g c =
     let known = known_of raw.contents raw.asked raw.faults raws raws bay.header bay.files bay.begun bay.changes bay.failed bay.faults c.args.bay.now c.args.bay.now in
     let ends = asked_ends c.args.text.now c.args.step known c.in_err-header.field-0.0 (c.in_err-header.ensures.cause known) (λ e. c.in_err-header.ensures.only (cc))
     (record { header = refl; files = refl; begun = refl; changes = refl }) refl refl refl refl in
-    search rules
+    handed_on c.from_residual.result c.in_err-header.field-0.0 (λ r. Ends c.args.text.now c.args.step known r) c.from_residual.ensures.1 ends
 
 pub returns-clause-admits : goal.returns-clause-admits
 returns-clause-admits g c =
@@ -30,7 +31,7 @@ returns-in_err-place-clause-ends g c =
     (λ other. looks.unfailed (λ e. other (cc)))
     (λ more. let e = c.in_err-place.ensures.raw_answered more in cc)
     (λ more. let e = looks.answered more in cc) looks.count in
-    search rules
+    handed_on c.from_residual-in_err-place.result c.in_err-place.field-0.0 (λ r. Ends c.args.text.now c.args.step known r) c.from_residual-in_err-place.ensures.1 ends
 
 pub returns-clause-raw_count : goal.returns-clause-raw_count
 returns-clause-raw_count g c =
