@@ -5,13 +5,13 @@ use Rattle.std.proofs.lemmas.List.Sums.{sum_by_more, sum_by-take-le}
 use Rattle.std.proofs.Math.Nat.{mul_comm, mul-le-mul_left}
 use Rattle.idx_geom.specs.Region.{points}
 use Rattle.idx_fields.specs.Field.{sample_bytes}
-use Rattle.idx_header.specs.Header.{HeaderValue, sample_bytes_of}
+use Rattle.idx_header.specs.Header.{HeaderValue, sample_bytes_of, volume_bytes}
 use Rattle.idx_pieces.specs.Parcels.{parcel_heading}
 use Rattle.idx_pieces.specs.RawReads.{AsksAtMost}
 use Rattle.idx_pieces.specs.Reading.{HoldsUpTo, IsDone, IsReady, bytes_before, field_start, heading}
 use Rattle.idx_pieces.specs.declared.filling.Filling.{Filling}
 use Rattle.idx_pieces.specs.declared.parcel.Parcel.{Parcel}
-use Rattle.idx_pieces.proofs.FieldLemmas.{asks-more, size-at}
+use Rattle.idx_pieces.proofs.FieldLemmas.{asks-more, place-fits, size-at}
 use Rattle.idx_pieces.proofs.WholeLemmas.{HoldsUpTo-next}
 
 abbrev pub parcel_of : Filling → Parcel
@@ -37,6 +37,11 @@ start-more h field start count size lt begins all is =
     let times : n * bytes_before h (field + 1) ≡ n * (bytes_before h field + sample_bytes_of h field) = ap (λ t. n * t) (bytes-more h field lt) in
     let row : count * size ≡ n * sample_bytes_of h field = λ i. all i * is i in
     omega (arith, times, row, begins)
+
+-- the samples of a field lie in the volume
+pub field-fits : (h : HeaderValue) (field start count size : ℕ) → field < length h.fields → start ≡ field_start h field → count ≡ length (points h.box) →
+    size ≡ sample_bytes_of h field → start + count * size ≤ volume_bytes h
+field-fits h field start count size lt begins all is = place-fits h field count start size lt begins is (omega (arith, all))
 
 -- all parcels, one field more
 pub all-next : (h : HeaderValue) (told : Option (List ℕ)) (field : ℕ) (xs ys : List Filling) → field < length h.fields → All (IsReady h.box 0) xs → All IsDone xs →

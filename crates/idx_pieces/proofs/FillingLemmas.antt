@@ -3,6 +3,7 @@ use Rattle.std.proofs.Common.{◌≡◌, ℕ, zero, suc, ◌+◌, ◌-◌, ◌*�
 use Rattle.std.specs.List.{flat_map, range_with_len}
 use Rattle.std.proofs.lemmas.List.{drop-drop, drop-take}
 use Rattle.std.proofs.lemmas.List.Concat.{flat_map-append}
+use Rattle.std.proofs.Math.Nat.{mul-le-mul_right}
 use Rattle.std.proofs.Math.Seq.{take-add}
 use Rattle.idx_geom.specs.Region.{points}
 use Rattle.idx_pieces.specs.Cursor.{place_at, StandsAt, IsCursor}
@@ -108,3 +109,8 @@ Appends-row size from window box region old mid new first n c h cursor some low 
           ∙ ap (λ t. old ++ t) (sym (samples-append size base raw box region first (k - first) n))
           ∙ ap (λ t. old ++ samples_from size base raw box region first t) (sym grown);
     }
+
+-- a run of samples that ends before the window does lies in it
+pub run-fits : (place from to count size room : ℕ) → from ≤ place → place + count ≤ to → room ≡ (to - from) * size → (place - from + count) * size ≤ room
+run-fits place from to count size room low high is =
+    let fits : place - from + count ≤ to - from = omega (arith, low, high) in omega (arith, mul-le-mul_right size fits, is)

@@ -1,4 +1,4 @@
-use Rattle.std.proofs.Common.{ℕ, ◌+◌, ◌-◌, ◌*◌, ◌<◌, List, length, map, sum, Option, All, refl, sym, ap, ◌∙◌, subst, arith}
+use Rattle.std.proofs.Common.{◌≡◌, ℕ, ◌+◌, ◌-◌, ◌*◌, ◌<◌, List, length, map, sum, Option, All, refl, sym, ap, ◌∙◌, subst, arith}
 use Rattle.idx_fields.specs.Field.{sample_bytes}
 use Rattle.idx_geom.specs.Region.{points}
 use Rattle.idx_header.specs.Header.{HeaderValue}
@@ -6,7 +6,7 @@ use Rattle.idx_pieces.specs.RawReads.{AsksAtMost}
 use Rattle.idx_pieces.specs.Reading.{HoldsUpTo, IsReady, bytes_before}
 use Rattle.idx_pieces.specs.declared.filling.Filling.{Filling}
 use Rattle.idx_pieces.proofs.FieldLemmas.{EndsBelow-same, BeginsFrom-same, all-from, asks-none, asks-weaker}
-use Rattle.idx_pieces.proofs.FieldsLemmas.{same-headings, start-more, all-next, asks-field, bytes-le}
+use Rattle.idx_pieces.proofs.FieldsLemmas.{field-fits, same-headings, start-more, all-next, asks-field, bytes-le}
 use Rattle.idx_pieces.proofs.rank_parcels.read_fields.Goals as goal
 
 pub fields-init : goal.fields-init
@@ -75,3 +75,27 @@ pub returns-clause-asked : goal.returns-clause-asked
 returns-clause-asked g c = λ low all le.
     asks-weaker (g.V.Source.asked c.args.raw.now) (g.V.Source.asked c.fields.raw) ((c.args.end - low) * bytes_before c.args.header.now c.fields.field) ((c.args.end - low) * sum (map sample_bytes c.args.header.now.fields))
     (bytes-le c.args.header.now c.fields.field (c.args.end - low)) (c.fields.invariant.asked low all le)
+
+pub overflow_mul-start : goal.overflow_mul-start
+overflow_mul-start g c =
+    let lt : c.fields.field < length c.args.header.now.fields = omega (arith, c.fields-test.true, c.fields.auto.field-end, c.field_count-field-end.ensures.count) in
+    let fits = field-fits c.args.header.now c.fields.field c.fields.start c.count-points.result c.sample_bytes.result lt c.fields.invariant.start
+    (c.count-points.ensures.count ∙ ap (λ (b : List (ℕ × ℕ)). length (points b)) c.region-extent.ensures.value) c.sample_bytes.ensures.value in
+    omega (arith, fits, c.requires.small)
+
+pub overflow_add-start : goal.overflow_add-start
+overflow_add-start g c =
+    let lt : c.fields.field < length c.args.header.now.fields = omega (arith, c.fields-test.true, c.fields.auto.field-end, c.field_count-field-end.ensures.count) in
+    let fits = field-fits c.args.header.now c.fields.field c.fields.start c.count-points.result c.sample_bytes.result lt c.fields.invariant.start
+    (c.count-points.ensures.count ∙ ap (λ (b : List (ℕ × ℕ)). length (points b)) c.region-extent.ensures.value) c.sample_bytes.ensures.value in
+    omega (arith, fits, c.requires.small)
+
+pub rewind_all-requires : goal.rewind_all-requires
+rewind_all-requires g c = record {
+  ready = subst (λ (b : List (ℕ × ℕ)). All (IsReady b 0) c.read_field.new.parts.items) (sym c.region-extent.ensures.value) c.in_ok-read_field.ensures.ready;
+}
+
+pub returns-clause-held : goal.returns-clause-held
+returns-clause-held g c =
+    let all : c.fields.field ≡ length c.args.header.now.fields = omega (arith, c.fields-test.false, c.fields.auto.field-end, c.field_count-field-end.ensures.count) in
+    subst (λ n. All (HoldsUpTo c.args.header.now (g.V.Source.contents c.args.raw.now) n) c.fields.parts.items) all c.fields.invariant.held
