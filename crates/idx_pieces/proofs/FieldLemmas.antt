@@ -4,7 +4,7 @@ use Rattle.std.proofs.lemmas.Bool.{cases_lt}
 use Rattle.std.proofs.lemmas.List.{get_or-map, length-map}
 use Rattle.std.proofs.lemmas.List.Sums.{sum_by_more_le}
 use Rattle.std.proofs.lemmas.Nat.{div-add-mod'}
-use Rattle.std.proofs.Math.Nat.{mul_comm, mul-le-mul_left, mul-le-mul_right, mod-lt, mod-add-mod}
+use Rattle.std.proofs.Math.Nat.{div-mul-le_self, mul_comm, mul-le-mul_left, mul-le-mul_right, mod-lt, mod-add-mod}
 use Rattle.idx_geom.specs.Region.{LiesIn, extent, lower_ends, place_of, point_of, points, upper_ends}
 use Rattle.idx_geom.proofs.PointsLemmas.{length-points, LiesIn-point_of}
 use Rattle.idx_fields.specs.Field.{sample_bytes}
@@ -34,6 +34,12 @@ place-fits h field at start size lt begins is within =
     let room : at * size ≤ n * size = mul-le-mul_right size within in
     let same : n * size ≡ n * get_or sizes field 0 = ap (λ s. n * s) (is ∙ sym (size-at h field lt)) in
     omega (arith, whole, room, same, begins)
+
+-- samples of which no more are read than a window has room for lie in it
+pub window-fits : (at m size len room : ℕ) → m ≤ len / size → room ≡ len → (at + m - at) * size ≤ room
+window-fits at m size len room most same =
+    let rest : at + m - at ≡ m = omega arith in
+    omega (arith, ap (λ t. t * size) rest, mul-le-mul_right size most, div-mul-le_self len size, same)
 
 -- a window moves on
 pub moves : (w s at end : ℕ) → 1 ≤ s → s ≤ w → at < end → at < at + min (w / s) (end - at)

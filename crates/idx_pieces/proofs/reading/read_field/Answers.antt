@@ -1,10 +1,10 @@
 use Rattle.std.proofs.Common.{◌≡◌, ℕ, ◌+◌, ◌-◌, ◌*◌, ◌/◌, ◌<◌, ◌≤◌, min, List, length, take, Option, All, sym, ap, ◌∙◌, arith}
-use Rattle.std.proofs.Math.Nat.{div-mul-le_self, mul-le-mul_left, mul-le-mul_right}
+use Rattle.std.proofs.Math.Nat.{mul-le-mul_left}
 use Rattle.std.proofs.lemmas.List.{length-take-le}
 use Rattle.idx_header.specs.Header.{HeaderValue, sample_bytes_of, volume_bytes}
 use Rattle.idx_pieces.specs.Reading.{IsReady, IsWindowOf}
 use Rattle.idx_pieces.specs.declared.filling.Filling.{Filling}
-use Rattle.idx_pieces.proofs.FieldLemmas.{on_ok, place-fits, moves, EndsBelow-same, all-done, IsWindowOf-read, take-short, asks-weaker, asks-window}
+use Rattle.idx_pieces.proofs.FieldLemmas.{on_ok, place-fits, moves, EndsBelow-same, all-done, IsWindowOf-read, take-short, asks-weaker, asks-window, window-fits}
 use Rattle.idx_pieces.proofs.reading.read_field.Goals as goal
 
 pub overflow_mul-at : goal.overflow_mul-at
@@ -104,15 +104,20 @@ returns-clause-asked g c = λ low all le.
     asks-weaker (g.V.Source.asked c.args.raw.now) (g.V.Source.asked c.windows.raw) (sb * (c.windows.at - low)) (sb * (c.args.end - low))
     (mul-le-mul_left sb (let less : c.windows.at - low ≤ c.args.end - low = omega (arith, c.windows.invariant.within) in less)) before.1
 
+pub slice_bounds-bytes-end-in-windows : goal.slice_bounds-bytes-end-in-windows
+slice_bounds-bytes-end-in-windows g c =
+    let at : ℕ = c.windows.at in
+    let m : ℕ = c.min.result in
+    let size : ℕ = c.sample_bytes-size.result in
+    sym (length-take-le ((at + m - at) * size) c.windows.window
+    (window-fits at m size (length c.args.window.now) (length c.windows.window) (omega (arith, c.min.ensures)) c.windows.auto.window))
+
 pub append_all-requires-clause-window : goal.append_all-requires-clause-window
 append_all-requires-clause-window g c =
     let at : ℕ = c.windows.at in
     let m : ℕ = c.min.result in
     let size : ℕ = c.sample_bytes-size.result in
-    let most : m ≤ length c.args.window.now / size = omega (arith, c.min.ensures) in
-    let rest : at + m - at ≡ m = omega arith in
-    let room : (at + m - at) * size ≤ length c.windows.window =
-    omega (arith, ap (λ t. t * size) rest, mul-le-mul_right size most, div-mul-le_self (length c.args.window.now) size, c.windows.auto.window) in
+    let room = window-fits at m size (length c.args.window.now) (length c.windows.window) (omega (arith, c.min.ensures)) c.windows.auto.window in
     c.read_window.auto.window ∙ length-take-le ((at + m - at) * size) c.windows.window room ∙ ap (λ s. (at + m - at) * s) c.sample_bytes-size.ensures.value
 
 pub returns-clause-ready : goal.returns-clause-ready
