@@ -4,7 +4,7 @@ use Rattle.idx_outside.specs.Shape.{Shape}
 use Rattle.idx_hall.specs.declared.key.Key.{Key}
 use Rattle.idx_hall.specs.Posts.{IsNewestOf, IsPostOf, Lacks, Post}
 use Rattle.idx_hall.specs.Hall.{HallValue}
-use Rattle.idx_turn.proofs.BeginsLemmas.{begins_more}
+use Rattle.idx_turn.proofs.BeginsLemmas.{begins_more, begins_whole}
 use Rattle.idx_plan.specs.Plan.{PlanValue}
 use Rattle.idx_query.specs.Fault.{IsCaused}
 use Rattle.idx_query.specs.Steps.{DidRound, FirstLeft, HasLooked, IsPartOf, IsSeen, MadeRound}
@@ -124,3 +124,52 @@ returns-clause-unread g c = λ unread.
 pub returns-clause-few_reads : goal.returns-clause-few_reads
 returns-clause-few_reads g c =
     reads_of_part c.args.plan.now c.new-part.result 0 c.args.many (g.R.Reader.reads c.args.reader.now) (g.R.Reader.reads c.make_round.new.reader) c.new-part.ensures c.in-Err.ensures.few_reads
+
+pub returns-in-Ok-clause-shape : goal.returns-in-Ok-clause-shape
+returns-in-Ok-clause-shape g c = c.in-Ok.ensures.shape ∙ c.in_ok-seen.ensures.shape
+
+pub returns-in-Ok-clause-may_add : goal.returns-in-Ok-clause-may_add
+returns-in-Ok-clause-may_add g c = c.in-Ok.ensures.may_add ∙ c.in_ok-seen.ensures.may_add
+
+pub returns-in-Ok-clause-lock : goal.returns-in-Ok-clause-lock
+returns-in-Ok-clause-lock g c = c.in-Ok.ensures.lock ∙ c.in_ok-seen.ensures.lock
+
+pub returns-in-Ok-clause-count : goal.returns-in-Ok-clause-count
+returns-in-Ok-clause-count g c = c.in-Ok.ensures.count
+
+pub returns-in-Ok-clause-given : goal.returns-in-Ok-clause-given
+returns-in-Ok-clause-given g c = c.in-Ok.ensures.given
+
+pub returns-in-Ok-clause-room : goal.returns-in-Ok-clause-room
+returns-in-Ok-clause-room g c = c.in-Ok.ensures.room
+
+pub returns-in-Ok-clause-quiet : goal.returns-in-Ok-clause-quiet
+returns-in-Ok-clause-quiet g c = c.in-Ok.ensures.quiet
+
+pub returns-clause-shape : goal.returns-clause-shape
+returns-clause-shape g c = c.in-Err.ensures.shape ∙ c.in_ok-seen.ensures.shape
+
+pub returns-clause-may_add : goal.returns-clause-may_add
+returns-clause-may_add g c = c.in-Err.ensures.may_add ∙ c.in_ok-seen.ensures.may_add
+
+pub returns-clause-lock : goal.returns-clause-lock
+returns-clause-lock g c = c.in-Err.ensures.lock ∙ c.in_ok-seen.ensures.lock
+
+pub returns-clause-count : goal.returns-clause-count
+returns-clause-count g c = c.in-Err.ensures.count
+
+pub returns-clause-given : goal.returns-clause-given
+returns-clause-given g c = c.in-Err.ensures.given
+
+pub returns-clause-same : goal.returns-clause-same
+returns-clause-same g c = λ alone.
+    c.in-Err.ensures.same (c.in_ok-seen.ensures.may_add ∙ alone) ∙ c.in_ok-seen.ensures.same alone
+
+pub make_round-requires-clause-field : goal.make_round-requires-clause-field
+make_round-requires-clause-field g c = c.requires.field
+
+pub make_round-requires-clause-plan : goal.make_round-requires-clause-plan
+make_round-requires-clause-plan g c = c.requires.plan
+
+pub returns-in_err-looked-clause-begins : goal.returns-in_err-looked-clause-begins
+returns-in_err-looked-clause-begins g c = begins_whole (g.T.Turn.seen c.args.turn.now)
