@@ -1,4 +1,4 @@
-use Rattle.std.proofs.Common.{refl}
+use Rattle.std.proofs.Common.{refl, ◌∙◌}
 use Rattle.idx_header.specs.Header.{HasTime}
 use Rattle.idx_edition.specs.Loaded.{counts}
 use Rattle.idx_edition.specs.declared.load_fault.LoadFault.{LoadFault}
@@ -24,3 +24,27 @@ returns-in_err-open_files-clause-cause g c =
     (counts bay.faults bay.failed reader.faults c.folder_stands.new.bay c.open_files.new.bay c.args.reader.now c.open_files.new.reader)
     (counts bay.faults bay.failed reader.faults c.args.bay.now c.open_files.new.bay c.args.reader.now c.open_files.new.reader)
     c.folder_stands.ensures.files same has c.if-not-branch.false c.in_ok-folder_stands.ensures.stands fault c.in_err-open_files.ensures.cause)
+
+pub returns-clause-header : goal.returns-clause-header
+returns-clause-header g c = c.open_files.ensures.header ∙ c.folder_stands.ensures.header
+
+pub returns-clause-files : goal.returns-clause-files
+returns-clause-files g c = c.open_files.ensures.files ∙ c.folder_stands.ensures.files
+
+pub returns-clause-begun : goal.returns-clause-begun
+returns-clause-begun g c = c.open_files.ensures.begun ∙ c.folder_stands.ensures.begun
+
+pub returns-clause-changes : goal.returns-clause-changes
+returns-clause-changes g c = c.open_files.ensures.changes ∙ c.folder_stands.ensures.changes
+
+pub returns-clause-quiet : goal.returns-clause-quiet
+returns-clause-quiet g c = c.in_ok-open_files.ensures.quiet ∙ c.in_ok-folder_stands.ensures.quiet
+
+pub returns-clause-failed : goal.returns-clause-failed
+returns-clause-failed g c = c.in_ok-open_files.ensures.failed ∙ c.in_ok-folder_stands.ensures.kept
+
+pub returns-clause-reader_quiet : goal.returns-clause-reader_quiet
+returns-clause-reader_quiet g c = c.in_ok-open_files.ensures.reader_quiet
+
+pub returns-clause-reads : goal.returns-clause-reads
+returns-clause-reads g c = c.in_ok-open_files.ensures.reads

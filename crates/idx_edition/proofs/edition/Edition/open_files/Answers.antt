@@ -220,3 +220,42 @@ returns-in_err-copy-clause-few_reads g c =
 
 pub returns-in_err-copy-clause-admits : goal.returns-in_err-copy-clause-admits
 returns-in_err-copy-clause-admits g c = c.loop-file.invariant.admits
+
+pub returns-in_err-push_found-clause-header : goal.returns-in_err-push_found-clause-header
+returns-in_err-push_found-clause-header g c = c.in_ok-found.ensures.header ∙ c.loop-file.invariant.header
+
+pub returns-in_err-push_found-clause-files : goal.returns-in_err-push_found-clause-files
+returns-in_err-push_found-clause-files g c = c.in_ok-found.ensures.files ∙ c.loop-file.invariant.files
+
+pub returns-in_err-push_found-clause-begun : goal.returns-in_err-push_found-clause-begun
+returns-in_err-push_found-clause-begun g c = c.in_ok-found.ensures.begun ∙ c.loop-file.invariant.begun
+
+pub returns-in_err-push_found-clause-changes : goal.returns-in_err-push_found-clause-changes
+returns-in_err-push_found-clause-changes g c = c.in_ok-found.ensures.changes ∙ c.loop-file.invariant.changes
+
+pub returns-in_err-push_found-clause-count : goal.returns-in_err-push_found-clause-count
+returns-in_err-push_found-clause-count g c = omega (arith, c.in_ok-found.ensures.quiet, c.loop-file.invariant.quiet)
+
+pub returns-in_err-push_found-clause-reader_count : goal.returns-in_err-push_found-clause-reader_count
+returns-in_err-push_found-clause-reader_count g c = omega (arith, c.in_ok-found.ensures.reader_quiet, c.loop-file.invariant.reader_quiet)
+
+pub returns-clause-quiet : goal.returns-clause-quiet
+returns-clause-quiet g c = c.loop-file.invariant.quiet
+
+pub returns-clause-reader_quiet : goal.returns-clause-reader_quiet
+returns-clause-reader_quiet g c = c.loop-file.invariant.reader_quiet
+
+pub returns-clause-reads : goal.returns-clause-reads
+returns-clause-reads g c = c.loop-file.invariant.reads
+
+pub returns-clause-changes : goal.returns-clause-changes
+returns-clause-changes g c = c.loop-file.invariant.changes
+
+pub returns-clause-count : goal.returns-clause-count
+returns-clause-count g c = omega (arith, c.loop-file.invariant.quiet)
+
+pub returns-clause-reader_count : goal.returns-clause-reader_count
+returns-clause-reader_count g c = omega (arith, c.loop-file.invariant.reader_quiet)
+
+pub returns-clause-own_header : goal.returns-clause-own_header
+returns-clause-own_header g c = ap (λ (t : TablesValue). t.header) c.of_files.ensures.tables ∙ c.in_ok-copy.ensures
