@@ -12,6 +12,10 @@ gather-gathered-requires-clause-alike g c κs within =
     let some : 0 < length c.keep_first.new.from.items = grind (arith, common_steps) in
     first_alike g.V.Source.contents c.args.raws.now.items c.keep_first.new.from.items c.keep_first.new.rest.items c.keep_first.ensures.split some c.requires.alike
 
+pub put_back-requires : goal.put_back-requires
+put_back-requires g c =
+    omega (arith, as_many g.V.Source.contents c.keep_first.new.from.items c.gather-gathered.new.raws.items c.gather-gathered.ensures.same, c.keep_first.ensures.first, c.keep_first.ensures.room)
+
 -- the raw volumes that were gathered from are the first, and the rest are behind them again
 parted : (g : _) (c : After-put_back g) → Parted c.args.raws.now.items c.put_back.new.into.items c.keep_first.new.from.items c.gather-gathered.new.raws.items c.keep_first.new.rest.items
 parted g c = record {
