@@ -48,3 +48,11 @@ returns-clause-reader_quiet g c = c.in_ok-open_files.ensures.reader_quiet
 
 pub returns-clause-reads : goal.returns-clause-reads
 returns-clause-reads g c = c.in_ok-open_files.ensures.reads
+
+pub returns-clause-lacks : goal.returns-clause-lacks
+returns-clause-lacks g c = λ lacks.
+    absurd (lacks (c.has_time.ensures.0 c.if-not-has_time.false))
+
+pub returns-then-not-branch-clause-lacks : goal.returns-then-not-branch-clause-lacks
+returns-then-not-branch-clause-lacks g c = λ lacks.
+    absurd (lacks (c.has_time.ensures.0 c.if-not-has_time.false))

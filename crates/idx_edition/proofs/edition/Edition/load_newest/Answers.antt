@@ -57,3 +57,11 @@ returns-in-Some-clause-quiet g c = on_ok_weaker c.load.result (λ same. same ∙
 
 pub returns-in-Some-clause-failed : goal.returns-in-Some-clause-failed
 returns-in-Some-clause-failed g c = on_ok_weaker c.load.result (λ same. same ∙ c.in_ok-revised.ensures.kept) c.load.ensures.failed
+
+pub returns-in-Some-clause-lacks : goal.returns-in-Some-clause-lacks
+returns-in-Some-clause-lacks g c = λ lacks.
+    absurd (lacks (c.has_time.ensures.0 c.if-not-has_time.false))
+
+pub returns-in-None-clause-lacks : goal.returns-in-None-clause-lacks
+returns-in-None-clause-lacks g c = λ lacks.
+    absurd (lacks (c.has_time.ensures.0 c.if-not-has_time.false))
