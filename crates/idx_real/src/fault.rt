@@ -43,6 +43,13 @@ pub enum Reason {
     TooSlow,
 }
 
+impl Reason {
+    /// The system's answer where there is no memory.
+    pub(crate) fn no_memory() -> Reason {
+        Reason::System(io::Error::from(ErrorKind::OutOfMemory))
+    }
+}
+
 impl From<io::Error> for Reason {
     ghost use Rattle.idx_real.specs.Faults.{IsReasonOf};
 

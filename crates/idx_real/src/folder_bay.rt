@@ -1,4 +1,4 @@
-ghost use Rattle.std.specs.Prelude.{◌≡◌, ◌↔◌, ◌<◌, ◌+◌, ◌%◌, ◌^◌, None, Some, Ok, Err, ⊤, IsSome, string_bytes, option_map, IfSome, IfOk, OnOk, OnErr, IsErrOf, IsTrue, is_ok, length};
+ghost use Rattle.std.specs.Prelude.{◌≡◌, ◌↔◌, ◌<◌, ◌+◌, ◌%◌, ◌^◌, None, Some, Ok, Err, ⊤, IsSome, IsErr, IsOkAnd, string_bytes, option_map, IfSome, IfOk, OnOk, OnErr, IsErrOf, IsTrue, is_ok, length};
 ghost use Rattle.std.specs.Option.{unwrap_or};
 ghost use Rattle.idx_outside.specs.Calls.{counts_none, last_failed};
 ghost use Rattle.idx_outside.specs.Cause.{counted, NeverFalls, Rose, OnlyWhereRose};
@@ -9,6 +9,7 @@ ghost use Rattle.idx_real.specs.Front.{AppendsFront};
 use crate::fault_log::FaultLog;
 use crate::header_file::put_new;
 use crate::lock::stands_at;
+use crate::refusal::Refusal;
 use crate::regular_file::{front, open_if_there};
 use crate::step_folder::{
     PART, are_of_their_paths, beside, create_file, empty, folder_above, folder_of, hold_empty,
@@ -18,7 +19,6 @@ use crate::{Fault, FileDraft, FileLeaf, Lockable, Reason};
 use idx_outside::{Bay, BayCall, BayFault, Bytes, NoMemory, Outage};
 use std::alloc::Global;
 use std::fs;
-use std::io::{self, ErrorKind};
 use std::marker::Model;
 use std::rt::Files;
 
@@ -122,16 +122,22 @@ impl<R: Files + Drop> FolderBay<R> {
         self.log.fault(reason)
     }
 
-    /// The name as text. What is no text is a fault.
-    fn text<'t>(&mut self, call: BayCall, name: &'t [u8]) -> Result<&'t str, Outage>
-        ensures text { IfOk result (λ text. text.now ≡ name.now) }
+    /// Hands on what a call found. Where it was refused, that is one fault.
+    fn answer<T>(&mut self, call: BayCall, found: Result<T, Refusal>) -> Result<T, Outage>
+        ensures value { IfOk found (λ value. result ≡ Ok value) }
+        ensures refused { OnErr found (IsErr result) }
         ensures ok { OnOk result (self.new ≡ self.old) }
-        ensures err { OnErr result (self.new ≡ failed_at call None Reason.NotText self.old) }
+        ensures path { self.new.path ≡ self.old.path }
+        ensures begun { self.new.begun ≡ self.old.begun }
+        ensures changes { self.new.changes ≡ self.old.changes }
+        ensures call { self.new.call ≡ last_failed call (is_ok result) self.old.call }
+        ensures err { OnErr result (self.new.faults.count ≡ counted self.old.faults.count) }
+        ensures count { NeverFalls self.old.faults.count self.new.faults.count }
         ensures cause { OnErr result (Rose self.old.faults.count self.new.faults.count) }
     {
-        match str::from_utf8(name) {
-            Ok(text) => Ok(text),
-            Err(_) => Err(self.fault(call, None, Reason::NotText)),
+        match found {
+            Ok(value) => Ok(value),
+            Err(Refusal { place, reason }) => Err(self.fault(call, place, reason)),
         }
     }
 
@@ -173,44 +179,15 @@ impl<R: Files + Drop> FolderBay<R> {
         }))
     }
 
-    /// The same, for a call that cannot answer want of memory.
-    fn place_or_fault(&mut self, call: BayCall, name: &str, end: &str) -> Result<String, Outage>
-        ensures ok { OnOk result (self.new ≡ self.old) }
-        ensures path { self.new.path ≡ self.old.path }
-        ensures begun { self.new.begun ≡ self.old.begun }
-        ensures changes { self.new.changes ≡ self.old.changes }
-        ensures call { OnErr result (self.new.call ≡ Some call) }
-        ensures err { OnErr result (self.new.faults.count ≡ counted self.old.faults.count) }
-        ensures cause { OnErr result (Rose self.old.faults.count self.new.faults.count) }
-    {
-        match self.place(name, end) {
-            Ok(place) => Ok(place),
-            Err(_) => {
-                let reason = Reason::System(io::Error::from(ErrorKind::OutOfMemory));
-                Err(self.fault(call, None, reason))
-            }
-        }
-    }
-}
-
-impl<R: Files + Drop> FolderBay<R> {
     /// Makes the folders above a path.
-    fn make_above(&mut self, call: BayCall, path: &str) -> Result<(), Outage>
-        ensures ok { OnOk result (self.new ≡ self.old) }
-        ensures path { self.new.path ≡ self.old.path }
-        ensures begun { self.new.begun ≡ self.old.begun }
-        ensures changes { self.new.changes ≡ self.old.changes }
-        ensures call { OnErr result (self.new.call ≡ Some call) }
-        ensures err { OnErr result (self.new.faults.count ≡ counted self.old.faults.count) }
-        ensures cause { OnErr result (Rose self.old.faults.count self.new.faults.count) }
-    {
+    fn make_above(&self, path: &str) -> Result<(), Refusal> {
         let folder = folder_above(path);
         match make_folders(&self.rt, folder) {
             Ok(()) => Ok(()),
-            Err(reason) => {
-                let place = String::from_str(self.alloc(), folder).ok();
-                Err(self.fault(call, place, reason))
-            }
+            Err(reason) => Err(Refusal {
+                place: String::from_str(self.alloc(), folder).ok(),
+                reason,
+            }),
         }
     }
 }
@@ -243,6 +220,13 @@ impl<R: Files + Drop> FolderBay<R> {
         }
     }
 
+    /// Lets the folder go that is locked.
+    fn let_go(&mut self)
+        ensures { self.new ≡ self.old }
+    {
+        self.held = None;
+    }
+
     /// Gives the staged folder of the step that was begun its own name.
     fn rename_step(
         &self,
@@ -262,6 +246,81 @@ impl<R: Files + Drop> FolderBay<R> {
         }
         rename_new(&self.rt, staged, place)
     }
+
+    /// The same of a step by its name.
+    fn rename_named(
+        &self,
+        folder: &[u8],
+        leaves: &Vec<(Bytes, FileLeaf)>,
+    ) -> Result<Result<(), Refusal>, NoMemory>
+        ensures begun { IfOk result (λ renamed. OnOk renamed (self.now.begun ≡ Some folder.now)) }
+        ensures paths { IfOk result (λ renamed. OnOk renamed (IsTrue (are_of_their_paths leaves.now.items))) }
+    {
+        let folder = match text_of(folder) {
+            Ok(folder) => folder,
+            Err(reason) => return Ok(Err(Refusal::from(reason))),
+        };
+        let staged = self.place(folder, PART)?;
+        let place = self.place(folder, "")?;
+        match self.rename_step(folder, staged.as_str(), place.as_str(), leaves) {
+            Ok(()) => Ok(Ok(())),
+            Err(reason) => Ok(Err(Refusal::at(place, reason))),
+        }
+    }
+}
+
+impl<R: Files + Drop> FolderBay<R> {
+    /// Makes the folders above the header file, and puts its text where no header stands.
+    fn put_header(&self, text: &[u8]) -> Result<(), Refusal>
+    where
+        R::File: Lockable,
+    {
+        let path = self.path.as_str();
+        self.make_above(path)?;
+        Ok(put_new(&self.rt, self.alloc(), path, text)?)
+    }
+
+    /// Whether the folder of this name is there.
+    fn has_folder(&self, folder: &[u8]) -> Result<bool, Refusal> {
+        let place = self.place(text_of(folder)?, "")?;
+        match is_folder(&self.rt, place.as_str()) {
+            Ok(stands) => Ok(stands),
+            Err(reason) => Err(Refusal::at(place, reason)),
+        }
+    }
+
+    /// The committed file of this path; `None` where there is none.
+    fn find_leaf(&self, path: &[u8]) -> Result<Result<Option<FileLeaf>, Refusal>, NoMemory> {
+        match text_of(path) {
+            Ok(name) => Ok(leaf_at(&self.rt, self.place(name, "")?)),
+            Err(reason) => Ok(Err(Refusal::from(reason))),
+        }
+    }
+
+    /// Makes a file of the step that was begun.
+    fn make_file(&self, path: &[u8]) -> Result<Result<FileDraft<R::File>, Refusal>, NoMemory>
+        ensures new { IfOk result (λ made. IfOk made (λ draft. draft.faults ≡ no_faults)) }
+        ensures outside { ¬ (InStep self.now.begun path.now) → IsOkAnd result (λ made. IsErr made) }
+    {
+        match self.places(path)? {
+            Ok(places) => Ok(self.make_file_at(places)),
+            Err(reason) => Ok(Err(Refusal {
+                place: self.place_if_text(path),
+                reason,
+            })),
+        }
+    }
+
+    /// Makes a file at these places, and the folders above it.
+    fn make_file_at(&self, places: Places) -> Result<FileDraft<R::File>, Refusal>
+        ensures { IfOk result (λ draft. draft.faults ≡ no_faults) }
+    {
+        self.make_above(places.staged.as_str())?;
+        match create_file(&self.rt, places.staged.as_str()) {
+            Ok(file) => Ok(FileDraft::new(file, places.staged, places.path)),
+            Err(reason) => Err(Refusal::at(places.staged, reason)),
+        }
+    }
 }
 
 impl<R: Files + Drop> FolderBay<R>
@@ -275,6 +334,56 @@ where
             return Ok(None);
         }
         Ok(Some(hold_empty(&self.rt, self.alloc(), place)?))
+    }
+
+    /// The same, where the folders above the staged one may be missing.
+    fn hold_staged(&self, folder: &str, place: String) -> Result<Option<R::File>, Refusal> {
+        self.make_above(place.as_str())?;
+        match self.hold_step(folder, place.as_str()) {
+            Ok(held) => Ok(held),
+            Err(reason) => Err(Refusal::at(place, reason)),
+        }
+    }
+
+    /// The same, with the name of the folder.
+    fn stage_step(&self, folder: &str) -> Result<(String, Option<R::File>), Refusal>
+        ensures { IfOk result (λ step. string_bytes step.0 ≡ folder.now) }
+    {
+        let place = self.place(folder, PART)?;
+        match String::from_str(self.alloc(), folder) {
+            Ok(begun) => Ok((begun, self.hold_staged(folder, place)?)),
+            Err(_) => Err(Refusal::at(place, Reason::no_memory())),
+        }
+    }
+
+    /// Stages a step, which is then the one that was begun.
+    fn begin_staged(&mut self, folder: &[u8]) -> Result<(), Refusal>
+        ensures ok { OnOk result (self.new ≡ record self.old { begun = Some folder.now }) }
+        ensures err { OnErr result (self.new ≡ self.old) }
+    {
+        let (begun, held) = self.stage_step(text_of(folder)?)?;
+        self.keep(held);
+        self.begun = Some(begun);
+        Ok(())
+    }
+}
+
+/// The name as text.
+fn text_of(name: &[u8]) -> Result<&str, Reason>
+    ensures { IfOk result (λ text. text.now ≡ name.now) }
+{
+    match str::from_utf8(name) {
+        Ok(text) => Ok(text),
+        Err(_) => Err(Reason::NotText),
+    }
+}
+
+/// The committed file at this place; `None` where there is none.
+fn leaf_at<R: Files>(rt: &R, place: String) -> Result<Option<FileLeaf>, Refusal> {
+    match length_if_there(rt, place.as_str()) {
+        Ok(Some(len)) => Ok(Some(FileLeaf::new(place, len))),
+        Ok(None) => Ok(None),
+        Err(reason) => Err(Refusal::at(place, reason)),
     }
 }
 
@@ -339,18 +448,8 @@ where
         ensures cause { OnErr result (Rose self.old.faults.count self.new.faults.count) }
     {
         self.change();
-        let path = match String::from_str(self.alloc(), self.path.as_str()) {
-            Ok(path) => path,
-            Err(_) => {
-                let reason = Reason::System(io::Error::from(ErrorKind::OutOfMemory));
-                return Err(self.fault(BayCall::SetHeader, None, reason));
-            }
-        };
-        self.make_above(BayCall::SetHeader, path.as_str())?;
-        match put_new(&self.rt, self.alloc(), path.as_str(), text) {
-            Ok(()) => Ok(()),
-            Err(reason) => Err(self.fault(BayCall::SetHeader, None, reason)),
-        }
+        let put = self.put_header(text);
+        self.answer(BayCall::SetHeader, put)
     }
 
     /// True exactly where the step's folder is there and is a folder.
@@ -364,12 +463,8 @@ where
         ensures count { NeverFalls self.old.faults.count self.new.faults.count }
         ensures cause { OnErr result (Rose self.old.faults.count self.new.faults.count) }
     {
-        let folder = self.text(BayCall::HasStep, folder)?;
-        let place = self.place_or_fault(BayCall::HasStep, folder, "")?;
-        match is_folder(&self.rt, place.as_str()) {
-            Ok(stands) => Ok(stands),
-            Err(reason) => Err(self.fault(BayCall::HasStep, Some(place), reason)),
-        }
+        let stands = self.has_folder(folder);
+        self.answer(BayCall::HasStep, stands)
     }
 
     /// Makes a folder for the step's files and those above it, locks it, and drops what was in it. Where another run has
@@ -386,21 +481,8 @@ where
         ensures cause { OnErr result (Rose self.old.faults.count self.new.faults.count) }
     {
         self.change();
-        let folder = self.text(BayCall::BeginStep, folder)?;
-        let place = self.place_or_fault(BayCall::BeginStep, folder, PART)?;
-        let Ok(begun) = String::from_str(self.alloc(), folder) else {
-            let reason = Reason::System(io::Error::from(ErrorKind::OutOfMemory));
-            return Err(self.fault(BayCall::BeginStep, Some(place), reason));
-        };
-        self.make_above(BayCall::BeginStep, place.as_str())?;
-        match self.hold_step(folder, place.as_str()) {
-            Ok(held) => {
-                self.keep(held);
-                self.begun = Some(begun);
-                Ok(())
-            }
-            Err(reason) => Err(self.fault(BayCall::BeginStep, Some(place), reason)),
-        }
+        let begun = self.begin_staged(folder);
+        self.answer(BayCall::BeginStep, begun)
     }
 
     fn create(&mut self, path: &[u8]) -> Result<FileDraft<R::File>, BayFault>
@@ -417,21 +499,8 @@ where
         ensures cause { OnlyWhereRose result BayFault.Outage self.old.faults.count self.new.faults.count }
     {
         self.change();
-        let places = match self.places(path)? {
-            Ok(places) => places,
-            Err(reason) => {
-                let place = self.place_if_text(path);
-                return Err(self.fault(BayCall::Create, place, reason).into());
-            }
-        };
-        self.make_above(BayCall::Create, places.staged.as_str())?;
-        match create_file(&self.rt, places.staged.as_str()) {
-            Ok(file) => Ok(FileDraft::new(file, places.staged, places.path)),
-            Err(reason) => Err(
-                self.fault(BayCall::Create, Some(places.staged), reason)
-                    .into(),
-            ),
-        }
+        let made = self.make_file(path)?;
+        Ok(self.answer(BayCall::Create, made)?)
     }
 
     fn leaf(&mut self, path: &[u8]) -> Result<Option<FileLeaf>, BayFault>
@@ -445,13 +514,8 @@ where
         ensures count { NeverFalls self.old.faults.count self.new.faults.count }
         ensures cause { OnlyWhereRose result BayFault.Outage self.old.faults.count self.new.faults.count }
     {
-        let name = self.text(BayCall::Leaf, path)?;
-        let place = self.place(name, "")?;
-        match length_if_there(&self.rt, place.as_str()) {
-            Ok(Some(len)) => Ok(Some(FileLeaf::new(place, len))),
-            Ok(None) => Ok(None),
-            Err(reason) => Err(self.fault(BayCall::Leaf, Some(place), reason).into()),
-        }
+        let found = self.find_leaf(path)?;
+        Ok(self.answer(BayCall::Leaf, found)?)
     }
 
     /// Gives the step's folder its own name, and lets its lock go. Where something stands there already, a file was
@@ -470,16 +534,10 @@ where
         ensures cause { OnlyWhereRose result BayFault.Outage self.old.faults.count self.new.faults.count }
     {
         self.change();
-        let folder = self.text(BayCall::Commit, folder)?;
-        let staged = self.place(folder, PART)?;
-        let place = self.place(folder, "")?;
-        match self.rename_step(folder, staged.as_str(), place.as_str(), leaves) {
-            Ok(()) => {
-                self.held = None;
-                Ok(())
-            }
-            Err(reason) => Err(self.fault(BayCall::Commit, Some(place), reason).into()),
-        }
+        let renamed = self.rename_named(folder, leaves)?;
+        self.answer(BayCall::Commit, renamed)?;
+        self.let_go();
+        Ok(())
     }
 
     /// Removes the staged file. That it cannot be removed is no fault: the next `begin_step` of its folder drops it.

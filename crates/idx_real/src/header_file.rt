@@ -5,7 +5,7 @@ use crate::{Lockable, Reason};
 use std::alloc::Global;
 use std::fs;
 use std::fs::{File, OpenFile};
-use std::io::{self, ErrorKind, Write};
+use std::io::{ErrorKind, Write};
 use std::rt::Files;
 
 /// How many names beside a path are tried. Each is that of a run that is writing now, or of one that died.
@@ -35,7 +35,7 @@ where
 fn stage<R: Files>(rt: &R, alloc: Global, path: &str) -> Result<(String, R::File), Reason> {
     for number in 0..STAGED_NAMES {
         let Ok(staged) = format!(in alloc; "{path}{PART}{number}") else {
-            return Err(Reason::System(io::Error::from(ErrorKind::OutOfMemory)));
+            return Err(Reason::no_memory());
         };
         match File::create_new(rt, staged.as_str()) {
             Ok(file) => return Ok((staged, file)),

@@ -14,6 +14,7 @@ mod header_file;
 mod lock;
 mod patience;
 mod placed;
+mod refusal;
 mod regular_file;
 mod shared_listener;
 mod sockets;

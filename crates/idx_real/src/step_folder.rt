@@ -6,9 +6,9 @@ ghost use Rattle.idx_real.specs.FolderState.{InStep, are_of_their_paths};
 use crate::lock::hold;
 use crate::{FileLeaf, Lockable, Reason};
 use idx_outside::{Bytes, NoMemory};
-use std::alloc::Global;
+use std::alloc::{AllocGlobal, Global};
 use std::fs;
-use std::fs::File;
+use std::fs::{DirEntry, File};
 use std::io::ErrorKind;
 use std::rt::Files;
 
@@ -107,15 +107,24 @@ fn stands_as_folder<R: Files>(rt: &R, path: &str) -> Result<(), Reason> {
 
 /// Removes all that is in a folder.
 pub(crate) fn empty<R: Files>(rt: &R, alloc: Global, path: &str) -> Result<(), Reason> {
-    for entry in fs::read_dir(&(rt, alloc), path)? {
-        let entry = entry?;
-        if entry.file_type()?.is_dir() {
-            rt.remove_dir_all(alloc, entry.path().as_str())?;
-        } else {
-            fs::remove_file(rt, entry.path())?;
-        }
+    remove_entries(&(rt, alloc), path)
+}
+
+/// The same over files that come with memory.
+fn remove_entries<R: Files + AllocGlobal + Clone + Drop>(rt: &R, path: &str) -> Result<(), Reason> {
+    for entry in fs::read_dir(rt, path)? {
+        remove_entry(rt, entry?)?;
     }
     Ok(())
+}
+
+/// Removes an entry of a folder, and all that is in it where it is a folder itself.
+fn remove_entry<R: Files + AllocGlobal + Drop>(rt: &R, entry: DirEntry<R>) -> Result<(), Reason> {
+    if entry.file_type()?.is_dir() {
+        Ok(rt.remove_dir_all(rt.alloc(), entry.path().as_str())?)
+    } else {
+        Ok(fs::remove_file(rt, entry.path())?)
+    }
 }
 
 /// Makes an empty file where nothing stands.
