@@ -15,7 +15,7 @@ fn read_in_memory(cursor: &mut Cursor<&[u8]>, at: u64, into: &mut [u8]) -> Resul
 }
 
 /// The file at this path.
-fn source(rt: &HostRuntime, path: &str) -> Result<FileSource<HostRuntime>, Fail> {
+fn source(rt: &HostRuntime, path: &str) -> Result<FileSource<HostRuntime>, NoMemory> {
     let path = String::from_str(rt.alloc(), path)?;
     Ok(FileSource::new(rt.clone()?, path))
 }
@@ -23,7 +23,7 @@ fn source(rt: &HostRuntime, path: &str) -> Result<FileSource<HostRuntime>, Fail>
 /// A file with these bytes at this path.
 fn written(rt: &HostRuntime, path: &str, bytes: &[u8]) -> Result<FileSource<HostRuntime>, Fail> {
     fs::write(rt, path, bytes)?;
-    source(rt, path)
+    Ok(source(rt, path)?)
 }
 
 fn length(file: &mut FileSource<HostRuntime>) -> Option<u64> {
@@ -54,7 +54,7 @@ fn piece(
     file: &mut FileSource<HostRuntime>,
     at: u64,
     count: usize,
-) -> Result<Vec<u8>, Fail> {
+) -> Result<Vec<u8>, NoMemory> {
     let mut into = vec![in alloc; 0u8; count]?;
     if file.read_at(at, into.as_mut_slice()).is_err() {
         into.clear();
@@ -77,12 +77,24 @@ fn is_read(
     bytes: &[u8],
     at: usize,
     count: usize,
-) -> Result<bool, Fail> {
-    let found = piece(alloc, file, at as u64, count)?;
-    match bytes.get(at..) {
-        Some(rest) => Ok(found.len() == count && rest.starts_with(found.as_slice())),
-        None => Ok(false),
+) -> bool {
+    match (piece(alloc, file, at as u64, count), bytes.get(at..)) {
+        (Ok(found), Some(rest)) => found.len() == count && rest.starts_with(found.as_slice()),
+        _ => false,
     }
+}
+
+/// The places and lengths of two pieces of a long file.
+static PIECES: [(usize, usize); 2] = [(1_100_777, 499_223), (777, 1_100_000)];
+
+/// Whether the pieces of a long file are those of its bytes.
+fn are_read(alloc: Global, file: &mut FileSource<HostRuntime>, bytes: &[u8]) -> bool {
+    for &(at, count) in &PIECES {
+        if !is_read(alloc, file, bytes, at, count) {
+            return false;
+        }
+    }
+    true
 }
 
 #[test]
@@ -93,26 +105,36 @@ fn a_long_file_is_read_in_two_pieces_also_where_its_path_is_gone(
     let mut file = written(&rt, "long.raw", bytes.as_slice())?;
     assert!(rt; length(&mut file) == Some(1_600_000));
     fs::remove_file(&rt, "long.raw")?;
-    for (at, count) in [(1_100_777, 499_223), (777, 1_100_000)] {
-        assert!(rt; is_read(rt.alloc(), &mut file, bytes.as_slice(), at, count)?);
-    }
+    assert!(rt; are_read(rt.alloc(), &mut file, bytes.as_slice()));
     Ok(())
+}
+
+/// Places in a file of five bytes, with three bytes from there on.
+static RANGES: [(u64, Option<[u8; 3]>); 4] = [
+    (2, Some([3, 4, 5])),
+    (0, Some([1, 2, 3])),
+    (3, None),
+    (u64::MAX, None),
+];
+
+/// Whether the ranges of a file of five bytes are read, and no other.
+fn reads_ranges(file: &mut FileSource<HostRuntime>) -> bool {
+    for &(at, want) in &RANGES {
+        if three_bytes(file, at) != want {
+            return false;
+        }
+    }
+    reaches(file, 5) && !reaches(file, 6)
 }
 
 #[test]
 fn a_range_that_passes_the_end_is_a_fault(rt: HostRuntime) -> Result<(), Fail> {
     let mut file = written(&rt, "short.raw", &[1, 2, 3, 4, 5])?;
-    for (at, want) in [
-        (2, Some([3, 4, 5])),
-        (0, Some([1, 2, 3])),
-        (3, None),
-        (u64::MAX, None),
-    ] {
-        assert!(rt; three_bytes(&mut file, at) == want);
-    }
-    assert!(rt; reaches(&mut file, 5) && !reaches(&mut file, 6));
-    fs::remove_file(&rt, "short.raw")?;
     is_sendable(&file);
+    let told = reads_ranges(&mut file);
+    drop(file);
+    assert!(rt; told);
+    fs::remove_file(&rt, "short.raw")?;
     Ok(())
 }
 
@@ -123,36 +145,47 @@ fn a_file_that_has_shrunk_is_a_fault(rt: HostRuntime) -> Result<(), Fail> {
     fs::write(&rt, "shrunk.raw", [9u8].as_slice())?;
     assert!(rt; three_bytes(&mut file, 0).is_none());
     let want = "shrunk.raw: the range that was asked for passes the end of the file";
-    assert!(rt; is_text(rt.alloc(), file.last_fault(), want)?);
+    let told = is_text(rt.alloc(), file.last_fault(), want);
+    drop(file);
+    assert!(rt; told);
     fs::remove_file(&rt, "shrunk.raw")?;
     Ok(())
 }
 
 /// Whether a file has no length for this reason.
-fn fails_for(rt: &HostRuntime, path: &str, reason: &str) -> Result<bool, Fail> {
-    let mut file = source(rt, path)?;
-    let want = format!(in rt.alloc(); "{path}: {reason}")?;
-    Ok(length(&mut file).is_none() && is_text(rt.alloc(), file.last_fault(), want.as_str())?)
+fn fails_for(rt: &HostRuntime, path: &str, reason: &str) -> bool {
+    match source(rt, path) {
+        Ok(mut file) => {
+            length(&mut file).is_none() && is_fault(rt.alloc(), file.last_fault(), path, reason)
+        }
+        Err(_) => false,
+    }
+}
+
+/// Whether a pipe that nobody writes to has no length.
+fn fails_for_a_pipe(rt: &HostRuntime) -> bool {
+    match dead_pipe(rt) {
+        Ok((_pipe, path)) => fails_for(rt, path.as_str(), "not a regular file"),
+        Err(_) => false,
+    }
 }
 
 #[test]
-fn what_is_no_regular_file_is_a_fault_with_its_reason(rt: HostRuntime) -> Result<(), Fail> {
+fn what_is_no_regular_file_is_a_fault_with_its_reason(rt: HostRuntime) {
     for &(path, reason) in &NO_FILES {
-        assert!(rt; fails_for(&rt, path, reason)?);
+        assert!(rt; fails_for(&rt, path, reason));
     }
     assert!(rt;
         fails_for(
             &rt,
             "gone/source.raw",
             "No such file or directory (os error 2)"
-        )?
+        )
     );
-    let (_pipe, path) = dead_pipe(&rt)?;
-    assert!(rt; fails_for(&rt, path.as_str(), "not a regular file")?);
-    Ok(())
+    assert!(rt; fails_for_a_pipe(&rt));
 }
 
-fn leaf(alloc: Global, path: &str) -> Result<FileLeaf, Fail> {
+fn leaf(alloc: Global, path: &str) -> Result<FileLeaf, NoMemory> {
     Ok(FileLeaf::new(String::from_str(alloc, path)?, 2))
 }
 
@@ -162,10 +195,10 @@ fn two_bytes(
     reader: &mut FileReader<HostRuntime>,
     path: &str,
     at: u64,
-) -> Result<Option<[u8; 2]>, Fail> {
+) -> Option<[u8; 2]> {
     let mut into = [0u8; 2];
-    let leaf = leaf(alloc, path)?;
-    Ok(reader.read_at(&leaf, at, &mut into).ok().map(|()| into))
+    let leaf = leaf(alloc, path).ok()?;
+    reader.read_at(&leaf, at, &mut into).ok().map(|()| into)
 }
 
 /// Places of two files and of one that is not there, in the order of their reads, with two bytes from there on.
@@ -178,18 +211,26 @@ static PLACES: [(&str, u64, Option<[u8; 2]>); 6] = [
     ("one.raw", 2, None),
 ];
 
-#[test]
-fn finished_files_are_read_by_places(rt: HostRuntime) -> Result<(), Fail> {
-    let alloc = rt.alloc();
-    fs::write(&rt, "one.raw", [1u8, 2, 3].as_slice())?;
-    fs::write(&rt, "two.raw", [4u8, 5, 6].as_slice())?;
-    let mut reader = FileReader::new(rt.clone()?, alloc);
+/// Whether the places of the two files are read, and no other.
+fn reads_places(alloc: Global, reader: &mut FileReader<HostRuntime>) -> bool {
     for &(path, at, want) in &PLACES {
-        assert!(rt; two_bytes(alloc, &mut reader, path, at)? == want);
+        if two_bytes(alloc, reader, path, at) != want {
+            return false;
+        }
     }
     let want = "one.raw: the range that was asked for passes the end of the file";
-    assert!(rt; is_text(alloc, reader.last_fault(), want)?);
+    is_text(alloc, reader.last_fault(), want)
+}
+
+#[test]
+fn finished_files_are_read_by_places(rt: HostRuntime) -> Result<(), Fail> {
+    fs::write(&rt, "one.raw", [1u8, 2, 3].as_slice())?;
+    fs::write(&rt, "two.raw", [4u8, 5, 6].as_slice())?;
+    let mut reader = FileReader::new(rt.clone()?, rt.alloc());
     is_sendable(&reader);
+    let told = reads_places(rt.alloc(), &mut reader);
+    drop(reader);
+    assert!(rt; told);
     fs::remove_file(&rt, "one.raw")?;
     fs::remove_file(&rt, "two.raw")?;
     Ok(())

@@ -13,7 +13,7 @@ mod patience;
 fn is_sent<T: Send>(_: &T) {}
 
 /// A listener that is not open yet.
-fn listener(alloc: Global, address: &str) -> Result<Arc<SharedListener, Global>, Fail> {
+fn listener(alloc: Global, address: &str) -> Result<Arc<SharedListener, Global>, NoMemory> {
     let address = String::from_str(alloc, address)?;
     Ok(Arc::new(alloc, SharedListener::new(address))?)
 }
@@ -87,21 +87,15 @@ fn ends_with(alloc: Global, stream: &mut TcpStream, want: &[u8]) -> Result<bool,
     Ok(rest_of(alloc, stream)?.as_slice() == want)
 }
 
-/// Why a link failed last, or nothing.
-fn why<R: Clock + Drop>(alloc: Global, link: &TcpLink<TcpStream, R>) -> Result<String, Fail> {
-    match link.last_fault() {
-        Some(reason) => Ok(format!(in alloc; "{reason}")?),
-        None => Ok(String::new(alloc)),
-    }
-}
-
 /// Whether a link failed last for this reason.
-fn failed_for<R: Clock + Drop>(
-    alloc: Global,
-    link: &TcpLink<TcpStream, R>,
-    reason: &str,
-) -> Result<bool, Fail> {
-    Ok(why(alloc, link)?.as_str() == reason)
+fn failed_for<R: Clock + Drop>(alloc: Global, link: &TcpLink<TcpStream, R>, reason: &str) -> bool {
+    match link.last_fault() {
+        Some(found) => match format!(in alloc; "{found}") {
+            Ok(text) => text.as_str() == reason,
+            Err(_) => false,
+        },
+        None => false,
+    }
 }
 
 /// What a link takes of a peer that asks, and of the end of its input behind the answer.
@@ -115,16 +109,23 @@ fn converse<L: Link>(link: &mut L, peer: &mut TcpStream) -> Result<[Option<usize
     Ok([asked, takes(link)])
 }
 
+/// Whether a door serves the one peer that waits there, and no other.
+fn serves_one<D: Door>(alloc: Global, door: &mut D, peer: &mut TcpStream) -> Result<bool, Fail>
+where
+    D::Link: Drop,
+{
+    let mut link = next_link(door)?;
+    let taken = converse(&mut link, peer)?;
+    door.finish(link, Vec::new(alloc));
+    let answered = ends_with(alloc, peer, b"answer")?;
+    Ok(taken == [Some(3), Some(0)] && answered && gave_all(door) && door.faults() == 0)
+}
+
 #[test]
 fn bytes_go_both_ways(rt: HostRuntime) -> Result<(), Fail> {
     let (mut door, mut peer) = door_and_peer(&rt, rt.alloc(), Some(1), Patience::of_a_server())?;
-    let mut link = next_link(&mut door)?;
-    assert!(rt; converse(&mut link, &mut peer)? == [Some(3), Some(0)]);
-    door.finish(link, Vec::new(rt.alloc()));
-    assert!(rt; ends_with(rt.alloc(), &mut peer, b"answer")?);
-    assert!(rt; gave_all(&mut door));
-    assert!(rt; door.faults() == 0);
     is_sent(&door);
+    assert!(rt; serves_one(rt.alloc(), &mut door, &mut peer)?);
     Ok(())
 }
 
@@ -136,15 +137,22 @@ fn send_much(peer: &mut TcpStream) -> Result<(), Fail> {
     Ok(())
 }
 
+/// Whether the last piece of a link reaches a peer that has sent much of which one piece was read.
+fn gives_last<D: Door>(alloc: Global, door: &mut D, peer: &mut TcpStream) -> Result<bool, Fail>
+where
+    D::Link: Drop,
+{
+    let mut link = next_link(door)?;
+    send_much(peer)?;
+    let goes = takes(&mut link) == Some(8) && gives(&mut link, b"last");
+    door.finish(link, Vec::new(alloc));
+    Ok(goes && ends_with(alloc, peer, b"last")?)
+}
+
 #[test]
 fn a_last_piece_reaches_a_peer_that_still_sends(rt: HostRuntime) -> Result<(), Fail> {
     let (mut door, mut peer) = door_and_peer(&rt, rt.alloc(), None, hasty())?;
-    let mut link = next_link(&mut door)?;
-    send_much(&mut peer)?;
-    assert!(rt; takes(&mut link) == Some(8));
-    assert!(rt; gives(&mut link, b"last"));
-    door.finish(link, Vec::new(rt.alloc()));
-    assert!(rt; ends_with(rt.alloc(), &mut peer, b"last")?);
+    assert!(rt; gives_last(rt.alloc(), &mut door, &mut peer)?);
     Ok(())
 }
 
@@ -179,37 +187,36 @@ where
     Ok(takes(&mut link))
 }
 
-/// How many bytes the next link of each of two doors takes at once, the first door's before the second's.
-fn both_take<D: Door>(first: &mut D, second: &mut D) -> Result<[Option<usize>; 2], Fail>
+/// Whether the first of two peers comes to the first of two doors, and the second to the second.
+fn share<R: Sockets, D: Door>(
+    rt: &R,
+    address: SocketAddr,
+    first: &mut D,
+    second: &mut D,
+) -> Result<bool, Fail>
 where
     D::Link: Drop,
 {
-    Ok([next_takes(first)?, next_takes(second)?])
+    let _one = peer_that_sent(rt, address, b"one")?;
+    let _other = peer_that_sent(rt, address, b"other")?;
+    Ok(next_takes(first)? == Some(3) && next_takes(second)? == Some(5))
 }
 
 #[test]
 fn doors_share_a_listener(rt: HostRuntime) -> Result<(), Fail> {
     let (mut first, mut second, address) = two_doors(&rt, rt.alloc())?;
-    let _one = peer_that_sent(&rt, address, b"one")?;
-    let _other = peer_that_sent(&rt, address, b"other")?;
-    assert!(rt; both_take(&mut first, &mut second)? == [Some(3), Some(5)]);
+    assert!(rt; share(&rt, address, &mut first, &mut second)?);
     Ok(())
 }
 
-/// The fault of a door's first `accept`.
-fn refused<R: Sockets>(rt: &R, alloc: Global, address: &str) -> Result<String, Fail> {
-    let shared = listener(alloc, address)?;
+/// Whether nothing can be listened at for this reason, which a door's first `accept` tells.
+fn fails_for<R: Sockets>(rt: &R, alloc: Global, address: &str, reason: &str) -> bool {
+    let Ok(shared) = listener(alloc, address) else {
+        return false;
+    };
     let mut door = TcpDoor::new(*rt, shared, None, hasty());
-    if door.accept().is_ok() || door.faults() != 1 {
-        return Ok(String::new(alloc));
-    }
-    text(alloc, door.last_fault())
-}
-
-/// Whether nothing can be listened at for this reason.
-fn fails_for<R: Sockets>(rt: &R, alloc: Global, address: &str, reason: &str) -> Result<bool, Fail> {
-    let want = format!(in alloc; "{address}: {reason}")?;
-    Ok(refused(rt, alloc, address)? == want)
+    let refused = door.accept().is_err() && door.faults() == 1;
+    refused && is_fault(alloc, door.last_fault(), address, reason)
 }
 
 /// What cannot be listened at, and why.
@@ -229,19 +236,28 @@ static NO_ADDRESSES: [(&str, &str); 3] = [
 ];
 
 /// Where a peer has connected.
-fn address_of(alloc: Global, peer: &TcpStream) -> Result<String, Fail> {
+fn address_of(alloc: Global, peer: &TcpStream) -> io::Result<String> {
     Ok(format!(in alloc; "{}", peer.peer_addr()?)?)
+}
+
+/// Whether nobody can listen where a peer has connected.
+fn fails_where_one_is<R: Sockets>(rt: &R, alloc: Global, peer: &TcpStream) -> bool {
+    match address_of(alloc, peer) {
+        Ok(taken) => {
+            let reason = "Address already in use (os error 98)";
+            fails_for(rt, alloc, taken.as_str(), reason)
+        }
+        Err(_) => false,
+    }
 }
 
 #[test]
 fn what_cannot_be_listened_at_is_told(rt: HostRuntime) -> Result<(), Fail> {
     for &(address, reason) in &NO_ADDRESSES {
-        assert!(rt; fails_for(&rt, rt.alloc(), address, reason)?);
+        assert!(rt; fails_for(&rt, rt.alloc(), address, reason));
     }
     let (_door, peer) = door_and_peer(&rt, rt.alloc(), None, hasty())?;
-    let taken = address_of(rt.alloc(), &peer)?;
-    let reason = "Address already in use (os error 98)";
-    assert!(rt; fails_for(&rt, rt.alloc(), taken.as_str(), reason)?);
+    assert!(rt; fails_where_one_is(&rt, rt.alloc(), &peer));
     Ok(())
 }
 
@@ -256,25 +272,25 @@ fn gives_until_refused<L: Link>(link: &mut L) -> bool {
 }
 
 /// Whether a link failed last since its peer was gone, which the system tells in two ways.
-fn lost_its_peer<R: Clock + Drop>(
+fn lost_its_peer<R: Clock + Drop>(alloc: Global, link: &TcpLink<TcpStream, R>) -> bool {
+    failed_for(alloc, link, "Broken pipe (os error 32)")
+        || failed_for(alloc, link, "Connection reset by peer (os error 104)")
+}
+
+/// Whether a link of a door has one fault once its peer is gone.
+fn fails_once<R: Sockets>(
     alloc: Global,
-    link: &TcpLink<TcpStream, R>,
+    door: &mut TcpDoor<R>,
+    peer: TcpStream,
 ) -> Result<bool, Fail> {
-    let why = why(alloc, link)?;
-    let reasons = [
-        "Broken pipe (os error 32)",
-        "Connection reset by peer (os error 104)",
-    ];
-    Ok(reasons.contains(&why.as_str()))
+    let mut link = next_link(door)?;
+    drop(peer);
+    Ok(gives_until_refused(&mut link) && link.faults() == 1 && lost_its_peer(alloc, &link))
 }
 
 #[test]
 fn a_peer_that_is_gone_is_a_fault(rt: HostRuntime) -> Result<(), Fail> {
     let (mut door, peer) = door_and_peer(&rt, rt.alloc(), None, hasty())?;
-    let mut link = next_link(&mut door)?;
-    drop(peer);
-    assert!(rt; gives_until_refused(&mut link));
-    assert!(rt; link.faults() == 1);
-    assert!(rt; lost_its_peer(rt.alloc(), &link)?);
+    assert!(rt; fails_once(rt.alloc(), &mut door, peer)?);
     Ok(())
 }

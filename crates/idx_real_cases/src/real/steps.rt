@@ -1,6 +1,5 @@
 //! Steps in the test's own folder.
 use super::*;
-use std::process::Abort;
 
 fn begins(bay: &mut FolderBay<HostRuntime>, folder: &str) -> bool {
     bay.begin_step(folder.as_bytes()).is_ok()
@@ -34,6 +33,13 @@ fn gives_up(bay: &mut FolderBay<HostRuntime>, path: &str) {
     }
 }
 
+/// One file to be committed.
+fn one_file(alloc: Global, path: &str, leaf: FileLeaf) -> Result<Vec<(Bytes, FileLeaf)>, NoMemory> {
+    let mut leaves = Vec::new(alloc);
+    leaves.push((Bytes::from_slice(alloc, path.as_bytes())?, leaf))?;
+    Ok(leaves)
+}
+
 /// Commits one file as a step.
 fn commits(
     alloc: Global,
@@ -41,21 +47,26 @@ fn commits(
     folder: &str,
     path: &str,
     leaf: FileLeaf,
-) -> Result<bool, Fail> {
-    let mut leaves = Vec::new(alloc);
-    leaves.push((Bytes::from_slice(alloc, path.as_bytes())?, leaf))?;
-    Ok(bay.commit(folder.as_bytes(), &leaves).is_ok())
+) -> bool {
+    match one_file(alloc, path, leaf) {
+        Ok(leaves) => bay.commit(folder.as_bytes(), &leaves).is_ok(),
+        Err(_) => false,
+    }
+}
+
+/// Writes and commits one file of a step that was begun.
+fn saves_file(alloc: Global, bay: &mut FolderBay<HostRuntime>, folder: &str, path: &str) -> bool {
+    match written(bay, path, &[1, 2, 3]) {
+        Some(leaf) => commits(alloc, bay, folder, path, leaf),
+        None => false,
+    }
 }
 
 /// Writes and commits the file `0.bin` of a step.
-fn saves(alloc: Global, bay: &mut FolderBay<HostRuntime>, folder: &str) -> Result<bool, Fail> {
-    let path = format!(in alloc; "{folder}/0.bin")?;
-    if !begins(bay, folder) {
-        return Ok(false);
-    }
-    match written(bay, path.as_str(), &[1, 2, 3]) {
-        Some(leaf) => commits(alloc, bay, folder, path.as_str(), leaf),
-        None => Ok(false),
+fn saves(alloc: Global, bay: &mut FolderBay<HostRuntime>, folder: &str) -> bool {
+    match format!(in alloc; "{folder}/0.bin") {
+        Ok(path) => begins(bay, folder) && saves_file(alloc, bay, folder, path.as_str()),
+        Err(_) => false,
     }
 }
 
@@ -69,7 +80,7 @@ fn length_of(bay: &mut FolderBay<HostRuntime>, path: &str) -> Option<Option<u64>
 }
 
 /// Whether this is the text of the last fault, or of none.
-fn fails_for(alloc: Global, bay: &FolderBay<HostRuntime>, want: &str) -> Result<bool, Fail> {
+fn fails_for(alloc: Global, bay: &FolderBay<HostRuntime>, want: &str) -> bool {
     is_text(alloc, bay.last_fault(), want)
 }
 
@@ -95,36 +106,44 @@ fn is_committed(rt: &HostRuntime) -> bool {
         && !stands(rt, "new/set/d/t0/0/8.bin")
 }
 
+/// Whether a step stands once it is committed, and not before.
+fn stands_once_committed(rt: &HostRuntime, bay: &mut FolderBay<HostRuntime>) -> Result<bool, Fail> {
+    let none = has(bay, "d/t0") == Some(false);
+    let leaf = staged(bay).ok_or("no leaf")?;
+    let told = (leaf.len(), leaf.path()) == (3, "new/set/d/t0/0/0.bin");
+    let before = is_staged(rt) && length_of(bay, "d/t0/0/0.bin") == Some(None);
+    let committed = commits(rt.alloc(), bay, "d/t0", "d/t0/0/0.bin", leaf);
+    Ok(none && told && before && committed && is_committed(rt))
+}
+
 #[test]
 fn a_step_stands_once_it_is_committed(rt: HostRuntime) -> Result<(), Fail> {
     let mut bay = folder(&rt, "new/set/dataset.idx")?;
-    assert!(rt; has(&mut bay, "d/t0") == Some(false));
-    let leaf = staged(&mut bay).ok_or("no leaf")?;
-    assert!(rt; (leaf.len(), leaf.path()) == (3, "new/set/d/t0/0/0.bin"));
-    assert!(rt; is_staged(&rt) && length_of(&mut bay, "d/t0/0/0.bin") == Some(None));
-    assert!(rt; commits(rt.alloc(), &mut bay, "d/t0", "d/t0/0/0.bin", leaf)?);
-    assert!(rt; is_committed(&rt));
+    let told = stands_once_committed(&rt, &mut bay);
+    drop(bay);
+    assert!(rt; told?);
     fs::remove_dir_all(&rt, "new")?;
     Ok(())
 }
 
-/// Whether the step `t0` and its file are found, and the plain file is no step.
-fn finds_the_step(bay: &mut FolderBay<HostRuntime>) -> bool {
+/// Whether the step `t0` and its file are found, the plain file is no step, and the step's folder is no file.
+fn finds_the_step(alloc: Global, bay: &mut FolderBay<HostRuntime>) -> bool {
     has(bay, "t0") == Some(true)
         && has(bay, "plain") == Some(false)
         && length_of(bay, "t0/0.bin") == Some(Some(3))
+        && length_of(bay, "t0").is_none()
+        && fails_for(alloc, bay, "found/t0: not a regular file")
+        && has(bay, "plain/t").is_none()
 }
 
 #[test]
 fn a_step_that_stands_is_found(rt: HostRuntime) -> Result<(), Fail> {
-    let alloc = rt.alloc();
-    let mut bay = folder(&rt, "found/dataset.idx")?;
-    assert!(rt; saves(alloc, &mut bay, "t0")?);
+    fs::create_dir(&rt, "found")?;
     fs::write(&rt, "found/plain", "plain")?;
-    assert!(rt; finds_the_step(&mut bay) && length_of(&mut bay, "t0").is_none());
-    assert!(rt; fails_for(alloc, &bay, "found/t0: not a regular file")?);
-    assert!(rt; has(&mut bay, "plain/t").is_none());
-    is_sendable(&bay);
+    let mut bay = folder(&rt, "found/dataset.idx")?;
+    let found = saves(rt.alloc(), &mut bay, "t0") && finds_the_step(rt.alloc(), &mut bay);
+    drop(bay);
+    assert!(rt; found);
     fs::remove_dir_all(&rt, "found")?;
     Ok(())
 }
@@ -137,35 +156,37 @@ fn leave_staged(rt: &HostRuntime) -> Result<(), Fail> {
 }
 
 /// Whether a step is saved without what an earlier run left of it.
-fn drops_what_was_left(rt: &HostRuntime, bay: &mut FolderBay<HostRuntime>) -> Result<bool, Fail> {
-    Ok(saves(rt.alloc(), bay, "t0")? && !stands(rt, "old/t0/x") && !stands(rt, "old/t0/left.bin"))
+fn drops_what_was_left(rt: &HostRuntime, bay: &mut FolderBay<HostRuntime>) -> bool {
+    saves(rt.alloc(), bay, "t0") && !stands(rt, "old/t0/x") && !stands(rt, "old/t0/left.bin")
 }
 
 /// The same of a step that is begun twice.
-fn drops_what_was_begun(rt: &HostRuntime, bay: &mut FolderBay<HostRuntime>) -> Result<bool, Fail> {
-    if !begins(bay, "t1") || !writes(bay, "t1/1.bin", &[4]) {
-        return Ok(false);
-    }
-    Ok(saves(rt.alloc(), bay, "t1")? && !stands(rt, "old/t1/1.bin"))
+fn drops_what_was_begun(rt: &HostRuntime, bay: &mut FolderBay<HostRuntime>) -> bool {
+    begins(bay, "t1")
+        && writes(bay, "t1/1.bin", &[4])
+        && saves(rt.alloc(), bay, "t1")
+        && !stands(rt, "old/t1/1.bin")
 }
 
 #[test]
 fn what_an_earlier_run_left_is_dropped(rt: HostRuntime) -> Result<(), Fail> {
-    let mut bay = folder(&rt, "old/dataset.idx")?;
     leave_staged(&rt)?;
-    assert!(rt; drops_what_was_left(&rt, &mut bay)?);
-    assert!(rt; drops_what_was_begun(&rt, &mut bay)?);
+    let mut bay = folder(&rt, "old/dataset.idx")?;
+    let told = drops_what_was_left(&rt, &mut bay) && drops_what_was_begun(&rt, &mut bay);
+    drop(bay);
+    assert!(rt; told);
     fs::remove_dir_all(&rt, "old")?;
     Ok(())
 }
 
-/// The fault of a step of this folder, which cannot be saved.
-fn fault_of(rt: &HostRuntime, folder_name: &str) -> Result<String, Fail> {
-    let mut bay = folder(rt, "set/dataset.idx")?;
-    if saves(rt.alloc(), &mut bay, folder_name)? {
-        return Ok(String::new(rt.alloc()));
+/// Whether a step of this folder is not saved, with this fault.
+fn is_not_saved(rt: &HostRuntime, folder_name: &str, want: &str) -> bool {
+    match folder(rt, "set/dataset.idx") {
+        Ok(mut bay) => {
+            !saves(rt.alloc(), &mut bay, folder_name) && fails_for(rt.alloc(), &bay, want)
+        }
+        Err(_) => false,
     }
-    text(rt.alloc(), bay.last_fault())
 }
 
 /// What no step can be saved over, and why.
@@ -182,79 +203,110 @@ fn nothing_is_put_over_what_stands(rt: HostRuntime) -> Result<(), Fail> {
     fs::write(&rt, "set/plain", "plain")?;
     fs::write(&rt, "set/staged.part", "plain")?;
     for &(name, want) in &TAKEN {
-        assert!(rt; fault_of(&rt, name)?.as_str() == want);
+        assert!(rt; is_not_saved(&rt, name, want));
     }
     fs::remove_dir_all(&rt, "set")?;
     Ok(())
 }
 
+/// Whether a file is made once, and in the step that was begun alone.
+fn makes_once(alloc: Global, bay: &mut FolderBay<HostRuntime>) -> bool {
+    begins(bay, "t1")
+        && writes(bay, "t1/0.bin", &[1])
+        && !writes(bay, "t1/0.bin", &[2])
+        && fails_for(alloc, bay, "made/t1.part/0.bin: File exists (os error 17)")
+        && !writes(bay, "t10/0.bin", &[1])
+        && fails_for(
+            alloc,
+            bay,
+            "made/t10/0.bin: the file is not in the step that was begun",
+        )
+}
+
 #[test]
 fn a_file_is_made_once_and_in_the_step_that_was_begun(rt: HostRuntime) -> Result<(), Fail> {
-    let alloc = rt.alloc();
     let mut bay = folder(&rt, "made/dataset.idx")?;
-    assert!(rt; begins(&mut bay, "t1") && writes(&mut bay, "t1/0.bin", &[1]));
-    assert!(rt; !writes(&mut bay, "t1/0.bin", &[2]));
-    let want = "made/t1.part/0.bin: File exists (os error 17)";
-    assert!(rt; fails_for(alloc, &bay, want)?);
-    assert!(rt; !writes(&mut bay, "t10/0.bin", &[1]));
-    let want = "made/t10/0.bin: the file is not in the step that was begun";
-    assert!(rt; fails_for(alloc, &bay, want)?);
+    let told = makes_once(rt.alloc(), &mut bay);
+    drop(bay);
+    assert!(rt; told);
     fs::remove_dir_all(&rt, "made")?;
     Ok(())
 }
 
-/// A run beside one that writes a step: it is refused this step, saves another one, begins a third and dies.
-fn run_beside(rt: &impl Abort, alloc: Global, mut bay: FolderBay<HostRuntime>) -> Result<(), Fail> {
-    assert!(rt; !begins(&mut bay, "t0"));
-    let want = "two/t0.part: another run is writing this step";
-    assert!(rt; fails_for(alloc, &bay, want)?);
-    assert!(rt; saves(alloc, &mut bay, "t1")? && begins(&mut bay, "t2"));
-    Ok(())
+/// Whether a run beside one that writes a step is refused this step, saves another one, and begins a third.
+fn runs_beside(alloc: Global, bay: &mut FolderBay<HostRuntime>) -> bool {
+    !begins(bay, "t0")
+        && fails_for(alloc, bay, "two/t0.part: another run is writing this step")
+        && saves(alloc, bay, "t1")
+        && begins(bay, "t2")
+}
+
+/// Whether a run that writes a step saves the steps of one beside it once that has died.
+fn outlives_another(
+    alloc: Global,
+    bay: &mut FolderBay<HostRuntime>,
+    mut other: FolderBay<HostRuntime>,
+) -> bool {
+    let told = begins(bay, "t0") && runs_beside(alloc, &mut other);
+    // A run that dies lets its step go.
+    drop(other);
+    told && saves(alloc, bay, "t2") && saves(alloc, bay, "t0")
 }
 
 #[test]
 fn one_run_at_a_time_writes_a_step(rt: HostRuntime) -> Result<(), Fail> {
     let second = folder(&rt, "two/dataset.idx")?;
     let mut first = folder(&rt, "two/dataset.idx")?;
-    assert!(rt; begins(&mut first, "t0"));
-    run_beside(&rt, rt.alloc(), second)?;
-    // A run that dies lets its step go.
-    assert!(rt; saves(rt.alloc(), &mut first, "t2")? && saves(rt.alloc(), &mut first, "t0")?);
+    let told = outlives_another(rt.alloc(), &mut first, second);
+    drop(first);
+    assert!(rt; told);
     fs::remove_dir_all(&rt, "two")?;
     Ok(())
 }
 
-/// Begins a step, writes a file of it, and puts another folder in place of its staged one.
-fn exchanged(rt: &HostRuntime, bay: &mut FolderBay<HostRuntime>) -> Result<FileLeaf, Fail> {
+/// Begins a step, and writes a file of it.
+fn begun(bay: &mut FolderBay<HostRuntime>) -> Option<FileLeaf> {
     if !begins(bay, "t0") {
-        return Err(Fail::from("no step"));
+        return None;
     }
-    let leaf = written(bay, "t0/0.bin", &[1]).ok_or("no leaf")?;
+    written(bay, "t0/0.bin", &[1])
+}
+
+/// Puts another folder in place of the staged one.
+fn exchange(rt: &HostRuntime) -> Result<(), Fail> {
     fs::rename(rt, "begun/t0.part", "begun/taken")?;
-    fs::create_dir(rt, "begun/t0.part")?;
-    Ok(leaf)
+    Ok(fs::create_dir(rt, "begun/t0.part")?)
 }
 
 /// Whether a step is committed whose staged folder was exchanged.
 fn commits_exchanged(rt: &HostRuntime, bay: &mut FolderBay<HostRuntime>) -> Result<bool, Fail> {
-    let leaf = exchanged(rt, bay)?;
-    commits(rt.alloc(), bay, "t0", "t0/0.bin", leaf)
+    let leaf = begun(bay).ok_or("no leaf")?;
+    exchange(rt)?;
+    Ok(commits(rt.alloc(), bay, "t0", "t0/0.bin", leaf))
 }
 
 /// Makes a staged folder of a step that is not begun, and tells whether the step is committed.
 fn commits_unbegun(rt: &HostRuntime, bay: &mut FolderBay<HostRuntime>) -> Result<bool, Fail> {
     fs::create_dir(rt, "begun/t1.part")?;
     let leaf = FileLeaf::new(String::from_str(rt.alloc(), "begun/t1/0.bin")?, 1);
-    commits(rt.alloc(), bay, "t1", "t1/0.bin", leaf)
+    Ok(commits(rt.alloc(), bay, "t1", "t1/0.bin", leaf))
+}
+
+/// Whether neither of them is committed, and the first with its fault.
+fn commits_neither(rt: &HostRuntime, bay: &mut FolderBay<HostRuntime>) -> Result<bool, Fail> {
+    let exchanged = commits_exchanged(rt, bay)?;
+    let want = "begun/t0: the staged folder is not the one that was begun";
+    let told = fails_for(rt.alloc(), bay, want);
+    let unbegun = commits_unbegun(rt, bay)?;
+    Ok(!exchanged && told && !unbegun && !stands(rt, "begun/t1"))
 }
 
 #[test]
 fn only_the_staged_folder_that_was_begun_is_committed(rt: HostRuntime) -> Result<(), Fail> {
     let mut bay = folder(&rt, "begun/dataset.idx")?;
-    assert!(rt; !commits_exchanged(&rt, &mut bay)?);
-    let want = "begun/t0: the staged folder is not the one that was begun";
-    assert!(rt; fails_for(rt.alloc(), &bay, want)?);
-    assert!(rt; !commits_unbegun(&rt, &mut bay)? && !stands(&rt, "begun/t1"));
+    let told = commits_neither(&rt, &mut bay);
+    drop(bay);
+    assert!(rt; told?);
     fs::remove_dir_all(&rt, "begun")?;
     Ok(())
 }
@@ -281,8 +333,13 @@ fn a_draft_that_cannot_be_written_is_a_fault_of_its_bay(rt: HostRuntime) -> Resu
     let path = "closed.raw";
     fs::write(&rt, path, "old")?;
     let mut bay = folder(&rt, "dataset.idx")?;
-    assert!(rt; gives_up_closed(&mut bay, &rt, path)? && !stands(&rt, path));
-    let want = "closed.raw: Bad file descriptor (os error 9)";
-    assert!(rt; fails_for(rt.alloc(), &bay, want)?);
+    let refused = gives_up_closed(&mut bay, &rt, path);
+    let told = fails_for(
+        rt.alloc(),
+        &bay,
+        "closed.raw: Bad file descriptor (os error 9)",
+    );
+    drop(bay);
+    assert!(rt; refused? && told && !stands(&rt, path));
     Ok(())
 }

@@ -71,17 +71,17 @@ impl Files for Watched<'_> {
     }
 }
 
+/// Whether a header is put, of which this cell gets to know.
+fn puts_watched(rt: &HostRuntime, named: &Cell<u64>) -> Result<bool, Fail> {
+    let watched = Watched { rt, named };
+    let mut bay = FolderBay::new(watched, String::from_str(rt.alloc(), "watched.idx")?);
+    Ok(bay.set_header(b"text").is_ok())
+}
+
 #[test]
 fn a_header_gets_its_name_with_all_its_bytes(rt: HostRuntime) -> Result<(), Fail> {
     let named = Cell::new(0);
-    let watched = Watched {
-        rt: &rt,
-        named: &named,
-    };
-    let mut bay = FolderBay::new(watched, String::from_str(rt.alloc(), "watched.idx")?);
-    assert!(rt; bay.set_header(b"text").is_ok());
-    drop(bay);
-    assert!(rt; named.get() == 4);
+    assert!(rt; puts_watched(&rt, &named)? && named.get() == 4);
     fs::remove_file(&rt, "watched.idx")?;
     Ok(())
 }

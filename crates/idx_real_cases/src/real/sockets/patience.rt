@@ -1,13 +1,17 @@
 //! Peers that let a link wait.
 use super::*;
 
+/// Whether a link of a door has one fault since its peer is silent.
+fn waits_in_vain<R: Sockets>(alloc: Global, door: &mut TcpDoor<R>) -> Result<bool, Fail> {
+    let mut link = next_link(door)?;
+    let silent = takes(&mut link).is_none() && link.faults() == 1;
+    Ok(silent && failed_for(alloc, &link, "the peer let the link wait for too long"))
+}
+
 #[test]
 fn a_silent_peer_is_a_fault(rt: HostRuntime) -> Result<(), Fail> {
     let (mut door, _peer) = door_and_peer(&rt, rt.alloc(), None, hasty())?;
-    let mut link = next_link(&mut door)?;
-    assert!(rt; takes(&mut link).is_none());
-    assert!(rt; link.faults() == 1);
-    assert!(rt; failed_for(rt.alloc(), &link, "the peer let the link wait for too long")?);
+    assert!(rt; waits_in_vain(rt.alloc(), &mut door)?);
     Ok(())
 }
 
@@ -59,6 +63,17 @@ fn bytes_in_time<L: Link>(link: &mut L, peer: &mut TcpStream) -> Result<u32, Fai
     Ok(100)
 }
 
+/// Whether a peer that sends a byte a second is too slow once a minute is over.
+fn is_too_slow<R: Sockets>(
+    alloc: Global,
+    door: &mut TcpDoor<R>,
+    peer: &mut TcpStream,
+) -> Result<bool, Fail> {
+    let mut link = next_link(door)?;
+    let count = bytes_in_time(&mut link, peer)?;
+    Ok(count == 59 && failed_for(alloc, &link, "the peer sent its bytes too slowly"))
+}
+
 #[test]
 fn a_slow_peer_has_a_minute_from_reply_to_reply(rt: HostRuntime) -> Result<(), Fail> {
     let seconds = AtomicU64::new(0);
@@ -67,8 +82,6 @@ fn a_slow_peer_has_a_minute_from_reply_to_reply(rt: HostRuntime) -> Result<(), F
         seconds: &seconds,
     };
     let (mut door, mut peer) = door_and_peer(&ticking, rt.alloc(), None, Patience::of_a_server())?;
-    let mut link = next_link(&mut door)?;
-    assert!(rt; bytes_in_time(&mut link, &mut peer)? == 59);
-    assert!(rt; failed_for(rt.alloc(), &link, "the peer sent its bytes too slowly")?);
+    assert!(rt; is_too_slow(rt.alloc(), &mut door, &mut peer)?);
     Ok(())
 }
