@@ -1,5 +1,5 @@
 //! The aggregators of the files of the base, piece by piece.
-ghost use Rattle.std.specs.Prelude.{◌≡◌, ◌⊎◌, All, Contains, IfOk, IfSome};
+ghost use Rattle.std.specs.Prelude.{◌≡◌, ◌⊎◌, [], All, Contains, IfOk, IfSome};
 ghost use Rattle.idx_layout.specs.OfHeader.{placing_of};
 ghost use Rattle.idx_layout.specs.Placing.{file_numbers};
 ghost use Rattle.idx_pieces.specs.Runs.{IsRun};
@@ -14,7 +14,7 @@ use crate::running::{NONE, bay_of};
 use idx_dock::{Dock, Unwanted};
 use idx_header::Header;
 use idx_layout::files;
-use idx_memory::{MemBay, MemLeaf, MemReader};
+use idx_memory::{MemBay, MemDraft, MemLeaf, MemReader};
 use idx_outside::{Bay, Bytes, Leaf, NoMemory, Reader};
 use idx_pieces::{Filled, Piece, Shipment};
 use idx_ship::{encode, piece_bytes};
@@ -201,6 +201,16 @@ fn takes_all(
     Ok(true)
 }
 
+/// A draft of the file of a dock.
+fn draft_of(alloc: Global, header: &Header, bay: &mut MemBay, dock: &Dock) -> Result<MemDraft, Fail>
+    requires { IsBegun header.now bay.old }
+    ensures { IfOk result (λ draft. draft.bytes ≡ []) }
+{
+    let path = header.file_name(alloc, 0, dock.file())?;
+    let draft = bay.create(path.as_slice())?;
+    Ok(draft)
+}
+
 /// What a dock writes, to a draft of a bay.
 fn written_by(
     alloc: Global,
@@ -212,8 +222,7 @@ fn written_by(
     requires { IsBegun header.now bay.old }
 {
     assert!(rt; dock.missing().is_none());
-    let path = header.file_name(alloc, 0, dock.file())?;
-    let draft = bay.create(path.as_slice())?;
+    let draft = draft_of(alloc, header, bay, &dock)?;
     match dock.write(draft) {
         Ok(leaf) => Ok(leaf),
         Err((draft, outage)) => {
@@ -256,15 +265,31 @@ fn writes(
     alloc: Global,
     rt: &impl Abort,
     header: &Header,
+    bay: &mut MemBay,
     dock: Dock,
     written: &Written,
-) -> Result<bool, Fail> {
-    let mut bay = bay_of(alloc, rt, header, NONE)?;
-    let leaf = written_by(alloc, rt, header, &mut bay, dock)?;
+) -> Result<bool, Fail>
+    requires { IsBegun header.now bay.old }
+{
+    let leaf = written_by(alloc, rt, header, bay, dock)?;
     is_written(alloc, rt, &leaf, written)
 }
 
 /// Delivers shipments to the dock of one of the two files, which takes them as it is to, and then writes that file.
+fn docks_under(
+    alloc: Global,
+    rt: &impl Abort,
+    header: &Header,
+    number: usize,
+    written: &Written,
+    deliveries: &[Delivery],
+) -> Result<bool, Fail> {
+    let mut bay = bay_of(alloc, rt, header, NONE)?;
+    let dock = dock_with(alloc, rt, header, number, deliveries)?;
+    writes(alloc, rt, header, &mut bay, dock, written)
+}
+
+/// Delivers shipments to the dock of one of the two files of the base, which it then writes.
 fn docks(
     alloc: Global,
     rt: &impl Abort,
@@ -273,8 +298,7 @@ fn docks(
     deliveries: &[Delivery],
 ) -> Result<bool, Fail> {
     let header = BASE.header(alloc, rt);
-    let dock = dock_with(alloc, rt, &header, number, deliveries)?;
-    writes(alloc, rt, &header, dock, written)
+    docks_under(alloc, rt, &header, number, written, deliveries)
 }
 
 #[test]

@@ -9,75 +9,76 @@ use idx_edition::Edition;
 use idx_gather::{GatherFault, gather};
 use idx_header::Header;
 use idx_memory::{MemLeaf, MemReader, MemSource};
-use idx_outside::{Blocks, Fetched, FreeGate, NoMemory};
+use idx_outside::{Blocks, Fetched, FreeGate};
 use std::alloc::Global;
 use std::process::Abort;
 use std::test::Fail;
 use std::thread::Threads;
 
-/// How a step is gathered by so many ranks.
-fn gathered<R: Threads + Sync + Abort>(
+/// Whether a whole step is gathered by so many ranks.
+fn is_gathered<R: Threads + Sync + Abort>(
     rt: &R,
     alloc: Global,
     dataset: &Dataset,
     ranks: usize,
-) -> Result<Ended, Fail> {
+) -> Result<bool, Fail> {
     assert!(rt; ranks <= 8);
     let mut raws = raws_of(alloc, dataset.raw, &[0; 8][..ranks])?;
-    run(rt, alloc, dataset, &mut raws, NONE, &FreeGate)
+    Ok(run(rt, alloc, dataset, &mut raws, NONE, &FreeGate)? == WHOLE)
 }
 
 #[test]
 fn the_files_are_the_same_by_however_many_ranks(rt: HostRuntime) -> Result<(), Fail> {
-    for ranks in [1, 2, 3, 4, 8] {
-        assert!(rt; gathered(&rt, rt.alloc(), &BASE, ranks)? == WHOLE);
+    for &ranks in &[1, 2, 3, 4, 8] {
+        assert!(rt; is_gathered(&rt, rt.alloc(), &BASE, ranks)?);
     }
     Ok(())
 }
 
 #[test]
 fn points_outside_the_box_are_zeros(rt: HostRuntime) -> Result<(), Fail> {
-    for dataset in [SMALLER, INNER, WIDE] {
-        assert!(rt; gathered(&rt, rt.alloc(), &dataset, 1)? == WHOLE);
-        assert!(rt; gathered(&rt, rt.alloc(), &dataset, 3)? == WHOLE);
+    for dataset in &[SMALLER, INNER, WIDE] {
+        assert!(rt; is_gathered(&rt, rt.alloc(), dataset, 1)?);
+        assert!(rt; is_gathered(&rt, rt.alloc(), dataset, 3)?);
     }
     Ok(())
 }
 
 #[test]
 fn fields_stand_one_behind_the_other(rt: HostRuntime) -> Result<(), Fail> {
-    assert!(rt; gathered(&rt, rt.alloc(), &FIELDS, 1)? == WHOLE);
-    assert!(rt; gathered(&rt, rt.alloc(), &FIELDS, 2)? == WHOLE);
+    assert!(rt; is_gathered(&rt, rt.alloc(), &FIELDS, 1)?);
+    assert!(rt; is_gathered(&rt, rt.alloc(), &FIELDS, 2)?);
     Ok(())
 }
 
 #[test]
 fn absent_blocks_take_no_room(rt: HostRuntime) -> Result<(), Fail> {
-    assert!(rt; gathered(&rt, rt.alloc(), &SPARSE, 1)? == WHOLE);
-    assert!(rt; gathered(&rt, rt.alloc(), &SPARSE, 2)? == WHOLE);
+    assert!(rt; is_gathered(&rt, rt.alloc(), &SPARSE, 1)?);
+    assert!(rt; is_gathered(&rt, rt.alloc(), &SPARSE, 2)?);
     Ok(())
 }
 
-/// How many bytes each raw volume of the base was asked for.
-fn asked_of(alloc: Global, raws: &Vec<MemSource>) -> Result<Vec<u64>, NoMemory> {
-    let mut asked = Vec::new(alloc);
-    for raw in raws {
-        asked.push(raw.asked())?;
+/// Whether raw volumes were asked for so many bytes each.
+fn were_asked(raws: &Vec<MemSource>, asked: &[u64]) -> bool {
+    for (raw, asked) in raws.iter().zip(asked) {
+        if raw.asked() != *asked {
+            return false;
+        }
     }
-    Ok(asked)
+    raws.len() == asked.len()
 }
 
-/// How many bytes each of so many ranks reads for a whole step.
-fn asked_by<R: Threads + Sync + Abort>(
+/// Whether each of some ranks reads so many bytes for a whole step.
+fn reads_its_part<R: Threads + Sync + Abort>(
     rt: &R,
     alloc: Global,
-    ranks: usize,
-) -> Result<Vec<u64>, Fail> {
+    asked: &[u64],
+) -> Result<bool, Fail> {
+    let ranks = asked.len();
     assert!(rt; ranks <= 8);
     let mut raws = raws_of(alloc, BASE.raw, &[0; 8][..ranks])?;
     let ended = run(rt, alloc, &BASE, &mut raws, NONE, &FreeGate)?;
-    assert!(rt; ended == WHOLE);
-    Ok(asked_of(alloc, &raws)?)
+    Ok(ended == WHOLE && were_asked(&raws, asked))
 }
 
 /// How many bytes each of some ranks reads: those of its lines.
@@ -91,8 +92,8 @@ static ASKED: [&[u64]; 5] = [
 
 #[test]
 fn each_rank_reads_its_lines_alone(rt: HostRuntime) -> Result<(), Fail> {
-    for asked in ASKED {
-        assert!(rt; asked_by(&rt, rt.alloc(), asked.len())?.as_slice() == asked);
+    for asked in &ASKED {
+        assert!(rt; reads_its_part(&rt, rt.alloc(), asked)?);
     }
     Ok(())
 }
@@ -100,16 +101,17 @@ fn each_rank_reads_its_lines_alone(rt: HostRuntime) -> Result<(), Fail> {
 /// The base without its last sample.
 static FIFTEEN: [u8; 15] = [0, 1, 2, 3, 4, 5, 6, 7, 8, 9, 10, 11, 12, 13, 14];
 
-/// How gathering ends out of short raw volumes, and how many bytes they were asked for.
-fn ended_short<R: Threads + Sync + Abort>(
+/// Whether gathering ends so out of short raw volumes, which are asked for nothing.
+fn ends_short<R: Threads + Sync + Abort>(
     rt: &R,
     alloc: Global,
     fails: &[u64],
-) -> Result<(Ended, u64), Fail> {
+    end: Ended,
+) -> Result<bool, Fail> {
+    assert!(rt; fails.len() <= 3);
     let mut raws = raws_of(alloc, &FIFTEEN, fails)?;
     let ended = run(rt, alloc, &BASE, &mut raws, NONE, &FreeGate)?;
-    let asked = asked_of(alloc, &raws)?;
-    Ok((ended, asked.iter().copied().max().unwrap_or(0)))
+    Ok(ended == end && were_asked(&raws, &[0; 3][..fails.len()]))
 }
 
 /// The end where the raw volume is a byte too short.
@@ -139,8 +141,8 @@ static SHORTS: [(&[u64], Ended); 4] = [
 
 #[test]
 fn a_raw_volume_of_another_length_is_not_read(rt: HostRuntime) -> Result<(), Fail> {
-    for (fails, end) in SHORTS {
-        assert!(rt; ended_short(&rt, rt.alloc(), fails)? == (end, 0));
+    for &(fails, end) in &SHORTS {
+        assert!(rt; ends_short(&rt, rt.alloc(), fails, end)?);
     }
     Ok(())
 }
@@ -177,22 +179,48 @@ fn edition_of<R: Threads + Sync + Abort>(
     Ok(gather(rt, alloc, header, 0, &mut raws, &mut bay, &FreeGate)?)
 }
 
-/// The four blocks of a step, gathered by two ranks, and how each came.
-fn read_back<R: Threads + Sync + Abort>(
+/// Whether the four blocks of a step are these, and each comes so.
+fn has_blocks(
+    alloc: Global,
+    rt: &impl Abort,
+    header: &Header,
+    step: &Edition<MemLeaf>,
+    wanted: &[(Fetched, [u8; 4]); 4],
+) -> Result<bool, Fail>
+    requires { shape_in step.now.tables ≡ shape_of header.now }
+{
+    let mut reader = MemReader::new(Vec::new(alloc));
+    for (block, wanted) in wanted.iter().enumerate() {
+        if fetched(rt, header, step, &mut reader, block as u64)? != *wanted {
+            return Ok(false);
+        }
+    }
+    Ok(true)
+}
+
+/// Whether the step 0 of a header, gathered by two ranks, has these blocks.
+fn gathers_blocks<R: Threads + Sync + Abort>(
     rt: &R,
     alloc: Global,
     dataset: &Dataset,
-) -> Result<Vec<(Fetched, [u8; 4])>, Fail> {
-    let header = dataset.header(alloc, rt);
-    let step = edition_of(rt, alloc, dataset, &header)?;
+    header: &Header,
+    wanted: &[(Fetched, [u8; 4]); 4],
+) -> Result<bool, Fail> {
+    let step = edition_of(rt, alloc, dataset, header)?;
     assert!(rt; step.time() == 0);
     assert!(rt; step.leaves().len() == 2);
-    let mut reader = MemReader::new(Vec::new(alloc));
-    let mut blocks = Vec::new(alloc);
-    for block in 0..4 {
-        blocks.push(fetched(rt, &header, &step, &mut reader, block)?)?;
-    }
-    Ok(blocks)
+    has_blocks(alloc, rt, header, &step, wanted)
+}
+
+/// Whether the step 0 of a dataset, gathered by two ranks, has these blocks.
+fn reads_back<R: Threads + Sync + Abort>(
+    rt: &R,
+    alloc: Global,
+    dataset: &Dataset,
+    wanted: &[(Fetched, [u8; 4]); 4],
+) -> Result<bool, Fail> {
+    let header = dataset.header(alloc, rt);
+    gathers_blocks(rt, alloc, dataset, &header, wanted)
 }
 
 /// The blocks of the base.
@@ -213,9 +241,7 @@ static SPARSE_BLOCKS: [(Fetched, [u8; 4]); 4] = [
 
 #[test]
 fn the_answer_is_the_step_as_blocks(rt: HostRuntime) -> Result<(), Fail> {
-    let blocks = read_back(&rt, rt.alloc(), &BASE)?;
-    assert!(rt; blocks.as_slice() == BLOCKS.as_slice());
-    let blocks = read_back(&rt, rt.alloc(), &SPARSE)?;
-    assert!(rt; blocks.as_slice() == SPARSE_BLOCKS.as_slice());
+    assert!(rt; reads_back(&rt, rt.alloc(), &BASE, &BLOCKS)?);
+    assert!(rt; reads_back(&rt, rt.alloc(), &SPARSE, &SPARSE_BLOCKS)?);
     Ok(())
 }

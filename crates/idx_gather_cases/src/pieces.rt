@@ -18,20 +18,28 @@ pub(crate) fn bounds_of(rt: &impl Abort, region: &Region) -> [u64; 4] {
     [lo.get(0), lo.get(1), hi.get(0), hi.get(1)]
 }
 
-/// The bounds of the parts of so many ranks.
-fn parts_of(
+/// Whether regions have these bounds.
+fn have_bounds(rt: &impl Abort, regions: &Vec<Region>, wanted: &[[u64; 4]]) -> bool {
+    for (region, bounds) in regions.iter().zip(wanted) {
+        if bounds_of(rt, region) != *bounds {
+            return false;
+        }
+    }
+    regions.len() == wanted.len()
+}
+
+/// Whether so many ranks have parts of these bounds.
+fn have_parts(
     alloc: Global,
     rt: &impl Abort,
     dataset: &Dataset,
     ranks: u32,
-) -> Result<Vec<[u64; 4]>, NoMemory> {
+    wanted: &[[u64; 4]],
+) -> Result<bool, NoMemory> {
     assert!(rt; ranks >= 1);
     let region = dataset.header(alloc, rt).region();
-    let mut parts = Vec::new(alloc);
-    for part in rank_regions(alloc, &region, ranks)? {
-        parts.push(bounds_of(rt, &part))?;
-    }
-    Ok(parts)
+    let parts = rank_regions(alloc, &region, ranks)?;
+    Ok(have_bounds(rt, &parts, wanted))
 }
 
 /// The parts of some ranks of the base, line after line.
@@ -45,17 +53,16 @@ static LINES: [(u32, &[[u64; 4]]); 5] = [
 
 #[test]
 fn ranks_have_lines(rt: HostRuntime) -> Result<(), Fail> {
-    for (ranks, lines) in LINES {
-        let parts = parts_of(rt.alloc(), &rt, &BASE, ranks)?;
-        assert!(rt; parts.as_slice() == lines);
+    for &(ranks, lines) in &LINES {
+        assert!(rt; have_parts(rt.alloc(), &rt, &BASE, ranks, lines)?);
     }
     Ok(())
 }
 
 #[test]
 fn a_box_is_cut_along_its_longest_axis(rt: HostRuntime) -> Result<(), Fail> {
-    let parts = parts_of(rt.alloc(), &rt, &WIDE, 2)?;
-    assert!(rt; parts.as_slice() == [[0, 0, 1, 1], [2, 0, 3, 1]].as_slice());
+    let halves = [[0, 0, 1, 1], [2, 0, 3, 1]];
+    assert!(rt; have_parts(rt.alloc(), &rt, &WIDE, 2, &halves)?);
     Ok(())
 }
 

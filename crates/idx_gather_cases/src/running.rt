@@ -139,8 +139,25 @@ pub(crate) fn run<G: Gate, R: Threads + Sync + Abort>(
     assert!(rt; !raws.is_empty());
     assert!(rt; raws.len() <= 256);
     let header = dataset.header(alloc, rt);
-    let mut bay = bay_of(alloc, rt, &header, fails)?;
-    let refusal = refusal_of(rt, alloc, &header, raws, &mut bay, gate);
+    run_under(rt, alloc, dataset, &header, raws, fails, gate)
+}
+
+/// Gathers the step 0 of a header, and tells how it ended.
+fn run_under<G: Gate, R: Threads + Sync + Abort>(
+    rt: &R,
+    alloc: Global,
+    dataset: &Dataset,
+    header: &Header,
+    raws: &mut Vec<MemSource>,
+    fails: Fails,
+    gate: &G,
+) -> Result<Ended, Fail>
+    requires some { 1 ≤ vec_len raws.old }
+    requires few { vec_len raws.old ≤ 256 }
+    requires alike { AreAlike raws.old.items }
+{
+    let mut bay = bay_of(alloc, rt, header, fails)?;
+    let refusal = refusal_of(rt, alloc, header, raws, &mut bay, gate);
     end_of(alloc, dataset, refusal, &bay)
 }
 

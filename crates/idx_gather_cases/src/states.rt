@@ -96,25 +96,81 @@ fn committed(alloc: Global, sealed: Sealed<KeptLeaf>, bay: &mut KeptBay) -> Resu
     Ok(edition.leaves().len())
 }
 
-/// Gathers the step 0 within so much room, and tells of how many batches each window is.
-fn gathered_within<R: Threads + Sync + Abort>(
+/// Sees that this stands in a bay.
+fn see_standing(
+    alloc: Global,
+    rt: &impl Abort,
+    dataset: &Dataset,
+    bay: &KeptBay,
+    standing: Standing,
+) -> Result<(), Fail> {
+    assert!(rt; what_stands(alloc, dataset, bay.committed())? == standing);
+    Ok(())
+}
+
+/// Commits the two files of a sealed step, which stand then and not before.
+fn commit_both(
+    alloc: Global,
+    rt: &impl Abort,
+    dataset: &Dataset,
+    sealed: Sealed<KeptLeaf>,
+    bay: &mut KeptBay,
+) -> Result<(), Fail>
+    requires { HasFolder sealed.header sealed.step }
+{
+    see_standing(alloc, rt, dataset, bay, Standing::Nothing)?;
+    assert!(rt; committed(alloc, sealed, bay)? == 2);
+    see_standing(alloc, rt, dataset, bay, Standing::Step)
+}
+
+/// Gathers the step 0 of a header out of raw volumes within so much room.
+fn gather_under<R: Threads + Sync + Abort>(
+    rt: &R,
+    alloc: Global,
+    dataset: &Dataset,
+    header: &Header,
+    raws: &mut Vec<MemSource>,
+    room: u64,
+    batches: &mut Vec<u32>,
+) -> Result<(), Fail>
+    requires alike { AreAlike raws.old.items }
+    requires folder { HasFolder header.now 0 }
+{
+    let mut bay = KeptBay::new(alloc);
+    let sealed = sealed_within(rt, alloc, header, raws, room, &mut bay, batches)?;
+    commit_both(alloc, rt, dataset, sealed, &mut bay)
+}
+
+/// Gathers the step 0 out of raw volumes within so much room.
+fn gather_within<R: Threads + Sync + Abort>(
+    rt: &R,
+    alloc: Global,
+    dataset: &Dataset,
+    raws: &mut Vec<MemSource>,
+    room: u64,
+    batches: &mut Vec<u32>,
+) -> Result<(), Fail>
+    requires { AreAlike raws.old.items }
+{
+    let header = dataset.header(alloc, rt);
+    see_folder(rt, &header);
+    gather_under(rt, alloc, dataset, &header, raws, room, batches)
+}
+
+/// Whether the step 0 is gathered within so much room in windows of so many batches.
+fn gathers_within<R: Threads + Sync + Abort>(
     rt: &R,
     alloc: Global,
     dataset: &Dataset,
     ranks: usize,
     room: u64,
-) -> Result<Vec<u32>, Fail> {
+    wanted: &[u32],
+) -> Result<bool, Fail> {
     assert!(rt; ranks <= 8);
-    let header = dataset.header(alloc, rt);
-    see_folder(rt, &header);
     let mut raws = raws_of(alloc, dataset.raw, &[0; 8][..ranks])?;
-    let mut bay = KeptBay::new(alloc);
     let mut batches = Vec::new(alloc);
-    let sealed = sealed_within(rt, alloc, &header, &mut raws, room, &mut bay, &mut batches)?;
-    assert!(rt; what_stands(alloc, dataset, bay.committed())? == Standing::Nothing);
-    assert!(rt; committed(alloc, sealed, &mut bay)? == 2);
-    assert!(rt; what_stands(alloc, dataset, bay.committed())? == Standing::Step);
-    Ok(batches)
+    gather_within(rt, alloc, dataset, &mut raws, room, &mut batches)?;
+    Ok(batches.as_slice() == wanted)
 }
 
 /// Of how many batches each window of the base is, within some room: a piece has one point, a file has 128 bytes, and 8 of
@@ -131,10 +187,9 @@ static WINDOWS: [(u64, &[u32]); 7] = [
 
 #[test]
 fn windows_and_batches_keep_to_the_room(rt: HostRuntime) -> Result<(), Fail> {
-    for (room, wanted) in WINDOWS {
-        for ranks in [1, 2, 3, 8] {
-            let batches = gathered_within(&rt, rt.alloc(), &BASE, ranks, room)?;
-            assert!(rt; batches.as_slice() == wanted);
+    for &(room, wanted) in &WINDOWS {
+        for &ranks in &[1, 2, 3, 8] {
+            assert!(rt; gathers_within(&rt, rt.alloc(), &BASE, ranks, room, wanted)?);
         }
     }
     Ok(())
@@ -142,9 +197,7 @@ fn windows_and_batches_keep_to_the_room(rt: HostRuntime) -> Result<(), Fail> {
 
 #[test]
 fn other_steps_are_gathered_within_little_room(rt: HostRuntime) -> Result<(), Fail> {
-    let batches = gathered_within(&rt, rt.alloc(), &FIELDS, 2, 12)?;
-    assert!(rt; batches.as_slice() == [2, 2].as_slice());
-    let batches = gathered_within(&rt, rt.alloc(), &SPARSE, 2, 1)?;
-    assert!(rt; batches.as_slice() == [1, 1].as_slice());
+    assert!(rt; gathers_within(&rt, rt.alloc(), &FIELDS, 2, 12, &[2, 2])?);
+    assert!(rt; gathers_within(&rt, rt.alloc(), &SPARSE, 2, 1, &[1, 1])?);
     Ok(())
 }
