@@ -148,12 +148,23 @@ fn share_all(rt: &impl Abort, pieces: &Vec<Piece>, count: usize) -> bool {
     pieces.len() == count && ids_rise(pieces)
 }
 
+/// The pieces of the base, each with so many last digits, by two ranks.
+fn base_pieces(alloc: Global, rt: &impl Abort, digits: u32) -> Result<Vec<Piece>, NoMemory> {
+    let header = BASE.header(alloc, rt);
+    pieces_with(alloc, rt, &header, digits, 2)
+}
+
+/// Whether the pieces with so many last digits divide the points of the base.
+fn divides(alloc: Global, rt: &impl Abort, digits: u32) -> Result<bool, NoMemory> {
+    assert!(rt; digits < 5);
+    let pieces = base_pieces(alloc, rt, digits)?;
+    Ok(share_all(rt, &pieces, 16 >> digits))
+}
+
 #[test]
 fn each_point_is_of_one_piece(rt: HostRuntime) -> Result<(), Fail> {
-    let header = BASE.header(rt.alloc(), &rt);
     for digits in 0..5 {
-        let pieces = pieces_with(rt.alloc(), &rt, &header, digits, 2)?;
-        assert!(rt; share_all(&rt, &pieces, 16 >> digits));
+        assert!(rt; divides(rt.alloc(), &rt, digits)?);
     }
     Ok(())
 }
@@ -189,12 +200,20 @@ fn are_pieces(rt: &impl Abort, pieces: &Vec<Piece>, wanted: &[(u64, [u64; 4], &[
     pieces.len() == wanted.len()
 }
 
+/// Whether the pieces of the base with so many last digits are these.
+fn has_pieces(
+    alloc: Global,
+    rt: &impl Abort,
+    digits: u32,
+    wanted: &[(u64, [u64; 4], &[u32])],
+) -> Result<bool, NoMemory> {
+    let pieces = base_pieces(alloc, rt, digits)?;
+    Ok(are_pieces(rt, &pieces, wanted))
+}
+
 #[test]
 fn pieces_know_their_ranks(rt: HostRuntime) -> Result<(), Fail> {
-    let header = BASE.header(rt.alloc(), &rt);
-    for (digits, wanted) in [(2, QUARTERS.as_slice()), (3, &HALVES)] {
-        let pieces = pieces_with(rt.alloc(), &rt, &header, digits, 2)?;
-        assert!(rt; are_pieces(&rt, &pieces, wanted));
-    }
+    assert!(rt; has_pieces(rt.alloc(), &rt, 2, &QUARTERS)?);
+    assert!(rt; has_pieces(rt.alloc(), &rt, 3, &HALVES)?);
     Ok(())
 }

@@ -3,7 +3,10 @@ use crate::dataset::BASE;
 use crate::running::{NONE, WHOLE, raws_of, run};
 use idx_memory::HoldGate;
 use idx_outside::GatePlace;
+use std::alloc::Global;
+use std::process::Abort;
 use std::test::Fail;
+use std::thread::Threads;
 
 /// For so many turns a worker is held at most.
 const TURNS: u64 = 1_000_000;
@@ -11,16 +14,35 @@ const TURNS: u64 = 1_000_000;
 /// Where a worker is held.
 static PLACES: [GatePlace; 3] = [GatePlace::Parcelled, GatePlace::Shipped, GatePlace::Sealed];
 
+/// Whether a whole step is gathered by two workers under a gate.
+fn is_gathered<R: Threads + Sync + Abort>(
+    rt: &R,
+    alloc: Global,
+    gate: &HoldGate,
+) -> Result<bool, Fail> {
+    let mut raws = raws_of(alloc, BASE.raw, &[0, 0])?;
+    Ok(run(rt, alloc, &BASE, &mut raws, NONE, gate)? == WHOLE)
+}
+
+/// Gathers a step where one worker is held at this place, and the other one goes on.
+fn hold<R: Threads + Sync + Abort>(
+    rt: &R,
+    alloc: Global,
+    place: GatePlace,
+    held: u32,
+    other: u32,
+) -> Result<(), Fail> {
+    let gate = HoldGate::new(held, place, other, place, TURNS);
+    assert!(rt; is_gathered(rt, alloc, &gate)?);
+    assert!(rt; !gate.met_limit(), "worker {held}");
+    Ok(())
+}
+
 #[test]
 fn two_workers_are_at_work_beside_each_other(rt: HostRuntime) -> Result<(), Fail> {
-    for place in PLACES {
-        for (held, other) in [(0, 1), (1, 0)] {
-            let gate = HoldGate::new(held, place, other, place, TURNS);
-            let mut raws = raws_of(rt.alloc(), BASE.raw, &[0, 0])?;
-            let ended = run(&rt, rt.alloc(), &BASE, &mut raws, NONE, &gate)?;
-            assert!(rt; ended == WHOLE);
-            assert!(rt; !gate.met_limit(), "worker {held}");
-        }
+    for &place in &PLACES {
+        hold(&rt, rt.alloc(), place, 0, 1)?;
+        hold(&rt, rt.alloc(), place, 1, 0)?;
     }
     Ok(())
 }
