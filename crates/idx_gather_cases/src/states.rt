@@ -28,7 +28,7 @@ fn fill<R: Threads + Sync>(
     requires alike { AreAlike raws.old.items }
     ensures opening { IfOk result (λ done. done.opening ≡ docking.opening) }
     ensures full { IfOk result (λ done. AreFull done.docks.items) }
-    ensures number { vec_len raws.new ≡ vec_len raws.old }
+    ensures number { OnOk result (vec_len raws.new ≡ vec_len raws.old) }
     ensures alike { OnOk result (AreAlike raws.new.items) }
 {
     let mut docking = docking;

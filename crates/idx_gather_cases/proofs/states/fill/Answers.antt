@@ -1,8 +1,16 @@
-use Rattle.std.proofs.Common.{rules, ◌∙◌}
+use Rattle.std.proofs.Common.{rules, sym, ◌∙◌}
 use Rattle.idx_gather.proofs.BatchLemmas.{same_number}
 use Rattle.idx_gather.proofs.FillLemmas.{alike_still}
 use Rattle.idx_gather_cases.specs.Ready.{told}
 use Rattle.idx_gather_cases.proofs.states.fill.Goals as goal
+
+pub parcel-requires-clause-ranks : goal.parcel-requires-clause-ranks
+parcel-requires-clause-ranks g c κs within =
+    let inv = c.batches.invariant in
+    c.batches.raws.ok.0 ∙ inv.number ∙ sym c.args.raws.now.ok.0 ∙ c.requires.ranks ∙ sym (λ i. (inv.opening i).ranks)
+
+pub parcel-requires-clause-alike : goal.parcel-requires-clause-alike
+parcel-requires-clause-alike g c κs within = c.batches.invariant.alike
 
 pub batches-preserved : goal.batches-preserved
 batches-preserved g c =
