@@ -1,6 +1,7 @@
 //! Answers out of a hall of steps in memory.
-ghost use Rattle.std.specs.Prelude.{◌≡◌, ◌<◌, ◌*◌, ◌==◌, ◌∷◌, [], IfOk, OnOk, Some, drop, if◌then◌else◌, length, not, replicate, take};
+ghost use Rattle.std.specs.Prelude.{◌≡◌, ◌≢◌, ◌<◌, ◌*◌, ◌==◌, ◌∷◌, [], IfOk, None, OnOk, Some, drop, if◌then◌else◌, length, not, replicate, take};
 ghost use Rattle.idx_layout.specs.Shape.{shape_of};
+ghost use Rattle.idx_turn.specs.SoloValue.{latest};
 
 use idx_geom::{Point, Region};
 use idx_hall::Hall;
@@ -136,6 +137,26 @@ struct Outcome {
     hall: Hall<Step>,
 }
 
+/// Asks a question of an owned hall.
+fn ask_owned(
+    alloc: Global,
+    rt: &impl Abort,
+    solo: &mut Solo<Hall<Step>>,
+    ask: &Ask,
+    reader: &mut MemReader,
+    out: &mut Bytes,
+) -> Result<Report, QueryFault>
+    requires field { ask.now.field ≡ 0 }
+    requires axes { length ask.now.region ≡ 2 }
+    requires kept { solo.old.kept ≢ None }
+    requires shape { (latest solo.old.kept solo.old.taken).shape ≡ record { blocks = 4; lengths = 4 ∷ [] } }
+    ensures kept { solo.new.kept ≢ None }
+    ensures shape { (latest solo.new.kept solo.new.taken).shape ≡ record { blocks = 4; lengths = 4 ∷ [] } }
+{
+    let header = header_of(alloc, rt);
+    answer(alloc, &header, ask, solo, reader, out)
+}
+
 /// Asks a question of a hall, where this read fails.
 fn ask_hall(
     alloc: Global,
@@ -149,11 +170,10 @@ fn ask_hall(
     requires shape { hall.shape ≡ record { blocks = 4; lengths = 4 ∷ [] } }
     ensures { IfOk result (λ outcome. outcome.hall.shape ≡ record { blocks = 4; lengths = 4 ∷ [] }) }
 {
-    let header = header_of(alloc, rt);
     let mut reader = MemReader::new(Vec::from_slice(alloc, &[fails])?);
     let mut solo = Solo::new(hall);
     let mut out = Bytes::new(alloc);
-    let answer = answer(alloc, &header, ask, &mut solo, &mut reader, &mut out);
+    let answer = ask_owned(alloc, rt, &mut solo, ask, &mut reader, &mut out);
     Ok(Outcome {
         answer,
         reads: reader.reads(),
@@ -428,20 +448,32 @@ fn the_step_of_the_time_answers(rt: HostRuntime) -> Result<(), Fail> {
     Ok(())
 }
 
+/// Asks a question for the whole box of a hall of one step.
+fn ask_once(
+    alloc: Global,
+    rt: &impl Abort,
+    out: &mut Bytes,
+) -> Result<Result<Report, QueryFault>, Fail> {
+    let ask = question(rt, 0, BOX.ends, BOX.levels);
+    let mut solo = Solo::new(hall_of(alloc, rt, &BOX)?);
+    let mut reader = MemReader::new(Vec::new(alloc));
+    Ok(ask_owned(alloc, rt, &mut solo, &ask, &mut reader, out))
+}
+
+/// Whether the samples of the whole box were answered behind a byte 7, or it was left alone for want of memory.
+fn is_behind_or_left(answer: Result<Report, QueryFault>, bytes: &[u8]) -> bool {
+    match answer {
+        Ok(_) => bytes.first() == Some(&7) && bytes.get(1..) == Some(WHOLE),
+        Err(fault) => fault == QueryFault::NoMemory && bytes == [7].as_slice(),
+    }
+}
+
 /// Whether a question for the whole box, of a hall of one step, is answered behind the bytes that were there, or leaves
 /// them as they were for want of memory.
 fn answers_or_leaves(alloc: Global, rt: &impl Abort) -> Result<bool, Fail> {
-    let ask = question(rt, 0, BOX.ends, BOX.levels);
-    let header = header_of(alloc, rt);
-    let mut solo = Solo::new(hall_of(alloc, rt, &BOX)?);
-    let mut reader = MemReader::new(Vec::new(alloc));
     let mut out = Bytes::from_slice(alloc, &[7])?;
-    let answer = answer(alloc, &header, &ask, &mut solo, &mut reader, &mut out);
-    let bytes = out.as_slice();
-    Ok(match answer {
-        Ok(_) => bytes.first() == Some(&7) && bytes.get(1..) == Some(WHOLE),
-        Err(fault) => fault == QueryFault::NoMemory && bytes == [7].as_slice(),
-    })
+    let answer = ask_once(alloc, rt, &mut out)?;
+    Ok(is_behind_or_left(answer, out.as_slice()))
 }
 
 /// To be tried with each allocation failing in turn.
@@ -451,22 +483,50 @@ fn want_of_memory_leaves_the_bytes(rt: HostRuntime) -> Result<(), Fail> {
     Ok(())
 }
 
+/// A question for the first sample, which needs block 0 alone.
+fn first_sample(rt: &impl Abort) -> Ask
+    ensures field { result.field ≡ 0 }
+    ensures axes { length result.region ≡ 2 }
+{
+    question(rt, 0, ([0, 0], [0, 0]), (0, 0))
+}
+
+/// Whether block 0 is the first to go out of the cache of a hall, so that it is read again.
+fn goes_first(alloc: Global, rt: &impl Abort, hall: Hall<Step>) -> Result<bool, Fail>
+    requires { hall.shape ≡ record { blocks = 4; lengths = 4 ∷ [] } }
+{
+    let mut hall = hall;
+    let gone = hall.evict(1);
+    let again = ask_hall(alloc, rt, hall, &first_sample(rt), NONE)?;
+    Ok(gone == 1 && again.reads == 1)
+}
+
+/// Whether a question for block 0 finds it in the cache of a hall, or ends for want of memory before it has looked: then
+/// that block is still the first to go.
+fn finds_first_or_has_not_looked(
+    alloc: Global,
+    rt: &impl Abort,
+    hall: Hall<Step>,
+) -> Result<bool, Fail>
+    requires { hall.shape ≡ record { blocks = 4; lengths = 4 ∷ [] } }
+{
+    let outcome = ask_hall(alloc, rt, hall, &first_sample(rt), 1)?;
+    match outcome.answer {
+        Ok(report) => Ok(report.hits == 1 && outcome.out.as_slice() == [0].as_slice()),
+        Err(QueryFault::NoMemory) => goes_first(alloc, rt, outcome.hall),
+        Err(_) => Ok(false),
+    }
+}
+
 /// Whether a question whose only block is the least recently used of four cached ones finds it there, or ends for want of
 /// memory before it has looked: then that block is still the first to go.
 fn finds_or_has_not_looked(alloc: Global, rt: &impl Abort) -> Result<bool, Fail> {
     let ask = question(rt, 0, BOX.ends, BOX.levels);
     let warm = ask_hall(alloc, rt, hall_of(alloc, rt, &BOX)?, &ask, NONE)?;
-    if warm.answer.is_err() {
-        return Ok(warm.answer == Err(QueryFault::NoMemory));
+    match warm.answer {
+        Ok(_) => finds_first_or_has_not_looked(alloc, rt, warm.hall),
+        Err(fault) => Ok(fault == QueryFault::NoMemory),
     }
-    let origin = question(rt, 0, ([0, 0], [0, 0]), (0, 0));
-    let mut outcome = ask_hall(alloc, rt, warm.hall, &origin, 1)?;
-    if let Ok(report) = outcome.answer {
-        return Ok(report.hits == 1 && outcome.out.as_slice() == [0].as_slice());
-    }
-    let gone = outcome.hall.evict(1);
-    let again = ask_hall(alloc, rt, outcome.hall, &origin, NONE)?;
-    Ok(gone == 1 && outcome.answer == Err(QueryFault::NoMemory) && again.reads == 1)
 }
 
 /// To be tried with each allocation failing in turn.

@@ -1,5 +1,5 @@
 //! Answers in two rounds.
-ghost use Rattle.std.specs.Prelude.{◌≡◌, IfOk, None, OnOk, length};
+ghost use Rattle.std.specs.Prelude.{◌≡◌, IfOk, None, length};
 ghost use Rattle.idx_query_cases.specs.Wide.{wide_blocks};
 
 use crate::late::Late;
@@ -44,26 +44,36 @@ fn hall_of(alloc: Global, rt: &impl Abort) -> Result<Hall<Wide>, Fail>
     Ok(hall)
 }
 
-/// The report of the answer, which is nine samples of zeros.
+/// Asks the question of a turn, whose step is not read.
 fn ask_turn<T: Turn<Hall<Wide>>>(
     alloc: Global,
     rt: &impl Abort,
     turn: &mut T,
-) -> Result<Report, Fail>
+    out: &mut Bytes,
+) -> Result<Report, QueryFault>
     requires shape { T.shape turn.old ≡ wide_blocks }
     requires given { T.given turn.old ≡ None }
-    ensures shape { OnOk result (T.shape turn.new ≡ wide_blocks) }
-    ensures given { OnOk result (T.given turn.new ≡ None) }
+    ensures shape { T.shape turn.new ≡ wide_blocks }
+    ensures given { T.given turn.new ≡ None }
 {
     let header = header_of(alloc, rt);
-    let ask = question(rt);
     let mut reader = MemReader::new(Vec::new(alloc));
-    let mut out = Bytes::new(alloc);
-    let answer = answer(alloc, &header, &ask, turn, &mut reader, &mut out);
-    let report = answer.ok().expect(rt, "an answer");
-    assert!(rt; out.as_slice() == [0; 144].as_slice());
+    let answer = answer(alloc, &header, &question(rt), turn, &mut reader, out);
     assert!(rt; reader.reads() == 0);
-    Ok(report)
+    answer
+}
+
+/// The report of the answer, which is nine samples of zeros.
+fn report_of<T: Turn<Hall<Wide>>>(alloc: Global, rt: &impl Abort, turn: &mut T) -> Report
+    requires shape { T.shape turn.old ≡ wide_blocks }
+    requires given { T.given turn.old ≡ None }
+    ensures shape { T.shape turn.new ≡ wide_blocks }
+    ensures given { T.given turn.new ≡ None }
+{
+    let mut out = Bytes::new(alloc);
+    let answer = ask_turn(alloc, rt, turn, &mut out);
+    assert!(rt; out.as_slice() == [0; 144].as_slice());
+    answer.ok().expect(rt, "an answer")
 }
 
 /// The report where none of the six blocks is cached.
@@ -79,7 +89,7 @@ fn all_absent(post: u64) -> Report {
 #[test]
 fn six_blocks_come_in_two_rounds(rt: HostRuntime) -> Result<(), Fail> {
     let mut solo = Solo::new(hall_of(rt.alloc(), &rt)?);
-    assert!(rt; ask_turn(rt.alloc(), &rt, &mut solo)? == all_absent(0));
+    assert!(rt; report_of(rt.alloc(), &rt, &mut solo) == all_absent(0));
     Ok(())
 }
 
@@ -87,7 +97,7 @@ fn six_blocks_come_in_two_rounds(rt: HostRuntime) -> Result<(), Fail> {
 fn all_rounds_are_of_the_first_step(rt: HostRuntime) -> Result<(), Fail> {
     let next = Arc::new(rt.alloc(), Wide { time: 0 })?;
     let mut late = Late::new(hall_of(rt.alloc(), &rt)?, next);
-    assert!(rt; ask_turn(rt.alloc(), &rt, &mut late)? == all_absent(0));
-    assert!(rt; ask_turn(rt.alloc(), &rt, &mut late)? == all_absent(1));
+    assert!(rt; report_of(rt.alloc(), &rt, &mut late) == all_absent(0));
+    assert!(rt; report_of(rt.alloc(), &rt, &mut late) == all_absent(1));
     Ok(())
 }
