@@ -1,9 +1,11 @@
 //! `convert` by several ranks.
+ghost use Rattle.std.specs.Prelude.{◌<◌, IfOk, vec_len};
+
 use crate::convert_cases::{STEP, WORDS};
-use crate::setting::{done_of, holds_step, words_in};
+use crate::setting::{done_of, holds_step, readers_of, words_in};
 use crate::waiting_source::WaitingSource;
 use idx_commands::{Cause, Done};
-use idx_memory::{MemBay, MemDoor, MemReader, MemSink};
+use idx_memory::{MemBay, MemDoor, MemSink};
 use idx_outside::Bytes;
 use std::alloc::{AllocError, Global};
 use std::sync::Wait;
@@ -32,32 +34,51 @@ fn converted<T: Threads + Wait + Sync>(
     ranks: u32,
     raws: &mut Vec<WaitingSource<'_>>,
 ) -> Result<(Done, bool), AllocError> {
-    let words = words_for(alloc, ranks)?;
+    if raws.is_empty() {
+        return Ok((Done::of(Cause::RawFault), false));
+    }
     let mut bay = MemBay::new(
         Bytes::new(alloc),
         Vec::new(alloc),
         Vec::new(alloc),
         Vec::new(alloc),
     );
-    let mut readers = Vec::with_capacity(alloc, 1)?;
-    readers.push(MemReader::new(Vec::new(alloc)))?;
-    let mut doors = Vec::with_capacity(alloc, 1)?;
-    doors.push(MemDoor::new(Vec::new(alloc), Vec::new(alloc)))?;
+    let done = convert(rt, alloc, ranks, raws, &mut bay)?;
+    Ok((done, holds_step(alloc, STEP, &bay)?))
+}
+
+/// Runs `convert` by so many ranks out of these raw volumes over a bay.
+fn convert<T: Threads + Wait + Sync>(
+    rt: &T,
+    alloc: Global,
+    ranks: u32,
+    raws: &mut Vec<WaitingSource<'_>>,
+    bay: &mut MemBay,
+) -> Result<Done, AllocError>
+    requires { 0 < vec_len raws.old }
+{
+    let words = words_for(alloc, ranks)?;
+    let mut readers = readers_of(alloc, 0)?;
+    let mut doors = silent_doors(alloc)?;
     let mut out = MemSink::new(Vec::new(alloc));
-    if raws.is_empty() {
-        return Ok((Done::of(Cause::RawFault), false));
-    }
     let done = done_of(
         rt,
         alloc,
         &words,
         raws,
-        &mut bay,
+        bay,
         &mut readers,
         &mut out,
         &mut doors,
     );
-    Ok((done, holds_step(alloc, STEP, &bay)?))
+    Ok(done)
+}
+
+/// One door without links.
+fn silent_doors(alloc: Global) -> Result<Vec<MemDoor>, AllocError>
+    ensures { IfOk result (λ doors. 0 < vec_len doors) }
+{
+    Ok(vec![in alloc; MemDoor::new(Vec::new(alloc), Vec::new(alloc))]?)
 }
 
 /// So many raw volumes of these bytes, none of which waits.

@@ -2,8 +2,7 @@
 use crate::convert_cases::{self, EMPTY, STEP, WORDS};
 use crate::query_cases;
 use crate::setting::{
-    Case, Fails, HEADER, NONE_FAILS, Step, Stored, WHOLE, calls, file_of, first_other, run_over,
-    unused_door,
+    Case, Fails, HEADER, NONE_FAILS, Step, Stored, WHOLE, calls, done_over, file_of, first_other,
 };
 use idx_commands::{Cause, Done};
 use idx_memory::MemBay;
@@ -149,8 +148,7 @@ fn converted<T: Threads + Wait + Sync>(
     raw: u64,
 ) -> Result<Done, AllocError> {
     let fails = Fails { raw, ..NONE_FAILS };
-    let end = run_over(rt, alloc, WORDS, (0, 16), fails, bay, unused_door(alloc)?)?;
-    Ok(end.done)
+    done_over(rt, alloc, WORDS, (0, 16), fails, bay)
 }
 
 #[test]

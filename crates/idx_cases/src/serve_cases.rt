@@ -1,8 +1,10 @@
 //! Cases of `serve`.
+ghost use Rattle.std.specs.Prelude.{◌<◌, IfOk, vec_len};
+
 use crate::convert_cases::STEP;
 use crate::query_cases::{DAMAGES, first_damaged, second_damaged};
 use crate::revision_cases::SECOND_AGAIN;
-use crate::setting::{Case, Fails, HEADER, NONE_FAILS, Step, calls, door_after};
+use crate::setting::{Case, Fails, HEADER, NONE_FAILS, Step, calls, ends_at};
 use idx_commands::Cause;
 use idx_header::HeaderKind;
 use idx_memory::{MemDoor, MemLink};
@@ -535,10 +537,22 @@ fn ends_as_wanted<T: Threads + Wait + Sync>(
     alloc: Global,
     serving: &Serving,
 ) -> Result<bool, AllocError> {
-    let door = door_of(alloc, serving.links, serving.door)?;
-    match door_after(rt, alloc, &serving.case, door)? {
-        Some(door) => Ok(came_back(&door, serving.written)),
-        None => Ok(false),
+    let mut doors = doors_of(alloc, serving)?;
+    Ok(ends_at(rt, alloc, &serving.case, &mut doors)? && first_came_back(&doors, serving.written))
+}
+
+/// The door of a run.
+fn doors_of(alloc: Global, serving: &Serving) -> Result<Vec<MemDoor>, AllocError>
+    ensures { IfOk result (λ doors. 0 < vec_len doors) }
+{
+    Ok(vec![in alloc; door_of(alloc, serving.links, serving.door)?]?)
+}
+
+/// Whether exactly these links were handed out by the first door and came back.
+fn first_came_back(doors: &[MemDoor], written: &[Replies]) -> bool {
+    match doors.first() {
+        Some(door) => came_back(door, written),
+        None => false,
     }
 }
 
@@ -556,27 +570,44 @@ fn first_other<T: Threads + Wait + Sync>(
     Ok(None)
 }
 
+/// The run in which these calls fail.
+fn failing((bay, reader, reads): Failure) -> Case {
+    Case {
+        fails: Fails {
+            bay,
+            reader,
+            ..EARLY_CALLS
+        },
+        cause: Cause::StoreFault,
+        reads,
+        ..REFUSED_CASE
+    }
+}
+
+/// The run of a case that is refused before it hands out a link.
+fn refused(case: Case) -> Serving {
+    Serving { case, ..REFUSED }
+}
+
 /// The number of the first failure that does not end as it is to, if there is one.
 fn first_other_failure<T: Threads + Wait + Sync>(
     rt: &T,
     alloc: Global,
 ) -> Result<Option<usize>, AllocError> {
-    for (number, (bay, reader, reads)) in FAILURES.iter().enumerate() {
-        let case = Case {
-            fails: Fails {
-                bay: *bay,
-                reader: *reader,
-                ..EARLY_CALLS
-            },
-            cause: Cause::StoreFault,
-            reads: *reads,
-            ..REFUSED_CASE
-        };
-        if !ends_as_wanted(rt, alloc, &Serving { case, ..REFUSED })? {
+    for (number, failure) in FAILURES.iter().enumerate() {
+        if !ends_as_wanted(rt, alloc, &refused(failing(*failure)))? {
             return Ok(Some(number));
         }
     }
     Ok(None)
+}
+
+/// The same words as in the case of `serve` in place of those of a case of `query`.
+fn as_serve(case: Case) -> Case {
+    Case {
+        words: CASE.words,
+        ..case
+    }
 }
 
 /// Whether a case of `query` that ends before a block is read ends so as one of `serve` too.
@@ -585,11 +616,7 @@ fn ends_as_query<T: Threads + Wait + Sync>(
     alloc: Global,
     case: Case,
 ) -> Result<bool, AllocError> {
-    let case = Case {
-        words: CASE.words,
-        ..case
-    };
-    ends_as_wanted(rt, alloc, &Serving { case, ..REFUSED })
+    ends_as_wanted(rt, alloc, &refused(as_serve(case)))
 }
 
 /// The number of the first damage, to the first file or to the second, that is not answered as it is to be.

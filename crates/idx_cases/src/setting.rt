@@ -1,5 +1,5 @@
 //! A case: words, what stands before a run over forms in memory, and how the run is to end.
-ghost use Rattle.std.specs.Prelude.{◌<◌, vec_len};
+ghost use Rattle.std.specs.Prelude.{◌≡◌, ◌<◌, IfOk, vec_len};
 ghost use Rattle.idx_gather.specs.Gather.{HaveSame};
 
 use idx_commands::{Cause, Done, run};
@@ -103,55 +103,77 @@ fn ends_as_wanted<T: Threads + Wait + Sync>(
     alloc: Global,
     case: &Case,
 ) -> Result<bool, AllocError> {
-    Ok(door_after(rt, alloc, case, unused_door(alloc)?)?.is_some())
+    let mut doors = unused_doors(alloc)?;
+    ends_at(rt, alloc, case, &mut doors)
 }
 
-/// The door after the run of a case over it. `None` where the run does not end as it is to.
-pub(crate) fn door_after<T: Threads + Wait + Sync>(
+/// Whether a case ends as it is to at these doors.
+pub(crate) fn ends_at<T: Threads + Wait + Sync>(
     rt: &T,
     alloc: Global,
     case: &Case,
-    door: MemDoor,
-) -> Result<Option<MemDoor>, AllocError> {
+    doors: &mut Vec<MemDoor>,
+) -> Result<bool, AllocError>
+    requires { 0 < vec_len doors.old }
+{
     let mut bay = bay_of(alloc, case)?;
+    run_earlier(rt, alloc, case, &mut bay)?;
+    Ok(ends_over(rt, alloc, case, &mut bay, doors)? && leaves_as_wanted(alloc, case, &bay)?)
+}
+
+/// The run before that of a case, where it has one.
+fn run_earlier<T: Threads + Wait + Sync>(
+    rt: &T,
+    alloc: Global,
+    case: &Case,
+    bay: &mut MemBay,
+) -> Result<(), AllocError> {
     if !case.earlier.is_empty() {
-        let earlier = unused_door(alloc)?;
-        let _ = run_over(
-            rt,
-            alloc,
-            case.earlier,
-            case.raw,
-            NONE_FAILS,
-            &mut bay,
-            earlier,
-        )?;
+        let _ = done_over(rt, alloc, case.earlier, case.raw, NONE_FAILS, bay)?;
     }
-    let end = run_over(rt, alloc, case.words, case.raw, case.fails, &mut bay, door)?;
-    if is_wanted(&end, case) && leaves_as_wanted(alloc, case, &bay)? {
-        Ok(end.door)
-    } else {
-        Ok(None)
-    }
+    Ok(())
 }
 
-/// A door without links, whose first call fails.
-pub(crate) fn unused_door(alloc: Global) -> Result<MemDoor, AllocError> {
-    Ok(MemDoor::new(Vec::new(alloc), calls(alloc, 1)?))
+/// Whether the run of a case over a bay ends as it is to.
+fn ends_over<T: Threads + Wait + Sync>(
+    rt: &T,
+    alloc: Global,
+    case: &Case,
+    bay: &mut MemBay,
+    doors: &mut Vec<MemDoor>,
+) -> Result<bool, AllocError>
+    requires { 0 < vec_len doors.old }
+{
+    let end = run_over(rt, alloc, case.words, case.raw, case.fails, bay, doors)?;
+    Ok(is_wanted(&end, case))
 }
 
-/// How a run ended, what it wrote to the sink, how many leaves it read, and its door.
+/// One door without links, whose first call fails.
+fn unused_doors(alloc: Global) -> Result<Vec<MemDoor>, AllocError>
+    ensures { IfOk result (λ doors. 0 < vec_len doors) }
+{
+    Ok(vec![in alloc; MemDoor::new(Vec::new(alloc), calls(alloc, 1)?)]?)
+}
+
+/// A raw volume, a reader and a sink.
+#[derive(Drop)]
+struct Sides {
+    raws: Vec<MemSource>,
+    readers: Vec<MemReader>,
+    out: MemSink,
+}
+
+/// How a run ended, and what it was over, which tells what it wrote and how many leaves it read.
 #[derive(Drop)]
 pub(crate) struct End {
-    pub(crate) done: Done,
-    written: Vec<u8>,
-    reads: u64,
-    door: Option<MemDoor>,
+    done: Done,
+    sides: Sides,
 }
 
 fn is_wanted(end: &End, case: &Case) -> bool {
     end.done == Done::of(case.cause)
-        && end.written.as_slice() == case.written
-        && end.reads == case.reads
+        && end.sides.out.written().as_slice() == case.written
+        && end.sides.readers.first().map_or(0, MemReader::reads) == case.reads
 }
 
 /// Whether a bay holds what a case is to leave.
@@ -202,42 +224,73 @@ fn is_same(found: &MemFile, wanted: &MemFile) -> bool {
         && found.bytes.as_slice() == wanted.bytes.as_slice()
 }
 
-/// A run on these words over a bay, this raw volume, a reader, a sink and a door.
-pub(crate) fn run_over<T: Threads + Wait + Sync>(
+/// How a run on these words over a bay and this raw volume ends that uses no door.
+pub(crate) fn done_over<T: Threads + Wait + Sync>(
     rt: &T,
     alloc: Global,
     line: &str,
     raw: (u8, usize),
     fails: Fails,
     bay: &mut MemBay,
-    door: MemDoor,
-) -> Result<End, AllocError> {
+) -> Result<Done, AllocError> {
+    let mut doors = unused_doors(alloc)?;
+    let end = run_over(rt, alloc, line, raw, fails, bay, &mut doors)?;
+    Ok(end.done)
+}
+
+/// A run on these words over a bay, this raw volume, a reader, a sink and doors.
+fn run_over<T: Threads + Wait + Sync>(
+    rt: &T,
+    alloc: Global,
+    line: &str,
+    raw: (u8, usize),
+    fails: Fails,
+    bay: &mut MemBay,
+    doors: &mut Vec<MemDoor>,
+) -> Result<End, AllocError>
+    requires { 0 < vec_len doors.old }
+{
     let words = words_in(alloc, line)?;
-    let mut raws = Vec::with_capacity(alloc, 1)?;
-    raws.push(raw_of(alloc, raw, fails.raw)?)?;
-    let mut readers = Vec::with_capacity(alloc, 1)?;
-    readers.push(MemReader::new(calls(alloc, fails.reader)?))?;
-    let mut doors = Vec::with_capacity(alloc, 1)?;
-    doors.push(door)?;
-    let mut out = MemSink::new(calls(alloc, fails.sink)?);
-    let done = done_of(
+    let mut sides = sides_of(alloc, raw, fails)?;
+    let done = done_with(rt, alloc, &words, &mut sides, bay, doors);
+    Ok(End { done, sides })
+}
+
+/// This raw volume, a reader and a sink, whose calls of these numbers fail.
+fn sides_of(alloc: Global, raw: (u8, usize), fails: Fails) -> Result<Sides, AllocError>
+    ensures raw { IfOk result (λ sides. vec_len sides.raws ≡ 1) }
+    ensures reader { IfOk result (λ sides. vec_len sides.readers ≡ 1) }
+{
+    Ok(Sides {
+        raws: raws_of(alloc, raw, fails.raw)?,
+        readers: readers_of(alloc, fails.reader)?,
+        out: MemSink::new(calls(alloc, fails.sink)?),
+    })
+}
+
+/// How a run on these words ends over a bay, a raw volume, a reader, a sink and doors.
+fn done_with<T: Threads + Wait + Sync>(
+    rt: &T,
+    alloc: Global,
+    words: &[String],
+    sides: &mut Sides,
+    bay: &mut MemBay,
+    doors: &mut Vec<MemDoor>,
+) -> Done
+    requires raw { vec_len sides.old.raws ≡ 1 }
+    requires reader { vec_len sides.old.readers ≡ 1 }
+    requires door { 0 < vec_len doors.old }
+{
+    done_of(
         rt,
         alloc,
-        &words,
-        &mut raws,
+        words,
+        &mut sides.raws,
         bay,
-        &mut readers,
-        &mut out,
-        &mut doors,
-    );
-    let reads = readers.first().map_or(0, MemReader::reads);
-    let written = Vec::from_slice(alloc, out.written().as_slice())?;
-    Ok(End {
-        done,
-        written,
-        reads,
-        door: doors.pop(),
-    })
+        &mut sides.readers,
+        &mut sides.out,
+        doors,
+    )
 }
 
 /// How a run on these words ends.
@@ -280,12 +333,30 @@ pub(crate) fn calls(alloc: Global, number: u64) -> Result<Vec<u64>, AllocError> 
     Vec::from_slice(alloc, &[number])
 }
 
-/// A raw volume of so many bytes from this one on, whose call of this number fails.
+/// One raw volume of so many bytes from this one on, whose call of this number fails.
+pub(crate) fn raws_of(
+    alloc: Global,
+    raw: (u8, usize),
+    fail: u64,
+) -> Result<Vec<MemSource>, AllocError>
+    ensures { IfOk result (λ raws. vec_len raws ≡ 1) }
+{
+    Ok(vec![in alloc; raw_of(alloc, raw, fail)?]?)
+}
+
+/// That raw volume.
 fn raw_of(alloc: Global, (first, count): (u8, usize), fail: u64) -> Result<MemSource, AllocError> {
     let bytes: Vec<u8> = (0..count)
         .map(|n| first.wrapping_add((n % 256) as u8))
         .collect(alloc)?;
     Ok(MemSource::new(Bytes::from_vec(bytes), calls(alloc, fail)?))
+}
+
+/// One reader, whose call of this number fails.
+pub(crate) fn readers_of(alloc: Global, fail: u64) -> Result<Vec<MemReader>, AllocError>
+    ensures { IfOk result (λ readers. vec_len readers ≡ 1) }
+{
+    Ok(vec![in alloc; MemReader::new(calls(alloc, fail)?)]?)
 }
 
 /// A text with the first of two others in it replaced by the second.

@@ -1,11 +1,13 @@
 //! `serve` by several workers.
+ghost use Rattle.std.specs.Prelude.{◌<◌, vec_len};
+
 use crate::convert_cases::STEP;
 use crate::serve_cases::{Coming, Heads, Replies, came_back, door_of};
-use crate::setting::{HEADER, calls, done_of, files_of, words_in};
+use crate::setting::{HEADER, calls, done_of, files_of, raws_of, words_in};
 use crate::waiting_link::{OneLink, WaitingLink};
 use crate::waiting_reader::WaitingReader;
 use idx_commands::{Cause, Done};
-use idx_memory::{MemBay, MemLeaf, MemReader, MemSink, MemSource};
+use idx_memory::{MemBay, MemDoor, MemLeaf, MemReader, MemSink};
 use idx_outside::{Bytes, Door, Reader};
 use std::alloc::{AllocError, Global};
 use std::sync::Wait;
@@ -98,19 +100,33 @@ fn ends_as_wanted<T: Threads + Wait + Sync>(
     alloc: Global,
     beside: &Beside,
 ) -> Result<bool, AllocError> {
-    let mut doors = Vec::new(alloc);
-    doors.push(door_of(alloc, beside.links[0], beside.door)?)?;
-    doors.push(door_of(alloc, beside.links[1], 0)?)?;
-    let mut readers = readers_of(alloc, beside.reader)?;
-    let (done, written) = served(rt, alloc, &mut readers, &mut doors)?;
+    let mut doors = doors_of(alloc, beside)?;
     Ok(
-        done == Done::of(beside.cause)
-            && written.as_slice() == beside.written
+        serves_as_wanted(rt, alloc, beside, &mut doors)?
             && doors
                 .iter()
                 .zip(beside.replies.iter())
                 .all(|(door, replies)| came_back(door, *replies)),
     )
+}
+
+/// The doors of a run by two workers.
+fn doors_of(alloc: Global, beside: &Beside) -> Result<Vec<MemDoor>, AllocError> {
+    let first = door_of(alloc, beside.links[0], beside.door)?;
+    let second = door_of(alloc, beside.links[1], 0)?;
+    Ok(vec![in alloc; first, second]?)
+}
+
+/// Whether a run by two workers at these doors ends with its cause, and writes what it is to.
+fn serves_as_wanted<T: Threads + Wait + Sync>(
+    rt: &T,
+    alloc: Global,
+    beside: &Beside,
+    doors: &mut Vec<MemDoor>,
+) -> Result<bool, AllocError> {
+    let mut readers = readers_of(alloc, beside.reader)?;
+    let (done, out) = served(rt, alloc, &mut readers, doors)?;
+    Ok(done == Done::of(beside.cause) && out.written().as_slice() == beside.written)
 }
 
 /// Two readers. The call of this number of the second one fails.
@@ -121,33 +137,49 @@ fn readers_of(alloc: Global, fail: u64) -> Result<Vec<MemReader>, AllocError> {
     Ok(readers)
 }
 
-/// How `serve` by two workers ends with these readers at these doors, and what it writes.
+/// How `serve` by two workers ends with these readers at these doors, and the sink that it writes to.
 fn served<T: Threads + Wait + Sync, R: Reader<MemLeaf> + Send, D: Door + Send>(
     rt: &T,
     alloc: Global,
     readers: &mut Vec<R>,
     doors: &mut Vec<D>,
-) -> Result<(Done, Vec<u8>), AllocError>
+) -> Result<(Done, MemSink), AllocError>
 where
     D::Link: Send,
 {
-    let words = words_in(alloc, "serve|v.idx|a|--workers|2")?;
-    let mut bay = MemBay::new(
-        Bytes::from_vec(Vec::from_slice(alloc, HEADER.as_bytes())?),
-        files_of(alloc, STEP)?,
-        Vec::new(alloc),
-        Vec::new(alloc),
-    );
-    let mut raws = Vec::with_capacity(alloc, 1)?;
-    raws.push(MemSource::new(Bytes::new(alloc), calls(alloc, 1)?))?;
     let mut out = MemSink::new(Vec::new(alloc));
     if readers.is_empty() || doors.is_empty() {
-        return Ok((Done::of(Cause::DoorFault), Vec::new(alloc)));
+        return Ok((Done::of(Cause::DoorFault), out));
     }
-    let done = done_of(
-        rt, alloc, &words, &mut raws, &mut bay, readers, &mut out, doors,
-    );
-    Ok((done, Vec::from_slice(alloc, out.written().as_slice())?))
+    let mut bay = bay_of_step(alloc)?;
+    let done = serve(rt, alloc, &mut bay, readers, &mut out, doors)?;
+    Ok((done, out))
+}
+
+/// A bay in which the step of the bytes 0 to 15 stands.
+fn bay_of_step(alloc: Global) -> Result<MemBay, AllocError> {
+    let header = Bytes::from_vec(Vec::from_slice(alloc, HEADER.as_bytes())?);
+    let files = files_of(alloc, STEP)?;
+    Ok(MemBay::new(header, files, Vec::new(alloc), Vec::new(alloc)))
+}
+
+/// Runs `serve` by two workers over a bay.
+fn serve<T: Threads + Wait + Sync, R: Reader<MemLeaf> + Send, D: Door + Send>(
+    rt: &T,
+    alloc: Global,
+    bay: &mut MemBay,
+    readers: &mut Vec<R>,
+    out: &mut MemSink,
+    doors: &mut Vec<D>,
+) -> Result<Done, AllocError>
+where
+    D::Link: Send,
+    requires reader { 0 < vec_len readers.old }
+    requires door { 0 < vec_len doors.old }
+{
+    let words = words_in(alloc, "serve|v.idx|a|--workers|2")?;
+    let mut raws = raws_of(alloc, (0, 0), 1)?;
+    Ok(done_of(rt, alloc, &words, &mut raws, bay, readers, out, doors))
 }
 
 #[test]
@@ -164,9 +196,9 @@ fn workers_serve_beside_each_other_out_of_one_cache(rt: HostRuntime) -> Result<(
         doors.push(OneLink::new(WaitingLink::new(WHOLE, waits, &first, &met_limit)))?;
         doors.push(OneLink::new(WaitingLink::new(WHOLE, other, &second, &met_limit)))?;
         let mut readers = readers_of(rt.alloc(), 0)?;
-        let (done, written) = served(&rt, rt.alloc(), &mut readers, &mut doors)?;
+        let (done, out) = served(&rt, rt.alloc(), &mut readers, &mut doors)?;
         assert!(rt; done.cause == Cause::Done);
-        assert!(rt; written.as_slice() == b"links 2 replies 2\n".as_slice());
+        assert!(rt; out.written().as_slice() == b"links 2 replies 2\n".as_slice());
         assert!(rt; doors.iter().all(|door| door.replies() == 1));
         assert!(rt; !met_limit.load(Ordering::SeqCst));
         let reads = readers
@@ -201,9 +233,9 @@ fn nothing_is_read_under_a_hold(rt: HostRuntime) -> Result<(), Fail> {
         let leaves = MemReader::new(Vec::new(rt.alloc()));
         readers.push(WaitingReader::new(leaves, sign, begins, &met_limit))?;
     }
-    let (done, written) = served(&rt, rt.alloc(), &mut readers, &mut doors)?;
+    let (done, out) = served(&rt, rt.alloc(), &mut readers, &mut doors)?;
     assert!(rt; done.cause == Cause::Done);
-    assert!(rt; written.as_slice() == b"links 2 replies 2\n".as_slice());
+    assert!(rt; out.written().as_slice() == b"links 2 replies 2\n".as_slice());
     assert!(rt; doors.iter().all(|door| door.replies() == 1));
     assert!(rt; !met_limit.load(Ordering::SeqCst));
     Ok(())

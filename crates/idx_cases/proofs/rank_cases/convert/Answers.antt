@@ -1,5 +1,5 @@
 use Rattle.std.proofs.Common.{◌≡◌, ℕ, zero, suc, List, [], ◌∷◌, Option, None, map, refl, slice_index_or, sym, ◌∙◌}
-use Rattle.idx_cases.proofs.rank_cases.converted.Goals as goal
+use Rattle.idx_cases.proofs.rank_cases.convert.Goals as goal
 
 -- these raw volumes tell nothing
 abbrev untold : {V : Type 0} → V → Option (List ℕ)
