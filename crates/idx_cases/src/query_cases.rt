@@ -1,5 +1,5 @@
 //! Cases of `query`.
-use crate::convert_cases::{STEP, TWO, ZERO};
+use crate::convert_cases::{EMPTY, STEP, TWO, ZERO};
 use crate::setting::{Case, Fails, HEADER, NONE_FAILS, Step, Stored, WHOLE, first_other};
 use idx_commands::Cause;
 use idx_header::HeaderKind;
@@ -374,27 +374,24 @@ pub(crate) fn first_damaged((first, kept, row, kind): Damage) -> Case {
         kept,
         ..ZERO
     };
-    Case {
-        step: Some(Step {
-            files: (Some(zero), Some(TWO)),
-            ..STEP
-        }),
-        cause: Cause::BadTable { file: 0, row, kind },
-        reads: 1,
-        ..DAMAGED
-    }
+    damaged((zero, TWO), Cause::BadTable { file: 0, row, kind }, 1)
 }
 
 /// The second file is damaged.
 pub(crate) fn second_damaged((first, kept, row, kind): Damage) -> Case {
     let two = Stored { first, kept, ..TWO };
+    damaged((ZERO, two), Cause::BadTable { file: 2, row, kind }, 2)
+}
+
+/// A run over these two files that ends with this cause behind so many reads.
+fn damaged((first, second): (Stored, Stored), cause: Cause, reads: u64) -> Case {
     Case {
         step: Some(Step {
-            files: (Some(ZERO), Some(two)),
-            ..STEP
+            files: (Some(first), Some(second)),
+            ..EMPTY
         }),
-        cause: Cause::BadTable { file: 2, row, kind },
-        reads: 2,
+        cause,
+        reads,
         ..DAMAGED
     }
 }

@@ -189,10 +189,13 @@ const FURTHER_CALLS: Fails = Fails {
     ..NONE_FAILS
 };
 
+/// A link of two heads.
+const ONE_LINK: &[Coming] = &[(Heads::Two, 0)];
+
 const BASE: Serving = Serving {
     case: CASE,
     door: 3,
-    links: &[(Heads::Two, 0)],
+    links: ONE_LINK,
     written: &[Replies::Both],
 };
 
@@ -586,7 +589,12 @@ fn failing((bay, reader, reads): Failure) -> Case {
 
 /// The run of a case that is refused before it hands out a link.
 fn refused(case: Case) -> Serving {
-    Serving { case, ..REFUSED }
+    Serving {
+        case,
+        door: 1,
+        links: ONE_LINK,
+        written: &[],
+    }
 }
 
 /// The number of the first failure that does not end as it is to, if there is one.

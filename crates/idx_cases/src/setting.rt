@@ -117,8 +117,21 @@ pub(crate) fn ends_at<T: Threads + Wait + Sync>(
     requires { 0 < vec_len doors.old }
 {
     let mut bay = bay_of(alloc, case)?;
-    run_earlier(rt, alloc, case, &mut bay)?;
-    Ok(ends_over(rt, alloc, case, &mut bay, doors)? && leaves_as_wanted(alloc, case, &bay)?)
+    ends_from(rt, alloc, case, &mut bay, doors)
+}
+
+/// Whether a case ends as it is to that begins with this bay.
+fn ends_from<T: Threads + Wait + Sync>(
+    rt: &T,
+    alloc: Global,
+    case: &Case,
+    bay: &mut MemBay,
+    doors: &mut Vec<MemDoor>,
+) -> Result<bool, AllocError>
+    requires { 0 < vec_len doors.old }
+{
+    run_earlier(rt, alloc, case, bay)?;
+    Ok(ends_over(rt, alloc, case, bay, doors)? && leaves_as_wanted(alloc, case, bay)?)
 }
 
 /// The run before that of a case, where it has one.

@@ -182,6 +182,75 @@ where
     Ok(done_of(rt, alloc, &words, &mut raws, bay, readers, out, doors))
 }
 
+/// Whether `serve` by two workers with these readers ends well, each of these links is handed out by a door of its own, and
+/// one head is answered on each.
+fn are_answered<T: Threads + Wait + Sync, R: Reader<MemLeaf> + Send>(
+    rt: &T,
+    alloc: Global,
+    readers: &mut Vec<R>,
+    links: (WaitingLink<'_>, WaitingLink<'_>),
+) -> Result<bool, AllocError> {
+    let mut doors = doors_to(alloc, links)?;
+    Ok(serves_two(rt, alloc, readers, &mut doors)? && doors.iter().all(|door| door.replies() == 1))
+}
+
+/// A door for each of two links.
+fn doors_to<'a>(
+    alloc: Global,
+    (first, second): (WaitingLink<'a>, WaitingLink<'a>),
+) -> Result<Vec<OneLink<'a>>, AllocError> {
+    let mut doors = Vec::with_capacity(alloc, 2)?;
+    doors.push(OneLink::new(first))?;
+    doors.push(OneLink::new(second))?;
+    Ok(doors)
+}
+
+/// Whether `serve` by two workers ends well, and writes that it had two links and two replies.
+fn serves_two<T: Threads + Wait + Sync, R: Reader<MemLeaf> + Send>(
+    rt: &T,
+    alloc: Global,
+    readers: &mut Vec<R>,
+    doors: &mut Vec<OneLink<'_>>,
+) -> Result<bool, AllocError> {
+    let (done, out) = served(rt, alloc, readers, doors)?;
+    Ok(done.cause == Cause::Done && out.written().as_slice() == b"links 2 replies 2\n".as_slice())
+}
+
+/// How many reads two workers make, where both of these links are answered.
+fn reads_of_both<T: Threads + Wait + Sync>(
+    rt: &T,
+    alloc: Global,
+    links: (WaitingLink<'_>, WaitingLink<'_>),
+) -> Result<Option<u64>, AllocError> {
+    let mut readers = readers_of(alloc, 0)?;
+    if are_answered(rt, alloc, &mut readers, links)? {
+        Ok(Some(total_reads(&readers)))
+    } else {
+        Ok(None)
+    }
+}
+
+fn total_reads(readers: &[MemReader]) -> u64 {
+    readers
+        .iter()
+        .map(MemReader::reads)
+        .fold(0u64, u64::saturating_add)
+}
+
+/// Readers none of whose calls fails, each with the sign that its first read waits for, and the one that it gives.
+fn waiting_readers<'a>(
+    alloc: Global,
+    signs: [(Option<&'a AtomicBool>, &'a AtomicBool); 2],
+    met_limit: &'a AtomicBool,
+) -> Result<Vec<WaitingReader<'a>>, AllocError> {
+    let mut readers = Vec::new(alloc);
+    for (sign, begins) in signs {
+        let leaves = MemReader::new(Vec::new(alloc));
+        readers.push(WaitingReader::new(leaves, sign, begins, met_limit))?;
+    }
+    Ok(readers)
+}
+
 #[test]
 fn workers_serve_beside_each_other_out_of_one_cache(rt: HostRuntime) -> Result<(), Fail> {
     for first_waits in [true, false] {
@@ -192,20 +261,13 @@ fn workers_serve_beside_each_other_out_of_one_cache(rt: HostRuntime) -> Result<(
         } else {
             (None, Some(&first))
         };
-        let mut doors = Vec::new(rt.alloc());
-        doors.push(OneLink::new(WaitingLink::new(WHOLE, waits, &first, &met_limit)))?;
-        doors.push(OneLink::new(WaitingLink::new(WHOLE, other, &second, &met_limit)))?;
-        let mut readers = readers_of(rt.alloc(), 0)?;
-        let (done, out) = served(&rt, rt.alloc(), &mut readers, &mut doors)?;
-        assert!(rt; done.cause == Cause::Done);
-        assert!(rt; out.written().as_slice() == b"links 2 replies 2\n".as_slice());
-        assert!(rt; doors.iter().all(|door| door.replies() == 1));
+        let links = (
+            WaitingLink::new(WHOLE, waits, &first, &met_limit),
+            WaitingLink::new(WHOLE, other, &second, &met_limit),
+        );
+        let reads = reads_of_both(&rt, rt.alloc(), links)?;
         assert!(rt; !met_limit.load(Ordering::SeqCst));
-        let reads = readers
-            .iter()
-            .map(MemReader::reads)
-            .fold(0u64, u64::saturating_add);
-        assert!(rt; reads == 6, "two tables and four blocks");
+        assert!(rt; reads == Some(6), "two tables and four blocks");
     }
     Ok(())
 }
@@ -224,19 +286,13 @@ fn nothing_is_read_under_a_hold(rt: HostRuntime) -> Result<(), Fail> {
     // read has begun.
     let (has_begun, is_answered) = (AtomicBool::new(false), AtomicBool::new(false));
     let (unused, met_limit) = (AtomicBool::new(false), AtomicBool::new(false));
-    let mut doors = Vec::new(rt.alloc());
-    let link = WaitingLink::new(WHOLE, Some(&has_begun), &is_answered, &met_limit);
-    doors.push(OneLink::new(link))?;
-    doors.push(OneLink::new(WaitingLink::new(WHOLE, None, &unused, &met_limit)))?;
-    let mut readers = Vec::new(rt.alloc());
-    for (sign, begins) in [(None, &unused), (Some(&is_answered), &has_begun)] {
-        let leaves = MemReader::new(Vec::new(rt.alloc()));
-        readers.push(WaitingReader::new(leaves, sign, begins, &met_limit))?;
-    }
-    let (done, out) = served(&rt, rt.alloc(), &mut readers, &mut doors)?;
-    assert!(rt; done.cause == Cause::Done);
-    assert!(rt; out.written().as_slice() == b"links 2 replies 2\n".as_slice());
-    assert!(rt; doors.iter().all(|door| door.replies() == 1));
+    let links = (
+        WaitingLink::new(WHOLE, Some(&has_begun), &is_answered, &met_limit),
+        WaitingLink::new(WHOLE, None, &unused, &met_limit),
+    );
+    let signs = [(None, &unused), (Some(&is_answered), &has_begun)];
+    let mut readers = waiting_readers(rt.alloc(), signs, &met_limit)?;
+    assert!(rt; are_answered(&rt, rt.alloc(), &mut readers, links)?);
     assert!(rt; !met_limit.load(Ordering::SeqCst));
     Ok(())
 }
