@@ -1,5 +1,7 @@
 //! Cases of `convert`.
-use crate::setting::{Case, Fails, HEADER, NONE_FAILS, Step, Stored, WHOLE, first_other};
+use crate::setting::{
+    Case, Fails, HEADER, NONE_FAILS, Step, Stored, WHOLE, ends_as_wanted, first_other,
+};
 use idx_commands::Cause;
 use idx_header::HeaderKind;
 use std::alloc::{AllocError, Global};
@@ -386,25 +388,29 @@ static FAILURES: [Failure; 14] = [
     (0, 0, (0, 2), Cause::StoreFault, PUT),
 ];
 
+/// The run in which these calls fail.
+fn failing((raw, bay, drafts, cause, header): Failure) -> Case {
+    Case {
+        fails: Fails {
+            raw,
+            bay,
+            drafts,
+            ..OTHERS
+        },
+        cause,
+        header_after: Some(header),
+        step_after: Some(EMPTY),
+        ..BASE
+    }
+}
+
 /// The number of the first failure that does not end as it is to, if there is one.
 fn first_other_failure<T: Threads + Wait + Sync>(
     rt: &T,
     alloc: Global,
 ) -> Result<Option<usize>, AllocError> {
-    for (number, (raw, bay, drafts, cause, header)) in FAILURES.iter().enumerate() {
-        let case = Case {
-            fails: Fails {
-                raw: *raw,
-                bay: *bay,
-                drafts: *drafts,
-                ..OTHERS
-            },
-            cause: *cause,
-            header_after: Some(*header),
-            step_after: Some(EMPTY),
-            ..BASE
-        };
-        if first_other(rt, alloc, &[case])?.is_some() {
+    for (number, failure) in FAILURES.iter().enumerate() {
+        if !ends_as_wanted(rt, alloc, &failing(*failure))? {
             return Ok(Some(number));
         }
     }

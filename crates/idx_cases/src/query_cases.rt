@@ -1,6 +1,8 @@
 //! Cases of `query`.
 use crate::convert_cases::{EMPTY, STEP, TWO, ZERO};
-use crate::setting::{Case, Fails, HEADER, NONE_FAILS, Step, Stored, WHOLE, first_other};
+use crate::setting::{
+    Case, Fails, HEADER, NONE_FAILS, Step, Stored, WHOLE, ends_as_wanted, first_other,
+};
 use idx_commands::Cause;
 use idx_header::HeaderKind;
 use idx_table::TableKind;
@@ -311,23 +313,27 @@ static FAILURES: [Failure; 13] = [
     (7, 7, Cause::SinkFault, 6),
 ];
 
+/// The run in which these calls fail.
+fn failing((bay, reader, cause, reads): Failure) -> Case {
+    Case {
+        fails: Fails {
+            bay,
+            reader,
+            ..EARLY_CALLS
+        },
+        cause,
+        reads,
+        ..REFUSED
+    }
+}
+
 /// The number of the first failure that does not end as it is to, if there is one.
 fn first_other_failure<T: Threads + Wait + Sync>(
     rt: &T,
     alloc: Global,
 ) -> Result<Option<usize>, AllocError> {
-    for (number, (bay, reader, cause, reads)) in FAILURES.iter().enumerate() {
-        let case = Case {
-            fails: Fails {
-                bay: *bay,
-                reader: *reader,
-                ..EARLY_CALLS
-            },
-            cause: *cause,
-            reads: *reads,
-            ..REFUSED
-        };
-        if first_other(rt, alloc, &[case])?.is_some() {
+    for (number, failure) in FAILURES.iter().enumerate() {
+        if !ends_as_wanted(rt, alloc, &failing(*failure))? {
             return Ok(Some(number));
         }
     }

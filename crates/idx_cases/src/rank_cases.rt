@@ -37,14 +37,19 @@ fn converted<T: Threads + Wait + Sync>(
     if raws.is_empty() {
         return Ok((Done::of(Cause::RawFault), false));
     }
-    let mut bay = MemBay::new(
+    let mut bay = empty_bay(alloc);
+    let done = convert(rt, alloc, ranks, raws, &mut bay)?;
+    Ok((done, holds_step(alloc, STEP, &bay)?))
+}
+
+/// A bay in which nothing stands.
+fn empty_bay(alloc: Global) -> MemBay {
+    MemBay::new(
         Bytes::new(alloc),
         Vec::new(alloc),
         Vec::new(alloc),
         Vec::new(alloc),
-    );
-    let done = convert(rt, alloc, ranks, raws, &mut bay)?;
-    Ok((done, holds_step(alloc, STEP, &bay)?))
+    )
 }
 
 /// Runs `convert` by so many ranks out of these raw volumes over a bay.

@@ -151,6 +151,18 @@ fn converted<T: Threads + Wait + Sync>(
     done_over(rt, alloc, WORDS, (0, 16), fails, bay)
 }
 
+/// Whether a conversion of which this call of the raw volume fails ends so, and so many files stand then.
+fn leaves_files<T: Threads + Wait + Sync>(
+    rt: &T,
+    alloc: Global,
+    bay: &mut MemBay,
+    raw: u64,
+    (cause, files): (Cause, usize),
+) -> Result<bool, AllocError> {
+    let done = converted(rt, alloc, bay, raw)?;
+    Ok(done == Done::of(cause) && bay.committed().len() == files)
+}
+
 #[test]
 fn a_step_is_written_again_behind_what_stands(rt: HostRuntime) -> Result<(), Fail> {
     assert!(rt; first_other(&rt, rt.alloc(), &WRITINGS)?.is_none());
@@ -167,11 +179,9 @@ fn the_newest_revision_is_read(rt: HostRuntime) -> Result<(), Fail> {
 fn a_step_has_256_revisions(rt: HostRuntime) -> Result<(), Fail> {
     let alloc = rt.alloc();
     let mut bay = revised(alloc, 255)?;
-    assert!(rt; converted(&rt, alloc, &mut bay, 0)? == Done::of(Cause::Done));
-    assert!(rt; bay.committed().len() == 257);
+    assert!(rt; leaves_files(&rt, alloc, &mut bay, 0, (Cause::Done, 257))?);
     assert!(rt; bay.has_step(b"time0000.r255").ok() == Some(true));
-    let full = Done::of(Cause::AlreadyPublished { time: 0 });
-    assert!(rt; converted(&rt, alloc, &mut bay, 1)? == full);
-    assert!(rt; bay.committed().len() == 257);
+    let full = Cause::AlreadyPublished { time: 0 };
+    assert!(rt; leaves_files(&rt, alloc, &mut bay, 1, (full, 257))?);
     Ok(())
 }

@@ -98,7 +98,7 @@ pub(crate) fn first_other<T: Threads + Wait + Sync>(
 }
 
 /// Whether a case that uses no door ends as it is to.
-fn ends_as_wanted<T: Threads + Wait + Sync>(
+pub(crate) fn ends_as_wanted<T: Threads + Wait + Sync>(
     rt: &T,
     alloc: Global,
     case: &Case,
