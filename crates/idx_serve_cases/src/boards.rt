@@ -34,11 +34,32 @@ const BOTH: Case = Case {
 
 /// Whether a case comes out as it is to.
 fn comes_out(alloc: Global, rt: &impl Abort, case: &Case) -> Result<bool, Fail> {
-    let header = header_of(alloc, rt, case.text);
+    let (answer, reads) = answer_of(alloc, rt, case)?;
+    Ok(answer == case.answer && reads == case.reads)
+}
+
+/// How many steps stand in a case, or why not, and how many reads are tried.
+fn answer_of(
+    alloc: Global,
+    rt: &impl Abort,
+    case: &Case,
+) -> Result<(Result<u64, LoadFault>, u64), Fail> {
     let mut bay = bay_of(alloc, case.files, &[case.fails.0])?;
     let mut reader = reader_of(alloc, &[case.fails.1])?;
-    let answer = steps_of(alloc, &header, &mut bay, &mut reader);
-    Ok(answer == case.answer && reader.reads() == case.reads)
+    let answer = steps_at(alloc, rt, case.text, &mut bay, &mut reader);
+    Ok((answer, reader.reads()))
+}
+
+/// How many steps stand under a header of this text.
+fn steps_at(
+    alloc: Global,
+    rt: &impl Abort,
+    text: &[u8],
+    bay: &mut MemBay,
+    reader: &mut MemReader,
+) -> Result<u64, LoadFault> {
+    let header = header_of(alloc, rt, text);
+    steps_of(alloc, &header, bay, reader)
 }
 
 /// How many steps are published in a hall of those that stand.

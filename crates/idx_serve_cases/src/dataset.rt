@@ -118,6 +118,11 @@ pub fn header_of(alloc: Global, rt: &impl Abort, text: &[u8]) -> Header {
     Header::read(alloc, text).ok().expect(rt, "a header")
 }
 
+/// A reader of which no call fails.
+pub fn sound_reader(alloc: Global) -> MemReader {
+    MemReader::new(Vec::new(alloc))
+}
+
 /// A reader of which these calls fail.
 pub fn reader_of(alloc: Global, fails: &[u64]) -> Result<MemReader, NoMemory> {
     Ok(MemReader::new(Vec::from_slice(alloc, fails)?))
@@ -139,13 +144,16 @@ pub fn stage_of(
     files: &[Stored],
     room: u32,
 ) -> Result<Stage, Fail> {
-    let header = header_of(alloc, rt, text);
-    let hall = hall_with(alloc, rt, &header, files, room)?;
+    let site = site_of(alloc, rt, text)?;
+    let hall = hall_with(alloc, rt, &site.header, files, room)?;
+    Ok(Stage { site, hall })
+}
+
+/// The dataset `v` with this header.
+fn site_of(alloc: Global, rt: &impl Abort, text: &[u8]) -> Result<Site, NoMemory> {
     let name = Bytes::from_slice(alloc, b"v")?;
-    Ok(Stage {
-        site: Site { header, name },
-        hall,
-    })
+    let header = header_of(alloc, rt, text);
+    Ok(Site { header, name })
 }
 
 /// The hall of the steps of these files, with room for so many cached blocks.
@@ -160,7 +168,7 @@ fn hall_with(
 {
     assert!(rt; 1 <= room && room <= 65536);
     let mut bay = bay_of(alloc, files, &[])?;
-    let mut reader = reader_of(alloc, &[])?;
+    let mut reader = sound_reader(alloc);
     let hall = hall_of(alloc, header, room, &mut bay, &mut reader);
     Ok(hall.ok().expect(rt, "a hall"))
 }
@@ -183,22 +191,24 @@ fn edition_of(
     ensures { IfOk result (λ edition. ⟦<Edition<MemLeaf> as Blocks>⟧.shape edition ≡ shape_of header.now) }
 {
     let mut bay = bay_of(alloc, files, &[])?;
-    let mut reader = reader_of(alloc, &[])?;
+    let mut reader = sound_reader(alloc);
     let loaded = Edition::load(alloc, header, time, &mut bay, &mut reader);
     Ok(loaded.ok().expect(rt, "an answer").expect(rt, "a step"))
 }
 
-/// Publishes a step behind those of its time that are there.
+/// Publishes the step of this time out of these files, behind those of the time that are there.
 fn publish(
     alloc: Global,
     rt: &impl Abort,
+    header: &Header,
     hall: &mut Hall<Edition<MemLeaf>>,
-    edition: Edition<MemLeaf>,
+    time: u64,
+    files: &[Stored],
 ) -> Result<(), Fail>
-    requires { ⟦<Edition<MemLeaf> as Blocks>⟧.shape edition ≡ hall.old.shape }
+    requires { hall.old.shape ≡ shape_of header.now }
     ensures { hall.new.shape ≡ hall.old.shape }
 {
-    let edition = Arc::new(alloc, edition)?;
+    let edition = Arc::new(alloc, edition_of(alloc, rt, header, time, files)?)?;
     let after = newest_in(hall, edition.time());
     assert!(rt; hall.publish(edition, after).is_ok());
     Ok(())
@@ -213,7 +223,6 @@ pub fn with_step(
     files: &[Stored],
 ) -> Result<Stage, Fail> {
     let Stage { site, mut hall } = stage;
-    let edition = edition_of(alloc, rt, &site.header, time, files)?;
-    publish(alloc, rt, &mut hall, edition)?;
+    publish(alloc, rt, &site.header, &mut hall, time, files)?;
     Ok(Stage { site, hall })
 }

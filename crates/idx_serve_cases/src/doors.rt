@@ -1,8 +1,8 @@
 //! Doors whose links are served one after another.
-use crate::dataset::{BASE, STEP, Stage, reader_of, stage_of};
+use crate::dataset::{BASE, STEP, Stage, sound_reader, stage_of};
 use crate::questions::{REPLIES, TWO};
 use crate::serving::{Noted, are_noted, link_of};
-use idx_memory::{MemDoor, MemLink, MemReader};
+use idx_memory::{MemDoor, MemLink};
 use idx_outside::{FreeGate, NoMemory, Served};
 use idx_serve::{ServeEnd, Summary, serve_door};
 use idx_turn::Solo;
@@ -18,7 +18,8 @@ struct Outcome {
 }
 
 /// Serves a door.
-fn serve(alloc: Global, stage: Stage, mut reader: MemReader, mut door: MemDoor) -> Outcome {
+fn serve(alloc: Global, stage: Stage, mut door: MemDoor) -> Outcome {
+    let mut reader = sound_reader(alloc);
     let mut solo = Solo::new(stage.hall);
     let summary = serve_door(
         alloc,
@@ -52,9 +53,8 @@ fn outcome_of(
     fails: u64,
 ) -> Result<Outcome, Fail> {
     let door = door_of(alloc, coming, fails)?;
-    let reader = reader_of(alloc, &[])?;
     let stage = stage_of(alloc, rt, BASE, STEP, 4)?;
-    Ok(serve(alloc, stage, reader, door))
+    Ok(serve(alloc, stage, door))
 }
 
 /// What is wanted of a link: what was written, and what was noted.
@@ -80,32 +80,53 @@ fn are_counted(summary: &Summary, links: u64, replies: u64, end: ServeEnd) -> bo
     (summary.links, summary.replies) == (links, replies) && summary.end == end
 }
 
+/// How a door comes out: the links that come back, how many links were served, with how many replies, and up to which end.
+type End = (&'static [Wanted], u64, u64, ServeEnd);
+
+/// Whether a door with these links, of which this call fails, comes out so.
+fn comes_out(
+    alloc: Global,
+    rt: &impl Abort,
+    coming: &[Coming],
+    fails: u64,
+    end: End,
+) -> Result<bool, Fail> {
+    let (back, links, replies, end) = end;
+    let outcome = outcome_of(alloc, rt, coming, fails)?;
+    Ok(are_back(&outcome.door, back) && are_counted(&outcome.summary, links, replies, end))
+}
+
 /// The entries of two heads.
 const BOTH: &[Noted] = &[(200, 1, 0), (404, 1, 0)];
+
+/// Two links with both replies round one that was cut off in its first head.
+const IN_ORDER: &[Wanted] = &[(REPLIES, BOTH), (b"", &[]), (REPLIES, BOTH)];
 
 #[test]
 fn links_come_back_in_order_and_are_counted(rt: HostRuntime) -> Result<(), Fail> {
     let coming = [(TWO, 0), (b"GET / HT".as_slice(), 0), (TWO, 0)];
-    let outcome = outcome_of(rt.alloc(), &rt, &coming, 0)?;
-    let wanted = [(REPLIES, BOTH), (b"".as_slice(), &[]), (REPLIES, BOTH)];
-    assert!(rt; are_back(&outcome.door, &wanted));
-    assert!(rt; are_counted(&outcome.summary, 3, 4, ServeEnd::Done));
+    let end = (IN_ORDER, 3, 4, ServeEnd::Done);
+    assert!(rt; comes_out(rt.alloc(), &rt, &coming, 0, end)?);
     Ok(())
 }
+
+/// A link with both replies.
+const FIRST_LINK: &[Wanted] = &[(REPLIES, BOTH)];
 
 #[test]
 fn a_door_that_fails_ends_the_serving(rt: HostRuntime) -> Result<(), Fail> {
-    let outcome = outcome_of(rt.alloc(), &rt, &[(TWO, 0), (TWO, 0)], 2)?;
-    assert!(rt; are_back(&outcome.door, &[(REPLIES, BOTH)]));
-    assert!(rt; are_counted(&outcome.summary, 1, 2, ServeEnd::DoorFault { faults: 1 }));
+    let end = (FIRST_LINK, 1, 2, ServeEnd::DoorFault { faults: 1 });
+    assert!(rt; comes_out(rt.alloc(), &rt, &[(TWO, 0), (TWO, 0)], 2, end)?);
     Ok(())
 }
 
+/// No link.
+const NO_LINK: &[Wanted] = &[];
+
 #[test]
 fn a_door_may_fail_at_once(rt: HostRuntime) -> Result<(), Fail> {
-    let outcome = outcome_of(rt.alloc(), &rt, &[(TWO, 0)], 1)?;
-    assert!(rt; are_back(&outcome.door, &[]));
-    assert!(rt; are_counted(&outcome.summary, 0, 0, ServeEnd::DoorFault { faults: 1 }));
+    let end = (NO_LINK, 0, 0, ServeEnd::DoorFault { faults: 1 });
+    assert!(rt; comes_out(rt.alloc(), &rt, &[(TWO, 0)], 1, end)?);
     Ok(())
 }
 

@@ -1,6 +1,5 @@
 //! How links end.
-use crate::dataset::{BASE, STEP, reader_of, stage_of};
-use crate::serving::{Noted, Outcome, has_ended, link_of, serve};
+use crate::serving::{Noted, Outcome, has_ended, link_of, outcome_of};
 use idx_memory::MemLink;
 use idx_outside::{Bytes, NoMemory};
 use idx_session::LinkEnd;
@@ -15,13 +14,6 @@ struct Case {
     end: LinkEnd,
     written: &'static [u8],
     noted: &'static [Noted],
-}
-
-/// What came of a link.
-fn outcome_of(alloc: Global, rt: &impl Abort, link: MemLink) -> Result<Outcome, Fail> {
-    let reader = reader_of(alloc, &[])?;
-    let stage = stage_of(alloc, rt, BASE, STEP, 4)?;
-    Ok(serve(alloc, stage, reader, link).0)
 }
 
 /// Whether a case ends as it is to.

@@ -1,9 +1,10 @@
 //! Questions that are answered on a link.
 use crate::dataset::{
     BASE, FIRST_OF_9, NEWER_OF_0, SECOND_OF_0, SECOND_OF_9, STEP, STEPS, Stage, Stored, UNTIMED,
-    reader_of, stage_of, with_step,
+    reader_of, sound_reader, stage_of, with_step,
 };
-use crate::serving::{Noted, Outcome, has_ended, link_of, serve};
+use crate::serving::{Noted, Outcome, has_ended, link_of, serve, serve_alone};
+use idx_outside::NoMemory;
 use idx_session::LinkEnd;
 use std::alloc::Global;
 use std::process::Abort;
@@ -94,21 +95,11 @@ const BOTH: Case = Case {
 
 /// What came of the link of a case, whose input comes in pieces of this length.
 fn outcome_of(alloc: Global, rt: &impl Abort, case: &Case, piece: u64) -> Result<Outcome, Fail> {
-    Ok(served(alloc, rt, case, piece)?.0)
-}
-
-/// The same, with the dataset.
-fn served(
-    alloc: Global,
-    rt: &impl Abort,
-    case: &Case,
-    piece: u64,
-) -> Result<(Outcome, Stage), Fail> {
     assert!(rt; 0 < piece);
     let link = link_of(alloc, case.input, piece, &[])?;
     let reader = reader_of(alloc, &[case.fails])?;
     let stage = stage_of(alloc, rt, case.text, case.files, case.room)?;
-    Ok(serve(alloc, stage, reader, link))
+    Ok(serve_alone(alloc, stage, reader, link))
 }
 
 /// Whether the link of a case came out as it was to.
@@ -130,34 +121,37 @@ fn two_heads_are_answered_however_they_come(rt: HostRuntime) -> Result<(), Fail>
     Ok(())
 }
 
-/// The second head once the step 9 is published in the hall that both were answered out of.
-fn after_publishing(alloc: Global, rt: &impl Abort) -> Result<Outcome, Fail> {
-    let link = link_of(alloc, SECOND, 1, &[])?;
-    let reader = reader_of(alloc, &[])?;
-    let (_, stage) = served(alloc, rt, &BOTH, 1)?;
-    let stage = with_step(alloc, rt, stage, 9, &[FIRST_OF_9, SECOND_OF_9])?;
-    Ok(serve(alloc, stage, reader, link).0)
+/// The dataset of the hall that both heads were answered out of.
+fn answered(alloc: Global, rt: &impl Abort) -> Result<Stage, Fail> {
+    let link = link_of(alloc, TWO, 1, &[])?;
+    let stage = stage_of(alloc, rt, BASE, STEP, 4)?;
+    let (_outcome, stage) = serve(alloc, stage, sound_reader(alloc), link);
+    Ok(stage)
+}
+
+/// The same, once a step of this time is published in it.
+fn published(alloc: Global, rt: &impl Abort, time: u64, files: &[Stored]) -> Result<Stage, Fail> {
+    with_step(alloc, rt, answered(alloc, rt)?, time, files)
+}
+
+/// What comes of a link of one head at a dataset.
+fn asked(alloc: Global, stage: Stage, head: &[u8]) -> Result<Outcome, NoMemory> {
+    let link = link_of(alloc, head, 1, &[])?;
+    Ok(serve_alone(alloc, stage, sound_reader(alloc), link))
 }
 
 #[test]
 fn a_step_is_served_once_it_is_published(rt: HostRuntime) -> Result<(), Fail> {
-    let outcome = after_publishing(rt.alloc(), &rt)?;
+    let stage = published(rt.alloc(), &rt, 9, &[FIRST_OF_9, SECOND_OF_9])?;
+    let outcome = asked(rt.alloc(), stage, SECOND)?;
     assert!(rt; has_ended(&outcome, LinkEnd::Closed, OF_NINE, &[(200, 2, 0)]));
     Ok(())
 }
 
-/// The first head once the step 0 is published again in the hall that both were answered out of.
-fn after_publishing_again(alloc: Global, rt: &impl Abort) -> Result<Outcome, Fail> {
-    let link = link_of(alloc, FIRST, 1, &[])?;
-    let reader = reader_of(alloc, &[])?;
-    let (_, stage) = served(alloc, rt, &BOTH, 1)?;
-    let stage = with_step(alloc, rt, stage, 0, &[NEWER_OF_0, SECOND_OF_0])?;
-    Ok(serve(alloc, stage, reader, link).0)
-}
-
 #[test]
 fn the_newest_step_of_a_time_is_served(rt: HostRuntime) -> Result<(), Fail> {
-    let outcome = after_publishing_again(rt.alloc(), &rt)?;
+    let stage = published(rt.alloc(), &rt, 0, &[NEWER_OF_0, SECOND_OF_0])?;
+    let outcome = asked(rt.alloc(), stage, FIRST)?;
     assert!(rt; has_ended(&outcome, LinkEnd::Closed, OF_NEWER, &[(200, 2, 0)]));
     assert!(rt; outcome.reads == 1);
     Ok(())

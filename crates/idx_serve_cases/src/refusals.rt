@@ -1,6 +1,5 @@
 //! Targets that are refused.
-use crate::dataset::{BASE, STEP, reader_of, stage_of};
-use crate::serving::{Outcome, link_of, serve};
+use crate::serving::{link_of, outcome_of};
 use idx_memory::MemLink;
 use idx_outside::{Bytes, NoMemory, Served};
 use std::alloc::Global;
@@ -23,14 +22,6 @@ fn joined(alloc: Global, pieces: &[&[u8]]) -> Result<Bytes, NoMemory> {
 fn link_to(alloc: Global, target: &[u8]) -> Result<MemLink, NoMemory> {
     let input = joined(alloc, &[b"GET ", target, b" HTTP/1.1\r\n\r\n"])?;
     link_of(alloc, input.as_slice(), 8192, &[])
-}
-
-/// What came of a head with this target.
-fn outcome_of(alloc: Global, rt: &impl Abort, target: &[u8]) -> Result<Outcome, Fail> {
-    let link = link_to(alloc, target)?;
-    let reader = reader_of(alloc, &[])?;
-    let stage = stage_of(alloc, rt, BASE, STEP, 4)?;
-    Ok(serve(alloc, stage, reader, link).0)
 }
 
 /// A reply with this status and reason, length and text.
@@ -58,16 +49,21 @@ fn is_of(served: &[Served], target: &[u8]) -> bool {
     }
 }
 
-/// Whether a target gets its reply, and no read is made for it.
-fn is_refused(alloc: Global, rt: &impl Abort, case: &Case) -> Result<bool, Fail> {
-    let (target, line, length, text) = *case;
-    let reply = reply_of(alloc, line, length, text)?;
-    let outcome = outcome_of(alloc, rt, target)?;
+/// Whether a target gets this reply, and no read is made for it.
+fn is_answered(alloc: Global, rt: &impl Abort, target: &[u8], reply: &[u8]) -> Result<bool, Fail> {
+    let outcome = outcome_of(alloc, rt, link_to(alloc, target)?)?;
     Ok(
-        outcome.link.written().as_slice() == reply.as_slice()
+        outcome.link.written().as_slice() == reply
             && is_of(&outcome.served, target)
             && outcome.reads == 0,
     )
+}
+
+/// Whether a case comes out as it is to: its target gets its reply.
+fn is_refused(alloc: Global, rt: &impl Abort, case: &Case) -> Result<bool, Fail> {
+    let (target, line, length, text) = *case;
+    let reply = reply_of(alloc, line, length, text)?;
+    is_answered(alloc, rt, target, reply.as_slice())
 }
 
 /// The place of the first case that is not refused as it is to be, if there is one.

@@ -2,13 +2,15 @@
 ghost use Rattle.std.specs.Prelude.{◌≡◌, ◌<◌, [], IfOk, length, replicate};
 ghost use Rattle.idx_memory.specs.Memory.{untouched};
 
-use crate::dataset::Stage;
+use crate::dataset::{BASE, STEP, Stage, sound_reader, stage_of};
 use idx_memory::{MemLink, MemReader};
 use idx_outside::{Bytes, NoMemory, Served};
 use idx_serve::serve_link;
 use idx_session::LinkEnd;
 use idx_turn::Solo;
 use std::alloc::Global;
+use std::process::Abort;
+use std::test::Fail;
 
 /// What came of a link: how it ended, the link, its entries, and how many reads were tried.
 #[derive(Drop)]
@@ -38,6 +40,18 @@ pub fn serve(
     };
     let hall = solo.end();
     (outcome, Stage { site, hall })
+}
+
+/// Serves a link, and drops the dataset.
+pub fn serve_alone(alloc: Global, stage: Stage, reader: MemReader, link: MemLink) -> Outcome {
+    let (outcome, _stage) = serve(alloc, stage, reader, link);
+    outcome
+}
+
+/// What comes of a link at the dataset of the step 0, of which no read fails.
+pub fn outcome_of(alloc: Global, rt: &impl Abort, link: MemLink) -> Result<Outcome, Fail> {
+    let stage = stage_of(alloc, rt, BASE, STEP, 4)?;
+    Ok(serve_alone(alloc, stage, sound_reader(alloc), link))
 }
 
 /// A link whose input comes in pieces of this length, and of whose calls these fail.

@@ -1,7 +1,7 @@
 //! Workers that serve side by side.
 ghost use Rattle.std.specs.Prelude.{◌≤◌, vec_len};
 
-use crate::dataset::{BASE, STEP, Stage, reader_of, stage_of};
+use crate::dataset::{BASE, STEP, Stage, sound_reader, stage_of};
 use crate::questions::{REPLIES, TWO};
 use crate::serving::link_of;
 use idx_edition::Edition;
@@ -41,7 +41,7 @@ fn doors_of(
     let (mut made, mut readers) = (Vec::new(alloc), Vec::new(alloc));
     for (links, fails) in doors {
         made.push(door_of(alloc, *links, *fails)?)?;
-        readers.push(reader_of(alloc, &[])?)?;
+        readers.push(sound_reader(alloc))?;
     }
     Ok((made, readers))
 }
