@@ -78,6 +78,17 @@ pub record IsOpened {R : Type 0} (faults reads : R → ℕ) (name : List ℕ) (t
   pub writes : writer.writer ≡ true
   pub loaded : IsLoaded faults reads site.header k.files readers_old readers_new
 
+-- What stands behind a lock before the first link: the steps that stand, and nothing else, which the seat of its writer has seen. The
+-- first reader loaded them, and no row of their files is faulty.
+pub record IsLocked {R : Type 0} (faults reads : R → ℕ) (h : HeaderValue) (files : Option (List MemFile)) (readers_old readers_new : List R)
+    (lock : LockId) (writer : SeatValue) : Type 0 where
+  pub sound : IsSound h files
+  pub standing : IfSome files (λ files. writer.seen.posts ≡ standing_posts h files)
+  pub shape : writer.seen.shape ≡ shape_of h
+  pub of : writer.lock ≡ lock
+  pub writes : writer.writer ≡ true
+  pub loaded : IsLoaded faults reads h files readers_old readers_new
+
 -- The bay admits the drafts of a step of this header, in whose folder no committed file lies.
 pub record IsNew {B : Type 0} (files : B → Option (List MemFile)) (admits : B → List ℕ → Type 0) (written : HeaderValue) (time : ℕ) (bay : B) : Type 0 where
   pub admitted : ForSome (step_folder written time) (λ folder. (path : List ℕ) → LiesIn folder path → admits bay path)

@@ -9,27 +9,31 @@ ghost use Rattle.idx_live.specs.Stages.{seen_by};
 use crate::LiveFault;
 use crate::checking::{check_size, check_step};
 use idx_header::Header;
-use idx_outside::{Bay, Source};
+use idx_outside::{Bay, Bytes, Source};
+use idx_serve::Site;
 use std::alloc::Global;
 
 /// The revisions of a step are numbered from 0 to this.
 const LAST_REVISION: u32 = 255;
 
-/// The header of a dataset that a step may be written to out of the raw volumes, and the revision of the step that is
+/// A dataset by this name that a step may be written to out of the raw volumes, and the revision of the step that is
 /// written next. Nothing is changed for it.
 pub(crate) fn find_step<V: Source, B: Bay>(
     alloc: Global,
+    name: &[u8],
     time: u64,
     raws: &mut Vec<V>,
     bay: &mut B,
-) -> Result<(Header, u32), LiveFault>
+) -> Result<(Site, u32), LiveFault>
     requires { 0 < vec_len raws.old }
-    ensures gives { IfOk result (λ found. Gives (B.header bay.old) found.0) }
-    ensures ready { IfOk result (λ found. IsReady found.0 time
+    ensures named { IfOk result (λ found. found.0.name ≡ name.now) }
+    ensures gives { IfOk result (λ found. Gives (B.header bay.old) found.0.header) }
+    ensures ready { IfOk result (λ found. IsReady found.0.header time
         (known_of V.contents V.asked V.faults raws.old.items raws.new.items
         B.header B.files B.begun B.changes B.failed B.faults bay.old bay.new)) }
     ensures few { IfOk result (λ found. found.1 ≤ 255) }
-    ensures next { IfOk result (λ found. IsNext found.0 time (B.files bay.old) (at_revision found.1 found.0)) }
+    ensures next { IfOk result (λ found. IsNext found.0.header time (B.files bay.old)
+        (at_revision found.1 found.0.header)) }
     ensures cause { (n : ℕ) → IfErr result (IsCause time
         (known_of V.contents V.asked V.faults raws.old.items raws.new.items
         B.header B.files B.begun B.changes B.failed B.faults bay.old bay.new) n n) }
@@ -39,7 +43,9 @@ pub(crate) fn find_step<V: Source, B: Bay>(
     let header = read_header(alloc, time, bay)?;
     let revision = next_revision(alloc, &header, time, bay)?;
     check_size(&header, raws)?;
-    Ok((header, revision))
+    let name = Bytes::from_slice(alloc, name)?;
+    let site = Site { header, name };
+    Ok((site, revision))
 }
 
 /// The header of a dataset, if it has the step and no step of it is too large to write. Nothing else has a part in the

@@ -8,11 +8,11 @@ ghost use Rattle.idx_live.specs.Stages.{IsNew, IsOpened};
 use crate::LiveFault;
 use crate::beginning::begin_at;
 use crate::finding::find_step;
-use crate::loading::load;
+use crate::loading::load_locked;
 use idx_edition::Edition;
 use idx_hall::Hall;
 use idx_lock::{Seat, TurnLock};
-use idx_outside::{Bay, Bytes, Leaf, Reader, Source};
+use idx_outside::{Bay, Leaf, Reader, Source};
 use idx_serve::Site;
 use std::alloc::Global;
 
@@ -60,14 +60,9 @@ pub(crate) fn open<V: Source, B: Bay, R: Reader<B::Leaf>>(
     ensures failed { OnOk result (B.failed bay.new ≡ B.failed bay.old) }
     ensures quiet { OnOk result (B.faults bay.new ≡ B.faults bay.old) }
 {
-    let (header, revision) = find_step(alloc, time, raws, bay)?;
-    let name = Bytes::from_slice(alloc, name)?;
-    let hall = load(alloc, &header, cache, bay, readers)?;
-    let Ok((lock, writer)) = TurnLock::new(alloc, hall) else {
-        return Err(LiveFault::NoMemory);
-    };
-    begin_at(alloc, &header, time, revision, bay)?;
-    let site = Site { header, name };
+    let (site, revision) = find_step(alloc, name, time, raws, bay)?;
+    let (lock, writer) = load_locked(alloc, &site.header, cache, bay, readers)?;
+    begin_at(alloc, &site.header, time, revision, bay)?;
     Ok(Opened {
         site,
         revision,
