@@ -1,5 +1,5 @@
 //! Steps that are published, or why they are not.
-ghost use Rattle.std.specs.Prelude.{◌≡◌, true, IfOk, OnOk, Some, vec_len};
+ghost use Rattle.std.specs.Prelude.{◌≡◌, ◌≤◌, true, IfOk, OnOk, Some, vec_len};
 ghost use Rattle.idx_header.specs.Header.{at_revision};
 ghost use Rattle.idx_header.specs.Names.{step_folder};
 ghost use Rattle.idx_gather.specs.Gather.{HasFolder};
@@ -241,25 +241,41 @@ fn served_by_two<G: Gate, R: Threads + Wait + Sync + Abort>(
     gate: &G,
 ) -> Result<(Summary, u64), Fail> {
     let (mut doors, mut readers) = two_of_each(alloc)?;
-    assert!(rt; doors.len() >= 2 && readers.len() >= 2);
-    let Stage {
-        site,
-        lock,
-        mut writer,
-    } = stage_of(rt, alloc)?;
-    let seat = lock.split(&mut writer);
-    let (_seat, summary) = serve(
-        rt,
-        alloc,
-        &site,
-        &lock,
-        seat,
-        &mut doors,
-        &mut readers,
-        2,
-        gate,
-    );
+    let summary = summary_of(rt, alloc, &mut doors, &mut readers, gate)?;
     Ok((summary, reads_of(&readers)))
+}
+
+/// What two workers come to at these doors.
+fn summary_of<G: Gate, R: Threads + Wait + Sync + Abort>(
+    rt: &R,
+    alloc: Global,
+    doors: &mut Vec<MemDoor>,
+    readers: &mut Vec<MemReader>,
+    gate: &G,
+) -> Result<Summary, Fail> {
+    assert!(rt; doors.len() >= 2 && readers.len() >= 2);
+    let Stage { site, lock, writer } = stage_of(rt, alloc)?;
+    Ok(serve_at(rt, alloc, &site, &lock, writer, doors, readers, gate))
+}
+
+/// The same on a seat like the writer's.
+fn serve_at<G: Gate, R: Threads + Wait + Sync>(
+    rt: &R,
+    alloc: Global,
+    site: &Site,
+    lock: &TurnLock<Hall<Edition<MemLeaf>>>,
+    mut writer: Seat<Hall<Edition<MemLeaf>>>,
+    doors: &mut Vec<MemDoor>,
+    readers: &mut Vec<MemReader>,
+    gate: &G,
+) -> Summary
+    requires writer { IsWriter lock.now site.now.header writer }
+    requires doors { 2 ≤ vec_len doors.old }
+    requires readers { 2 ≤ vec_len readers.old }
+{
+    let seat = lock.split(&mut writer);
+    let (_seat, summary) = serve(rt, alloc, site, lock, seat, doors, readers, 2, gate);
+    summary
 }
 
 /// A door of a link that asks for all of the step 0.
@@ -288,37 +304,61 @@ fn a_refused_step_is_not(rt: HostRuntime) -> Result<(), Fail> {
     Ok(())
 }
 
-/// Runs two sides beside each other.
-fn run_both<R: Threads + Wait + Sync>(rt: &R, alloc: Global, sides: &mut Vec<Side>) {
-    for_each_mut(
-        rt,
-        sides.as_mut_slice(),
-        2,
-        &|_, side: &mut Side| side.run(rt, alloc),
-    );
+/// The step that is ingested beside the late link at the writer's seat, out of raw volumes of the later bytes.
+fn ready_at<'a>(
+    alloc: Global,
+    rt: &impl Abort,
+    site: &'a Site,
+    lock: &'a TurnLock<Hall<Edition<MemLeaf>>>,
+    writer: Seat<Hall<Edition<MemLeaf>>>,
+) -> Result<Ready<'a>, Fail>
+    requires { IsWriter lock.now site.now.header writer }
+{
+    let bay = bay_of(alloc, rt, &site.header, STEP)?;
+    let raws = raws_of(alloc, &LATER)?;
+    Ok(Ready::new(site, lock, writer, raws, bay))
 }
 
-#[test]
-fn a_head_behind_a_publish_is_answered_out_of_it(rt: HostRuntime) -> Result<(), Fail> {
-    let alloc = rt.alloc();
+/// How a late link was served, and whether exactly the replies were written; and how the step was ingested beside it.
+type LateEnd = (Option<(LinkEnd, bool)>, Option<IngestEnd>);
+
+/// How these two end beside each other.
+fn run_both<R: Threads + Wait + Sync>(
+    rt: &R,
+    alloc: Global,
+    gate: &HoldGate,
+    visit: Visit,
+    ready: Ready,
+) -> LateEnd {
+    let mut sides = [Side::of_visit(gate, visit), Side::of_writer(gate, ready)];
+    for_each_mut(rt, &mut sides, 2, &|_, side: &mut Side| side.run(rt, alloc));
+    (sides[0].served(), sides[1].ended())
+}
+
+/// How a late link and the writer end at a dataset whose step 0 has the bytes 0 to 15.
+fn late_end<R: Threads + Wait + Sync + Abort>(
+    rt: &R,
+    alloc: Global,
+    gate: &HoldGate,
+) -> Result<LateEnd, Fail> {
     let Stage {
         site,
         lock,
         mut writer,
-    } = stage_of(&rt, alloc)?;
+    } = stage_of(rt, alloc)?;
     let seat = lock.split(&mut writer);
-    let bay = bay_of(alloc, &rt, &site.header, STEP)?;
-    let ready = Ready::new(&site, &lock, writer, raws_of(alloc, &LATER)?, bay);
+    let ready = ready_at(alloc, rt, &site, &lock, writer)?;
+    let visit = Visit::new(&site, &lock, seat, LateLink::new(gate, REPLIES));
+    Ok(run_both(rt, alloc, gate, visit, ready))
+}
+
+#[test]
+fn a_head_behind_a_publish_is_answered_out_of_it(rt: HostRuntime) -> Result<(), Fail> {
     let gate = gate_of_a_late_link();
-    let visit = Visit::new(&site, &lock, seat, LateLink::new(&gate, REPLIES));
-    let mut sides = Vec::new(alloc);
-    sides.push(Side::of_visit(&gate, visit))?;
-    sides.push(Side::of_writer(&gate, ready))?;
-    run_both(&rt, alloc, &mut sides);
+    let (served, ended) = late_end(&rt, rt.alloc(), &gate)?;
     assert!(rt; !gate.met_limit());
-    assert!(rt; sides.len() == 2);
-    assert!(rt; sides[0].served() == Some((LinkEnd::Closed, true)));
-    assert!(rt; sides[1].ended() == Some(IngestEnd::Published { post: 1 }));
+    assert!(rt; served == Some((LinkEnd::Closed, true)));
+    assert!(rt; ended == Some(IngestEnd::Published { post: 1 }));
     Ok(())
 }
 
