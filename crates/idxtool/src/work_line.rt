@@ -13,11 +13,7 @@ pub fn show_work(rt: &HostRuntime, words: &[String]) -> Option<StdLine> {
     let Ok(Command::Convert(convert)) = read_words(words) else {
         return None;
     };
-    let mut err = rt.stderr();
-    if !err.is_terminal() {
-        return None;
-    }
-    let line = Line::begin(rt.alloc(), *rt, err)?;
+    // It is made and freed also where nothing is shown: what is freed later serves again then.
     let mut text = long_buffer(rt.alloc());
     let _ = write_work(
         &mut text,
@@ -25,6 +21,11 @@ pub fn show_work(rt: &HostRuntime, words: &[String]) -> Option<StdLine> {
         dataset_path(words),
         convert.ranks,
     );
+    let mut err = rt.stderr();
+    if !err.is_terminal() {
+        return None;
+    }
+    let line = Line::begin(rt.alloc(), *rt, err)?;
     err.write_all(text.as_slice()).ok()?;
     Some(line)
 }
