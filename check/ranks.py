@@ -5,6 +5,7 @@
 
 The volume has SIDE^3 samples of four bytes, each its own number in row-major order. The file of one rank is held against
 what the format says of it: its length, and the samples of a coarse slice; those of the others against it, byte for byte.
+No run may take fresh memory for more than half as many bytes again as the volume has, and 8 MiB: what was freed serves again.
 A conversion whose standard error is a terminal has to say there how far it is, and to take the line away at the end.
 The last line is `N passed, M failed`.
 """
@@ -13,6 +14,7 @@ import array
 import os
 import pty
 import re
+import resource
 import subprocess
 import sys
 import tempfile
@@ -43,6 +45,11 @@ def slice_of(side):
     plane = side // 2 * side * side
     rows = range(0, side, 4)
     return array.array("I", [plane + y * side + x for y in rows for x in rows]).tobytes()
+
+
+def fresh_pages():
+    """How many pages of memory the programs that have ended took for the first time, or again."""
+    return resource.getrusage(resource.RUSAGE_CHILDREN).ru_minflt
 
 
 def shown(argv):
@@ -89,7 +96,9 @@ def main():
         for ranks in RANKS:
             dataset = top / f"of{ranks}" / "n.idx"
             dataset.parent.mkdir()
+            before = fresh_pages()
             run = subprocess.run(words(given.program, dataset, raw, side, ranks), capture_output=True, timeout=120)
+            fresh = (fresh_pages() - before) * resource.getpagesize()
             files = {file.name: file.read_bytes() for file in sorted((dataset.parent / "time0000").glob("*"))}
             if first is None:
                 first = files
@@ -97,6 +106,7 @@ def main():
                 results.append(("the file's length", [len(bytes_) for bytes_ in files.values()] == [length]))
                 asked = subprocess.run(slice_words(given.program, dataset, side), capture_output=True, timeout=120)
                 results.append(("a coarse slice", asked.returncode == 0 and asked.stdout == slice_of(side)))
+            results.append((f"the memory of {ranks} ranks", fresh <= 6 * side ** 3 + 2 ** 23))
             results.append((f"the files of {ranks} ranks", run.returncode == 0 and not run.stderr and files == first))
         dataset = top / "shown" / "n.idx"
         dataset.parent.mkdir()
