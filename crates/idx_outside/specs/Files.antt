@@ -1,6 +1,6 @@
 -- What a bay holds, where it is known: the committed files, in the order in which they were committed.
 use Rattle.std.specs.Prelude.{◌≡◌, ℕ, ◌+◌, List, [], ◌∷◌, ◌++◌, map, length, take, Option, Some, None, Bool, true, false, IsTrue, bytes_eq, All, if◌then◌else◌}
-use Rattle.std.specs.Option.{unwrap_or}
+use Rattle.std.specs.Option.{ForSome, unwrap_or}
 use Rattle.idx_outside.specs.declared.mem_file.MemFile.{MemFile}
 
 -- A text was put. What was known is known, and what was not is not.
@@ -44,6 +44,14 @@ LiesIn folder path = take (length folder + 1) path ≡ folder ++ 47 ∷ []
 -- all paths of files or of leaves lie in the folder
 abbrev pub AllLieIn : {X : Type 0} → List ℕ → List (List ℕ × X) → Type 0
 AllLieIn folder entries = All (λ entry. LiesIn folder entry.0) entries
+
+-- the leaf is given with its path, where it tells it; `path` is the ghost member of leaves
+abbrev pub IsNamed : {L : Type 0} → (L → Option (List ℕ)) → List ℕ × L → Type 0
+IsNamed path entry = ForSome (path entry.1) (λ told. told ≡ entry.0)
+
+-- the same of all leaves
+abbrev pub AllNamed : {L : Type 0} → (L → Option (List ℕ)) → List (List ℕ × L) → Type 0
+AllNamed path entries = All (IsNamed path) entries
 
 -- A path that was admitted still is. `admits` is the ghost member of bays.
 abbrev pub StillAdmits : {S : Type 0} → (S → List ℕ → Type 0) → S → S → Type 0

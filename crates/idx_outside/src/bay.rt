@@ -3,7 +3,7 @@ ghost use Rattle.std.specs.Io.{StartsWith};
 ghost use Rattle.std.specs.Option.{ForSome};
 ghost use Rattle.idx_outside.specs.Calls.{counts_none, last_failed};
 ghost use Rattle.idx_outside.specs.Cause.{NeverFalls, Rose, OnlyWhereRose};
-ghost use Rattle.idx_outside.specs.Files.{retold, added, known_with, HasStep, LiesIn, AllLieIn, StillAdmits, file_at, stored_at, leaf_files};
+ghost use Rattle.idx_outside.specs.Files.{retold, added, known_with, HasStep, LiesIn, AllLieIn, AllNamed, StillAdmits, file_at, stored_at, leaf_files};
 ghost use Rattle.idx_outside.specs.declared.bay_call.BayCall.{BayCall};
 ghost use Rattle.idx_outside.specs.declared.mem_file.MemFile.{MemFile};
 
@@ -103,10 +103,11 @@ pub trait Bay {
         ensures quiet { OnOk result (faults self.new ≡ faults self.old) }
         ensures cause { OnErr result (Rose (faults self.old) (faults self.new)) };
 
-    /// An empty draft in the folder last begun, without a fault.
+    /// An empty draft of this path, in the folder last begun, without a fault.
     fn create(&mut self, path: &[u8]) -> Result<Self::Draft, BayFault>
         requires { admits self.old path.now }
         ensures empty { IfOk result (λ draft. Self.Draft.contents draft ≡ known_with (files self.old) []) }
+        ensures path { IfOk result (λ draft. Self.Draft.path draft ≡ known_with (files self.old) path.now) }
         ensures unfailed { IfOk result (λ draft. Self.Draft.faults draft ≡ 0) }
         ensures header { header self.new ≡ header self.old }
         ensures files { files self.new ≡ files self.old }
@@ -123,6 +124,8 @@ pub trait Bay {
     fn leaf(&mut self, path: &[u8]) -> Result<Option<Self::Leaf>, BayFault>
         ensures found { IfOk result (λ found. IfSome found
             (λ leaf. Self.Leaf.contents leaf ≡ stored_at path.now (files self.old))) }
+        ensures path { IfOk result (λ found. IfSome found
+            (λ leaf. Self.Leaf.path leaf ≡ known_with (files self.old) path.now)) }
         ensures none { IfOk result (λ found. IfSome (files self.old)
             (λ files. (found ≡ None) ↔ (file_at path.now files ≡ None))) }
         ensures header { header self.new ≡ header self.old }
@@ -136,12 +139,13 @@ pub trait Bay {
         ensures no_memory { IsErrOf result BayFault.NoMemory → faults self.new ≡ faults self.old }
         ensures cause { OnlyWhereRose result BayFault.Outage (faults self.old) (faults self.new) };
 
-    /// Makes all leaves, one at least, stand at once under their paths, as the files of a step. After a refusal they
-    /// stand wholly or not at all, and after `NoMemory` not at all.
+    /// Makes all leaves, one at least, stand at once under their paths, as the files of a step. A leaf that tells its path
+    /// is given with that path. After a refusal they stand wholly or not at all, and after `NoMemory` not at all.
     fn commit(&mut self, folder: &[u8], leaves: &Vec<(Bytes, Self::Leaf)>) -> Result<(), BayFault>
         requires some { 0 < vec_len leaves.now }
         requires new { ForSome (files self.old) (λ files. ¬ (HasStep folder.now files)) }
         requires within { ForSome (files self.old) (λ _. AllLieIn folder.now leaves.now.items) }
+        requires named { AllNamed Self.Leaf.path leaves.now.items }
         ensures stands { OnOk result (files self.new
             ≡ added (files self.old) (leaf_files Self.Leaf.contents folder.now leaves.now.items)) }
         ensures whole { OnErr result ((files self.new ≡ files self.old) ⊎ (files self.new

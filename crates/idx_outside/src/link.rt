@@ -1,7 +1,7 @@
 ghost use Rattle.std.specs.Prelude.{◌≡◌, ℕ, ◌<◌, ◌≤◌, List, [], Option, length, take, IfSome, IfOk, OnOk, OnErr};
 ghost use Rattle.idx_outside.specs.Cause.{NeverFalls, Rose};
 ghost use Rattle.idx_outside.specs.Contents.{appended, AppendsPrefix};
-ghost use Rattle.idx_outside.specs.Input.{behind};
+ghost use Rattle.idx_outside.specs.Input.{Reading, behind, read_once_more};
 
 use crate::Outage;
 
@@ -15,6 +15,10 @@ pub trait Link {
     /// The bytes that were written, where they are known.
     ghost written: { Self → Option (List ℕ) };
 
+    /// For each `read` so far, also one that failed, in order: what was still to come when it was called, and what had been
+    /// written by then. Known where these are.
+    ghost readings: { Self → Option (List Reading) };
+
     /// How many faults were counted. The count stands still at `u64::MAX`.
     ghost faults: { Self → ℕ };
 
@@ -27,6 +31,8 @@ pub trait Link {
         ensures end { IfOk result (λ n. n ≡ 0 → IfSome (incoming self.old) (λ bytes. bytes ≡ [])) }
         ensures held { OnErr result (incoming self.new ≡ incoming self.old) }
         ensures written { written self.new ≡ written self.old }
+        ensures readings { readings self.new
+            ≡ read_once_more (readings self.old) (incoming self.old) (written self.old) }
         ensures count { NeverFalls (faults self.old) (faults self.new) }
         ensures quiet { OnOk result (faults self.new ≡ faults self.old) }
         ensures cause { OnErr result (Rose (faults self.old) (faults self.new)) };
@@ -36,6 +42,7 @@ pub trait Link {
         ensures written { OnOk result (written self.new ≡ appended (written self.old) piece.now) }
         ensures prefix { OnErr result (AppendsPrefix (written self.old) (written self.new) piece.now) }
         ensures incoming { incoming self.new ≡ incoming self.old }
+        ensures readings { readings self.new ≡ readings self.old }
         ensures count { NeverFalls (faults self.old) (faults self.new) }
         ensures quiet { OnOk result (faults self.new ≡ faults self.old) }
         ensures cause { OnErr result (Rose (faults self.old) (faults self.new)) };
