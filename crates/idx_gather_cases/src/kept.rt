@@ -13,6 +13,10 @@ pub(crate) struct KeptLeaf {
 impl Leaf for KeptLeaf {
     ghost contents = { λ _. None };
 
+    ghost path = { λ _. None };
+
+    ghost faults = { λ _. 0 };
+
     fn len(&self) -> u64 {
         self.bytes.len() as u64
     }
@@ -27,6 +31,8 @@ impl Draft for KeptDraft {
     type Leaf = KeptLeaf;
 
     ghost contents = { λ _. None };
+
+    ghost path = { λ _. None };
 
     ghost faults = { λ _. 0 };
 

@@ -20,7 +20,7 @@ struct Step {
     time: u64,
     mark: u8,
     leaf: MemLeaf,
-    ghost whole: { length leaf ≡ 6 },
+    ghost whole: { length leaf.bytes ≡ 6 },
 }
 
 impl Blocks for Step {

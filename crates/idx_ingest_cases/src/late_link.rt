@@ -64,6 +64,8 @@ impl Link for LateLink<'_> {
 
     ghost written = { λ _. None };
 
+    ghost readings = { λ _. None };
+
     ghost faults = { λ _. 0 };
 
     fn read(&mut self, into: &mut [u8]) -> Result<usize, Outage> {

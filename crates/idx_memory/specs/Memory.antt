@@ -1,5 +1,5 @@
 -- The forms in memory: bytes, and the calls that are to fail.
-use Rattle.std.specs.Prelude.{ℕ, ◌+◌, ◌%◌, ◌^◌, List, [], ◌∷◌, ◌++◌, length, take, drop, replicate, Contains, Bool, Option, nat_lt, if◌then◌else◌}
+use Rattle.std.specs.Prelude.{ℕ, ◌+◌, ◌%◌, ◌^◌, List, [], ◌∷◌, ◌++◌, length, take, drop, replicate, Contains, Bool, Option, None, Some, nat_lt, if◌then◌else◌}
 use Rattle.idx_outside.specs.Cause.{counted}
 use Rattle.idx_outside.specs.declared.bay_call.BayCall.{BayCall}
 use Rattle.idx_outside.specs.declared.mem_file.MemFile.{MemFile}
@@ -30,6 +30,26 @@ after_call succeeded s =
 -- the bytes of an object in memory, and which of its calls fail
 pub record MemState : Type 0 where
   pub bytes : List ℕ
+  pub script : FaultState
+
+-- a file in memory: its bytes, its path, where it is told, and how many faults its draft had counted
+pub record LeafState : Type 0 where
+  pub bytes : List ℕ
+  pub path : Option (List ℕ)
+  pub faults : ℕ
+
+-- a file of which its bytes alone are told
+abbrev pub file_of_bytes : List ℕ → LeafState
+file_of_bytes bytes = record { bytes = bytes; path = None; faults = 0 }
+
+-- the file of a path and its bytes
+abbrev pub file_at_path : List ℕ → List ℕ → LeafState
+file_at_path path bytes = record { bytes = bytes; path = Some path; faults = 0 }
+
+-- a file in memory that is being written: its bytes, its path, and which of its calls fail
+pub record DraftState : Type 0 where
+  pub bytes : List ℕ
+  pub path : List ℕ
   pub script : FaultState
 
 -- a source in memory that never fails: its bytes, and how many of them were asked for, modulo 2 ^ 64

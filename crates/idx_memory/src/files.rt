@@ -1,7 +1,8 @@
 // What a bay in memory finds in its files, and what it makes of leaves.
 ghost use Rattle.std.specs.Prelude.{◌≡◌, ◌↔◌, ◌<◌, Some, None, length, map, drop, slice_index_or, IsTrue, IfOk, MatchOption};
 ghost use Rattle.idx_outside.specs.Files.{HasStep, file_at, leaf_files};
-ghost use Rattle.idx_memory.specs.Memory.{next_draft};
+ghost use Rattle.std.specs.Option.{option_map};
+ghost use Rattle.idx_memory.specs.Memory.{file_at_path, next_draft};
 ghost use Rattle.idx_outside.specs.declared.mem_file.MemFile.{MemFile};
 
 use crate::MemLeaf;
@@ -35,6 +36,23 @@ pub(crate) fn copy_of(
     }
 }
 
+/// The first file of this path, with its path and a copy of its bytes; `None` where there is none.
+pub(crate) fn leaf_of(
+    alloc: Global,
+    files: &[MemFile],
+    path: &[u8],
+) -> Result<Option<MemLeaf>, NoMemory>
+    ensures { IfOk result (λ found. found ≡ option_map (file_at_path path.now) (file_at path.now files.now)) }
+{
+    match copy_of(alloc, files, path)? {
+        Some(bytes) => {
+            let path = Bytes::from_slice(alloc, path)?;
+            Ok(Some(MemLeaf::at(path, bytes, 0)))
+        }
+        None => Ok(None),
+    }
+}
+
 /// The place of the first file of this path.
 #[tactic(auto, using(crate::proofs::SearchLemmas::searching))]
 fn place_of(files: &[MemFile], path: &[u8]) -> Option<usize>
@@ -55,7 +73,7 @@ pub(crate) fn files_of_leaves(
     folder: &[u8],
     leaves: &Vec<(Bytes, MemLeaf)>,
 ) -> Result<Vec<MemFile>, NoMemory>
-    ensures { IfOk result (λ files. files.items ≡ leaf_files (λ leaf. Some leaf) folder.now leaves.now.items) }
+    ensures { IfOk result (λ files. files.items ≡ leaf_files (λ leaf. Some leaf.bytes) folder.now leaves.now.items) }
 {
     let mut files = Vec::new(alloc);
     for (path, leaf) in leaves {

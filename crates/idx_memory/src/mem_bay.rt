@@ -3,10 +3,10 @@ ghost use Rattle.std.specs.Option.{option_map};
 ghost use Rattle.idx_outside.specs.Calls.{counts_none, last_failed};
 ghost use Rattle.idx_outside.specs.Cause.{counted, NeverFalls, Rose, OnlyWhereRose};
 ghost use Rattle.idx_outside.specs.Files.{HasStep, file_at, LiesIn, AllLieIn, leaf_files};
-ghost use Rattle.idx_memory.specs.Memory.{untouched, more, NextFails, after_call, after_retire, next_draft};
+ghost use Rattle.idx_memory.specs.Memory.{file_at_path, untouched, more, NextFails, after_call, after_retire, next_draft};
 
 use crate::fault_script::FaultScript;
-use crate::files::{copy_of, files_of_leaves, has_folder, take_next};
+use crate::files::{files_of_leaves, has_folder, leaf_of, take_next};
 use crate::{MemDraft, MemLeaf};
 use idx_outside::{Bay, BayCall, BayFault, Bytes, MemFile, Outage};
 use std::alloc::Global;
@@ -249,28 +249,29 @@ impl Bay for MemBay {
         }
     }
 
-    /// Takes no memory.
-    fn create(&mut self, _path: &[u8]) -> Result<MemDraft, BayFault>
+    fn create(&mut self, path: &[u8]) -> Result<MemDraft, BayFault>
         ensures empty { IfOk result (λ draft. draft
-            ≡ record { bytes = []; script = untouched (next_draft self.old.drafts) }) }
-        ensures fails { IsErr result ↔ NextFails self.old.script }
-        ensures outage { IfErr result (λ fault. fault ≡ BayFault.Outage) }
+            ≡ record { bytes = []; path = path.now; script = untouched (next_draft self.old.drafts) }) }
+        ensures fails { IsErrOf result BayFault.Outage ↔ NextFails self.old.script }
         ensures state { self.new ≡ record self.old {
           drafts = (if is_ok result then drop 1 self.old.drafts else self.old.drafts);
           changes = more self.old.changes 1;
-          failed = last_failed BayCall.Create (is_ok result) self.old.failed;
-          script = after_call (is_ok result) self.old.script;
+          failed = last_failed BayCall.Create (counts_none result) self.old.failed;
+          script = after_call (counts_none result) self.old.script;
         } }
         ensures count { NeverFalls self.old.script.faults self.new.script.faults }
         ensures quiet { OnOk result (self.new.script.faults ≡ self.old.script.faults) }
-        ensures cause { OnErr result (Rose self.old.script.faults self.new.script.faults) }
+        ensures no_memory { IsErrOf result BayFault.NoMemory → self.new.script.faults ≡ self.old.script.faults }
+        ensures cause { OnlyWhereRose result BayFault.Outage self.old.script.faults self.new.script.faults }
     {
         self.change(BayCall::Create)?;
-        Ok(MemDraft::new(take_next(&mut self.drafts)))
+        let path = Bytes::from_slice(self.alloc(), path)?;
+        Ok(MemDraft::new(path, take_next(&mut self.drafts)))
     }
 
     fn leaf(&mut self, path: &[u8]) -> Result<Option<MemLeaf>, BayFault>
-        ensures found { IfOk result (λ found. found ≡ file_at path.now self.old.files) }
+        ensures found { IfOk result (λ found. found
+            ≡ option_map (file_at_path path.now) (file_at path.now self.old.files)) }
         ensures fails { IsErrOf result BayFault.Outage ↔ NextFails self.old.script }
         ensures state { self.new ≡ record self.old {
           failed = last_failed BayCall.Leaf (counts_none result) self.old.failed;
@@ -282,15 +283,15 @@ impl Bay for MemBay {
         ensures cause { OnlyWhereRose result BayFault.Outage self.old.script.faults self.new.script.faults }
     {
         self.call(BayCall::Leaf)?;
-        let found = copy_of(self.alloc(), self.files.as_slice(), path)?;
-        Ok(found.map(MemLeaf::new))
+        let found = leaf_of(self.alloc(), self.files.as_slice(), path)?;
+        Ok(found)
     }
 
     fn commit(&mut self, folder: &[u8], leaves: &Vec<(Bytes, MemLeaf)>) -> Result<(), BayFault>
         ensures fails { IsErrOf result BayFault.Outage ↔ NextFails self.old.script }
         ensures state { self.new ≡ record self.old {
           files = (if is_ok result
-              then self.old.files ++ leaf_files (λ leaf. Some leaf) folder.now leaves.now.items
+              then self.old.files ++ leaf_files (λ leaf. Some leaf.bytes) folder.now leaves.now.items
               else self.old.files);
           changes = more self.old.changes 1;
           failed = last_failed BayCall.Commit (counts_none result) self.old.failed;

@@ -1,6 +1,6 @@
 ghost use Rattle.std.specs.Prelude.{◌≡◌, ◌↔◌, ◌<◌, [], ◌∷◌, ◌++◌, map, length, nat_lt, Some, true, false, slice_get, IsTrue, IsErr, is_ok, IfOk, OnOk, OnErr, if◌then◌else◌};
 ghost use Rattle.idx_outside.specs.Cause.{NeverFalls, Rose};
-ghost use Rattle.idx_memory.specs.Links.{handing};
+ghost use Rattle.idx_memory.specs.Links.{handing, unread};
 ghost use Rattle.idx_memory.specs.Memory.{untouched, NextFails, after_call};
 
 use crate::MemLink;
@@ -18,6 +18,7 @@ use std::marker::Model;
 pub struct MemDoor {
     coming: Vec<MemLink>,
     handed: Vec<MemLink>,
+    went: Log<MemLink, ()>,
     finished: Vec<(MemLink, Vec<Served>)>,
     came: Log<MemLink, Vec<Served>>,
     kept: bool,
@@ -26,19 +27,20 @@ pub struct MemDoor {
 
 impl Model for MemDoor {
     ghost use Rattle.std.specs.Prelude.{◌≡◌, ◌≤◌, map, IsTrue, vec_len, vec_capacity};
-    ghost use Rattle.idx_memory.specs.Links.{DoorState};
+    ghost use Rattle.idx_memory.specs.Links.{DoorState, unread};
 
     ghost Value = { DoorState };
 
     ghost view = { λ s. record {
       coming = s.coming.items;
-      handed = s.handed.items;
+      handed = map (λ went. went.0) s.went.items;
       finished = map (λ came. (came.0, came.1.items)) s.came.items;
       kept = s.kept;
       script = s.script;
     } };
 
     ghost invariant = { λ s. (vec_len s.handed ≤ vec_capacity s.finished)
+        × (s.handed.items ≡ map unread (map (λ went. went.0) s.went.items))
         × (IsTrue s.kept → s.finished.items ≡ s.came.items) };
 }
 
@@ -57,6 +59,7 @@ impl MemDoor {
         MemDoor {
             coming: links,
             handed: Vec::new(alloc),
+            went: Log::new(),
             finished: Vec::new(alloc),
             came: Log::new(),
             kept: true,
@@ -64,9 +67,9 @@ impl MemDoor {
         }
     }
 
-    /// The links that were handed out, each as it was then.
+    /// The links that were handed out, each as it was then; of a copy is not told when its link had been read.
     pub fn handed(&self) -> &Vec<MemLink>
-        ensures { result.now.items ≡ self.now.handed }
+        ensures { result.now.items ≡ map unread self.now.handed }
     {
         &self.handed
     }
@@ -90,7 +93,9 @@ impl MemDoor {
             .reserve(room.saturating_sub(self.finished.len()))?;
         let copy = self.coming[0].copy(*self.coming.allocator())?;
         self.handed.push(copy)?;
-        Ok(self.coming.remove(0))
+        let link = self.coming.remove(0);
+        self.went = self.went.and(&link, &());
+        Ok(link)
     }
 }
 

@@ -1,5 +1,5 @@
 ghost use Rattle.std.specs.Prelude.{◌≡◌, ◌↔◌, ◌++◌, [], Some, IsErr, is_ok, IfOk, IfErr, OnOk, OnErr, if◌then◌else◌};
-ghost use Rattle.idx_outside.specs.Cause.{NeverFalls, Rose};
+ghost use Rattle.idx_outside.specs.Cause.{NeverFalls, Rose, counted};
 ghost use Rattle.idx_memory.specs.Memory.{untouched, NextFails, after_call};
 
 use crate::MemLeaf;
@@ -11,23 +11,25 @@ use std::marker::Model;
 /// were given to its bay fail, as does an `append` that finds no memory. An `append` that fails appends nothing.
 pub struct MemDraft {
     bytes: Bytes,
+    path: Bytes,
     script: FaultScript,
 }
 
 impl Model for MemDraft {
-    ghost use Rattle.idx_memory.specs.Memory.{MemState};
+    ghost use Rattle.idx_memory.specs.Memory.{DraftState};
 
-    ghost Value = { MemState };
+    ghost Value = { DraftState };
 
-    ghost view = { λ s. record { bytes = s.bytes; script = s.script } };
+    ghost view = { λ s. record { bytes = s.bytes; path = s.path; script = s.script } };
 }
 
 impl MemDraft {
-    pub(crate) fn new(fails: Vec<u64>) -> MemDraft
-        ensures { result ≡ record { bytes = []; script = untouched fails.items } }
+    pub(crate) fn new(path: Bytes, fails: Vec<u64>) -> MemDraft
+        ensures { result ≡ record { bytes = []; path = path; script = untouched fails.items } }
     {
         MemDraft {
             bytes: Bytes::new(*fails.allocator()),
+            path,
             script: FaultScript::new(fails),
         }
     }
@@ -39,6 +41,7 @@ impl MemDraft {
         let faults = self.script.faults();
         let MemDraft {
             bytes: _bytes,
+            path: _path,
             script: _script,
         } = self;
         faults
@@ -50,16 +53,19 @@ impl Draft for MemDraft {
 
     ghost contents = { λ s. Some s.bytes };
 
+    ghost path = { λ s. Some s.path };
+
     ghost faults = { λ s. s.script.faults };
 
     fn append(&mut self, piece: &[u8]) -> Result<(), Outage>
         ensures fails { NextFails self.old.script → IsErr result }
-        ensures state { self.new ≡ record {
+        ensures state { self.new ≡ record self.old {
           bytes = (if is_ok result then self.old.bytes ++ piece.now else self.old.bytes);
           script = after_call (is_ok result) self.old.script;
         } }
         ensures count { NeverFalls self.old.script.faults self.new.script.faults }
         ensures quiet { OnOk result (self.new.script.faults ≡ self.old.script.faults) }
+        ensures once { OnErr result (self.new.script.faults ≡ counted self.old.script.faults) }
         ensures cause { OnErr result (Rose self.old.script.faults self.new.script.faults) }
     {
         self.script.call()?;
@@ -71,17 +77,22 @@ impl Draft for MemDraft {
 
     fn seal(mut self) -> Result<MemLeaf, (MemDraft, Outage)>
         ensures fails { IsErr result ↔ NextFails self.script }
-        ensures sealed { IfOk result (λ leaf. leaf ≡ self.bytes) }
-        ensures state { IfErr result (λ back. back.0 ≡ record { bytes = self.bytes; script = after_call (is_ok result) self.script }) }
+        ensures sealed { IfOk result (λ leaf. leaf
+            ≡ record { bytes = self.bytes; path = Some self.path; faults = self.script.faults }) }
+        ensures state { IfErr result (λ back. back.0
+            ≡ record self { script = after_call (is_ok result) self.script }) }
+        ensures once { IfErr result (λ back. back.0.script.faults ≡ counted self.script.faults) }
         ensures cause { IfErr result (λ back. Rose self.script.faults back.0.script.faults) }
     {
         match self.script.call() {
             Ok(()) => {
+                let faults = self.script.faults();
                 let MemDraft {
                     bytes,
+                    path,
                     script: _script,
                 } = self;
-                Ok(MemLeaf::new(bytes))
+                Ok(MemLeaf::at(path, bytes, faults))
             }
             Err(outage) => Err((self, outage)),
         }

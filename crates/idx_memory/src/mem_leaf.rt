@@ -1,4 +1,5 @@
-ghost use Rattle.std.specs.Prelude.{◌≡◌, Some, length};
+ghost use Rattle.std.specs.Prelude.{◌≡◌, None, Some, length};
+ghost use Rattle.idx_memory.specs.Memory.{file_of_bytes};
 
 use idx_outside::{Bytes, Leaf};
 use std::marker::Model;
@@ -7,36 +8,57 @@ use std::marker::Model;
 #[derive(Debug, Drop)]
 pub struct MemLeaf {
     bytes: Bytes,
+    path: Option<Bytes>,
+    faults: u64,
 }
 
 impl Model for MemLeaf {
-    ghost use Rattle.std.specs.Prelude.{ℕ, List};
+    ghost use Rattle.idx_memory.specs.Memory.{LeafState};
 
-    ghost Value = { List ℕ };
+    ghost Value = { LeafState };
 
-    ghost view = { λ leaf. leaf.bytes };
+    ghost view = { λ leaf. record { bytes = leaf.bytes; path = leaf.path; faults = leaf.faults } };
 }
 
 impl MemLeaf {
-    /// Takes no memory.
+    /// A file of which its bytes alone are told. Takes no memory.
     pub fn new(bytes: Bytes) -> MemLeaf
-        ensures { result ≡ bytes }
+        ensures { result ≡ file_of_bytes bytes }
     {
-        MemLeaf { bytes }
+        MemLeaf {
+            bytes,
+            path: None,
+            faults: 0,
+        }
+    }
+
+    /// The file of a path and its bytes, whose draft had counted so many faults. Takes no memory.
+    pub(crate) fn at(path: Bytes, bytes: Bytes, faults: u64) -> MemLeaf
+        ensures { result ≡ record { bytes = bytes; path = Some path; faults = faults } }
+    {
+        MemLeaf {
+            bytes,
+            path: Some(path),
+            faults,
+        }
     }
 
     pub(crate) fn bytes(&self) -> &Bytes
-        ensures { result.now ≡ self.now }
+        ensures { result.now ≡ self.now.bytes }
     {
         &self.bytes
     }
 }
 
 impl Leaf for MemLeaf {
-    ghost contents = { λ leaf. Some leaf };
+    ghost contents = { λ leaf. Some leaf.bytes };
+
+    ghost path = { λ leaf. leaf.path };
+
+    ghost faults = { λ leaf. leaf.faults };
 
     fn len(&self) -> u64
-        ensures { result ≡ length self.now }
+        ensures { result ≡ length self.now.bytes }
     {
         self.bytes.len() as u64
     }

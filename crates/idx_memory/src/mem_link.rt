@@ -1,10 +1,11 @@
 ghost use Rattle.std.specs.Prelude.{◌≡◌, ◌↔◌, ◌<◌, ◌++◌, [], All, Some, length, take, drop, IsErr, is_ok, IfOk, OnOk, OnErr, if◌then◌else◌};
 ghost use Rattle.idx_outside.specs.Cause.{NeverFalls, Rose};
-ghost use Rattle.idx_memory.specs.Links.{given, after_reading};
+ghost use Rattle.idx_memory.specs.Links.{given, after_reading, unread, with_reading};
 ghost use Rattle.idx_memory.specs.Memory.{untouched, NextFails, after_call};
 
 use crate::fault_script::FaultScript;
 use crate::input::Input;
+use http_server::Log;
 use idx_outside::{Bytes, Link, NoMemory, Outage};
 use std::alloc::Global;
 use std::marker::Model;
@@ -16,15 +17,23 @@ use std::marker::Model;
 pub struct MemLink {
     input: Input,
     written: Bytes,
+    readings: Log<Input, Bytes>,
     script: FaultScript,
 }
 
 impl Model for MemLink {
+    ghost use Rattle.std.specs.Prelude.{map};
+    ghost use Rattle.idx_outside.specs.Input.{reading_of};
     ghost use Rattle.idx_memory.specs.Links.{LinkState};
 
     ghost Value = { LinkState };
 
-    ghost view = { λ s. record { input = s.input; written = s.written; script = s.script } };
+    ghost view = { λ s. record {
+      input = s.input;
+      written = s.written;
+      readings = map (λ r. reading_of r.0.bytes r.1) s.readings.items;
+      script = s.script;
+    } };
 }
 
 impl MemLink {
@@ -36,12 +45,14 @@ impl MemLink {
         ensures { result ≡ record {
           input = record { bytes = input; pieces = pieces.items };
           written = [];
+          readings = [];
           script = untouched fails.items;
         } }
     {
         MemLink {
             input: Input::new(input, pieces),
             written: Bytes::new(*fails.allocator()),
+            readings: Log::new(),
             script: FaultScript::new(fails),
         }
     }
@@ -53,12 +64,14 @@ impl MemLink {
         &self.written
     }
 
+    /// The same link, of which is not told when it was read.
     pub(crate) fn copy(&self, alloc: Global) -> Result<MemLink, NoMemory>
-        ensures { IfOk result (λ link. link ≡ self.now) }
+        ensures { IfOk result (λ link. link ≡ unread self.now) }
     {
         Ok(MemLink {
             input: self.input.copy(alloc)?,
             written: Bytes::from_slice(alloc, self.written.as_slice())?,
+            readings: Log::new(),
             script: self.script.copy(alloc)?,
         })
     }
@@ -68,6 +81,8 @@ impl Link for MemLink {
     ghost incoming = { λ s. Some s.input.bytes };
 
     ghost written = { λ s. Some s.written };
+
+    ghost readings = { λ s. Some s.readings };
 
     ghost faults = { λ s. s.script.faults };
 
@@ -80,12 +95,14 @@ impl Link for MemLink {
         ensures fails { IsErr result ↔ NextFails self.old.script }
         ensures state { self.new ≡ record self.old {
           input = (if is_ok result then after_reading (length into.old) self.old.input else self.old.input);
+          readings = with_reading self.old;
           script = after_call (is_ok result) self.old.script;
         } }
         ensures never_falls { NeverFalls self.old.script.faults self.new.script.faults }
         ensures quiet { OnOk result (self.new.script.faults ≡ self.old.script.faults) }
         ensures cause { OnErr result (Rose self.old.script.faults self.new.script.faults) }
     {
+        self.readings = self.readings.and(&self.input, &self.written);
         self.script.call()?;
         Ok(self.input.read(into))
     }

@@ -59,8 +59,8 @@ impl Reader<MemLeaf> for MemReader {
     ghost asked = { λ s. s.reads.bytes };
 
     fn read_at(&mut self, leaf: &MemLeaf, at: u64, into: &mut [u8]) -> Result<(), Outage>
-        requires { at + length into.old ≤ length leaf.now }
-        ensures read { OnOk result (into.new ≡ take (length into.old) (drop at leaf.now)) }
+        requires { at + length into.old ≤ length leaf.now.bytes }
+        ensures read { OnOk result (into.new ≡ take (length into.old) (drop at leaf.now.bytes)) }
         ensures fails { IsErr result ↔ NextFails self.old.script }
         ensures state { self.new ≡ record {
           reads = after_read (length into.old) self.old.reads;

@@ -41,6 +41,8 @@ impl Draft for SureDraft {
 
     ghost contents = { λ _. None };
 
+    ghost path = { λ _. None };
+
     ghost faults = { λ _. 0 };
 
     fn append(&mut self, piece: &[u8]) -> Result<(), Outage>

@@ -52,6 +52,10 @@ impl SureLeaf {
 impl Leaf for SureLeaf {
     ghost contents = { λ _. None };
 
+    ghost path = { λ _. None };
+
+    ghost faults = { λ _. 0 };
+
     fn len(&self) -> u64
         ensures { result ≡ self.now.len }
     {

@@ -38,6 +38,8 @@ impl Link for SureLink {
 
     ghost written = { λ _. None };
 
+    ghost readings = { λ _. None };
+
     ghost faults = { λ _. 0 };
 
     fn read(&mut self, into: &mut [u8]) -> Result<usize, Outage>

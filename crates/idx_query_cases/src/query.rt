@@ -35,7 +35,7 @@ struct Step {
     time: u64,
     leaf: MemLeaf,
     lacks: u64,
-    ghost whole: { length leaf ≡ 16 },
+    ghost whole: { length leaf.bytes ≡ 16 },
 }
 
 impl Blocks for Step {
@@ -48,7 +48,7 @@ impl Blocks for Step {
     ghost has = { λ s field block. not (block == s.lacks) };
 
     ghost stored = { λ s. Some (λ field block.
-        if block == s.lacks then replicate 4 0 else take 4 (drop (4 * block) s.leaf)) };
+        if block == s.lacks then replicate 4 0 else take 4 (drop (4 * block) s.leaf.bytes)) };
 
     fn time(&self) -> u64 {
         self.time

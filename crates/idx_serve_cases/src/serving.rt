@@ -60,6 +60,7 @@ pub fn link_of(alloc: Global, input: &[u8], piece: u64, fails: &[u64]) -> Result
     ensures { IfOk result (λ link. link ≡ record {
       input = record { bytes = input.now; pieces = replicate (length input.now) piece };
       written = [];
+      readings = [];
       script = untouched fails.now;
     }) }
 {
