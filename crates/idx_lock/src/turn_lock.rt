@@ -1,4 +1,4 @@
-ghost use Rattle.std.specs.Prelude.{◌≡◌, true, false, Some, MatchOption, IfOk, IfErr};
+ghost use Rattle.std.specs.Prelude.{◌≡◌, ◌<◌, true, false, Some, IfOk, IfErr};
 ghost use Rattle.crossbeam_queue.specs.Passes.{view};
 ghost use Rattle.idx_lock.specs.LockRule.{MayPush, Took, gave, stands};
 ghost use Rattle.idx_lock.specs.Seats.{IsPass, Joined, chair_value, seat_value};
@@ -93,28 +93,14 @@ impl<S: Standing + Drop> TurnLock<S> {
         ensures pass { IsPass self.now pass.new }
         ensures took { Took (stands S.shape S.posts) (view pass.old) result (view pass.new) }
     {
+        let mut tries = 0;
         for _ in rt.forever() {
-            if let Some(value) = self.try_get(rt, pass) {
+            if let Some(value) = self.queue.pop_as::<Taking, R>(rt, pass) {
                 return value;
             }
-            thread::yield_now();
+            tries = yield_at_times(tries);
         }
         unreachable!()
-    }
-
-    // Asks for the value a few times.
-    fn try_get<R: Wait>(&self, rt: &R, pass: &mut Pass<S, SeatView>) -> Option<S>
-        requires { IsPass self.now pass.old }
-        ensures pass { IsPass self.now pass.new }
-        ensures took { MatchOption result (view pass.new ≡ view pass.old)
-            (λ value. Took (stands S.shape S.posts) (view pass.old) value (view pass.new)) }
-    {
-        for _ in 0..TRIES {
-            if let Some(value) = self.queue.pop_as::<Taking, R>(rt, pass) {
-                return Some(value);
-            }
-        }
-        None
     }
 
     // Puts the value into the queue, which is empty, since the seat holds the value.
@@ -128,5 +114,18 @@ impl<S: Standing + Drop> TurnLock<S> {
             Ok(()) => {}
             Err(_) => unreachable!(),
         }
+    }
+}
+
+/// Lets other threads run after every few tries, and counts them.
+fn yield_at_times(tries: u32) -> u32
+    ensures { result < 16 }
+{
+    let made = tries.saturating_add(1);
+    if made < TRIES {
+        made
+    } else {
+        thread::yield_now();
+        0
     }
 }
