@@ -1,13 +1,15 @@
 //! Answers in two rounds.
-ghost use Rattle.std.specs.Prelude.{◌≡◌, IfOk, None, length};
+ghost use Rattle.std.specs.Prelude.{◌≡◌, IfOk, None, length, true};
 ghost use Rattle.idx_query_cases.specs.Wide.{wide_blocks};
 
+use crate::beside::Beside;
 use crate::late::Late;
 use crate::wide::{Wide, header_of};
 use idx_geom::{Point, Region};
 use idx_hall::Hall;
+use idx_lock::{Seat, TurnLock};
 use idx_memory::MemReader;
-use idx_outside::Bytes;
+use idx_outside::{Bytes, NoMemory};
 use idx_plan::Ask;
 use idx_query::{QueryFault, Report, answer};
 use idx_turn::{Solo, Turn};
@@ -99,5 +101,36 @@ fn all_rounds_are_of_the_first_step(rt: HostRuntime) -> Result<(), Fail> {
     let mut late = Late::new(hall_of(rt.alloc(), &rt)?, next);
     assert!(rt; report_of(rt.alloc(), &rt, &mut late) == all_absent(0));
     assert!(rt; report_of(rt.alloc(), &rt, &mut late) == all_absent(1));
+    Ok(())
+}
+
+/// The lock of a hall with the step of time 0.
+fn seats_of(
+    alloc: Global,
+    rt: &impl Abort,
+) -> Result<(TurnLock<Hall<Wide>>, Seat<Hall<Wide>>), Fail>
+    ensures lock { IfOk result (λ made. made.1.lock ≡ made.0) }
+    ensures writer { IfOk result (λ made. made.1.writer ≡ true) }
+    ensures shape { IfOk result (λ made. made.1.seen.shape ≡ wide_blocks) }
+{
+    match TurnLock::new(alloc, hall_of(alloc, rt)?) {
+        Ok(made) => Ok(made),
+        Err((_hall, NoMemory)) => Err(Fail::from(NoMemory)),
+    }
+}
+
+#[test]
+fn another_seat_may_evict_and_publish_between_two_rounds(rt: HostRuntime) -> Result<(), Fail> {
+    let next = Arc::new(rt.alloc(), Wide { time: 0 })?;
+    let (lock, mut writer) = seats_of(rt.alloc(), &rt)?;
+    let seat = lock.split(&mut writer);
+    let mut beside = Beside::new(lock.chair(&rt, seat), lock.chair(&rt, writer), next);
+    let first = report_of(rt.alloc(), &rt, &mut beside);
+    let evicted = beside.evicted();
+    let second = report_of(rt.alloc(), &rt, &mut beside);
+    beside.end();
+    assert!(rt; first == all_absent(0));
+    assert!(rt; evicted == 1);
+    assert!(rt; second == all_absent(1));
     Ok(())
 }

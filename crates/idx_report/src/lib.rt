@@ -7,6 +7,7 @@ mod numbers;
 mod paths;
 mod plain_words;
 mod printing;
+mod remedy;
 mod shown;
 mod usage;
 mod work_line;

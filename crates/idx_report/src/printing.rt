@@ -5,6 +5,7 @@ ghost use Rattle.idx_commands.specs.Cause.{message_of};
 
 use crate::paths::{dataset_path, raw_path};
 use crate::plain_words::{plain_table_words, plain_words};
+use crate::remedy::print_remedy;
 use crate::shown::Shown;
 use idx_commands::{Cause, Done, MAX_ANSWER, MAX_FILE, MAX_VOLUME};
 use idx_header::{Header, HeaderKind};
@@ -189,7 +190,8 @@ fn print_header<W: Write>(
             err,
             "  the header of these words, {word}: {}",
             plain_words(kind)
-        )
+        )?;
+        print_remedy(alloc, err, words, line, kind)
     } else {
         writeln!(
             err,
