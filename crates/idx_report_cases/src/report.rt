@@ -134,6 +134,41 @@ fn a_message_says_what_helps(rt: HostRuntime) -> Result<(), Fail> {
 }
 
 #[test]
+fn a_message_says_what_would_do(rt: HostRuntime) -> Result<(), Fail> {
+    for (line, place, kind, want) in [
+        (
+            "convert|v.idx|r.raw|0 3 0 3|a uint8|V0101010101|2|2|./%01x.bin|0 9 time%04d/|0",
+            13,
+            HeaderKind::TemplateTooSmall,
+            "idxtool: header line 13 TemplateTooSmall\n  the header of these words, TEMPLATE: \
+             the file name template has no room for the number of the last file\n  \
+             its marks need 2 hexadecimal digits together, as ./%02x.bin has them\n",
+        ),
+        (
+            "convert|v.idx|r.raw|0 4 0 3|a uint8|V0101|2|2|./%01x.bin|0 9 time%04d/|0",
+            3,
+            HeaderKind::BoxOutsideMask,
+            "idxtool: header line 3 BoxOutsideMask\n  the header of these words, BOX: \
+             an upper end of the box has more binary digits than the bits give its axis\n  \
+             MASK auto would be V00101\n",
+        ),
+        (
+            "convert|v.idx|r.raw|0 3 0 3|a uint8|V0101|2|2|./%01x.bin|0 4096 time%04d/|0",
+            15,
+            HeaderKind::OverLimit,
+            "idxtool: header line 15 OverLimit\n  the header of these words, TIME: \
+             a value is over a limit, or the text has more than 65536 bytes\n  \
+             TIME has at most 4096 steps\n",
+        ),
+    ] {
+        let cause = Cause::Header { line: place, kind };
+        let shown = printed(rt.alloc(), line, cause, None)?;
+        assert!(rt; shown.as_slice() == want.as_bytes());
+    }
+    Ok(())
+}
+
+#[test]
 fn a_name_stays_on_its_line(rt: HostRuntime) -> Result<(), Fail> {
     let line = "info|a\n\x1b[2J\u{85}é.idx";
     let fault = Fault {
