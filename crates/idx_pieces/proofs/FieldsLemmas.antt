@@ -1,6 +1,6 @@
 -- One field after the other.
 use Rattle.std.proofs.Common.{◌≡◌, ℕ, ◌+◌, ◌*◌, ◌<◌, ◌≤◌, List, [], ◌∷◌, length, get_or, map, sum, Option, refl, sym, ap, ◌∙◌, arith, All}
-use Rattle.std.proofs.lemmas.List.{get_or-map, length-map}
+use Rattle.std.proofs.lemmas.List.{get_or-map, length-map, take_all}
 use Rattle.std.proofs.lemmas.List.Sums.{sum_by_more, sum_by-take-le}
 use Rattle.std.proofs.Math.Nat.{mul_comm, mul-le-mul_left}
 use Rattle.idx_geom.specs.Region.{points}
@@ -29,6 +29,10 @@ pub bytes-more : (h : HeaderValue) (field : ℕ) → field < length h.fields →
 bytes-more h field lt =
     sum_by_more (λ (x : ℕ). x) (map sample_bytes h.fields) field 0 (omega (arith, lt, length-map h.fields sample_bytes))
     ∙ ap (λ t. bytes_before h field + t) (size-at h field lt)
+
+-- the bytes of one point, all of its fields
+pub bytes-all : (h : HeaderValue) (field : ℕ) → field ≡ length h.fields → bytes_before h field ≡ sum (map sample_bytes h.fields)
+bytes-all h field all = ap sum (take_all field (map sample_bytes h.fields) (omega (arith, all, length-map h.fields sample_bytes)))
 
 pub start-more : (h : HeaderValue) (field start count size : ℕ) → field < length h.fields → start ≡ field_start h field → count ≡ length (points h.box) →
     size ≡ sample_bytes_of h field → start + count * size ≡ field_start h (field + 1)

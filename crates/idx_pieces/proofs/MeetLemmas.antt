@@ -1,13 +1,13 @@
 -- Which pieces a region meets, piece by piece.
-use Rattle.std.proofs.Common.{◌≡◌, ℕ, ◌+◌, ◌<◌, ◌≤◌, Bool, true, false, ◌&&◌, cond, leb, List, [], ◌∷◌, ◌++◌, length, take, get_or, refl, sym, ap, ◌∙◌, arith, append-nil}
+use Rattle.std.proofs.Common.{◌≡◌, ℕ, ◌+◌, ◌<◌, ◌≤◌, Bool, true, false, ◌&&◌, cond, leb, List, [], ◌∷◌, ◌++◌, length, take, drop, get_or, refl, sym, ap, ◌∙◌, arith, append-nil, length-append}
 use Rattle.std.specs.List.{list_all}
 use Rattle.std.proofs.lemmas.Bool.{leb-true, le-leb, false≢true}
-use Rattle.std.proofs.lemmas.List.{take_more}
+use Rattle.std.proofs.lemmas.List.{take_more, take-append-drop}
 use Rattle.std.proofs.lemmas.List.Elements.{All-cons, All-nil, filter-append}
 use Rattle.idx_geom.specs.Region.{HaveCommonPoint, LiesIn, common_bounds, lower_ends}
 use Rattle.idx_geom.proofs.EndsLemmas.{IsOrdered}
 use Rattle.idx_geom.proofs.LiesInLemmas.{LiesIn-common_bounds, LiesIn-lower_ends, both_from_common_bounds}
-use Rattle.idx_pieces.specs.Parcels.{meeting}
+use Rattle.idx_pieces.specs.Parcels.{MeetsSome, meeting}
 use Rattle.idx_pieces.specs.Ranks.{meets}
 use Rattle.idx_pieces.specs.declared.piece.Piece.{Piece}
 
@@ -59,3 +59,15 @@ pub meeting-skip : (region : List (ℕ × ℕ)) (pieces : List Piece) (i : ℕ) 
     meeting region (take (i + 1) pieces) ≡ meeting region (take i pieces)
 meeting-skip region pieces i p lt at missed =
     meeting-one region pieces i p lt at ∙ ap (λ t. meeting region (take i pieces) ++ cond t (p ∷ []) []) missed ∙ append-nil (meeting region (take i pieces))
+
+-- a piece that is met is some
+pub meets-one : (region : List (ℕ × ℕ)) (pieces : List Piece) (i : ℕ) (p : Piece) → i < length pieces → p ≡ get_or pieces i p → HaveCommonPoint region p.region →
+    MeetsSome region pieces
+meets-one region pieces i p lt at met none =
+    let front : List Piece = meeting region (take (i + 1) pieces) in
+    let back : List Piece = meeting region (drop (i + 1) pieces) in
+    let parts : meeting region pieces ≡ front ++ back =
+    sym (ap (meeting region) (take-append-drop (i + 1) pieces))
+    ∙ filter-append (λ (q : Piece). meets region q.region) (take (i + 1) pieces) (drop (i + 1) pieces) in
+    let more : front ≡ meeting region (take i pieces) ++ p ∷ [] = meeting-more region pieces i p lt at (meets-from_point region p.region met) in
+    absurd (omega (arith, ap length none, ap length parts, length-append front back, ap length more, length-append (meeting region (take i pieces)) (p ∷ [])))

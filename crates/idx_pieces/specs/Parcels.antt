@@ -1,5 +1,5 @@
 -- The parcels of a rank: one for each piece that its region meets.
-use Rattle.std.specs.Prelude.{◌≡◌, ℕ, ◌-◌, ◌*◌, ◌<◌, ◌≤◌, List, filter, length, map, sum, All, IfSome, Option}
+use Rattle.std.specs.Prelude.{◌≡◌, ◌≢◌, ℕ, ◌-◌, ◌*◌, ◌<◌, ◌≤◌, List, [], filter, length, map, sum, All, IfSome, Option}
 use Rattle.idx_geom.specs.Region.{common_bounds, lower_ends, place_of, upper_ends}
 use Rattle.idx_fields.specs.Field.{sample_bytes}
 use Rattle.idx_header.specs.Header.{HeaderValue}
@@ -12,6 +12,10 @@ use Rattle.idx_pieces.specs.declared.piece.Piece.{Piece}
 -- the pieces that a region meets
 abbrev pub meeting : List (ℕ × ℕ) → List Piece → List Piece
 meeting region pieces = filter (λ p. meets region p.region) pieces
+
+-- it meets one at least
+abbrev pub MeetsSome : List (ℕ × ℕ) → List Piece → Type 0
+MeetsSome region pieces = meeting region pieces ≢ []
 
 -- what a rank's parcel of a piece is of: its rank, its piece and its region
 abbrev pub heading_of : ℕ → List (ℕ × ℕ) → Piece → ℕ × (ℕ × List (ℕ × ℕ))

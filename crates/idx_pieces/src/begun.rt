@@ -1,7 +1,9 @@
-ghost use Rattle.std.specs.Prelude.{◌≡◌, ℕ, ◌<◌, ◌≤◌, All, IfOk, List, Option, filter, length, map};
+ghost use Rattle.std.specs.Prelude.{◌≡◌, ℕ, ◌*◌, ◌^◌, ◌<◌, ◌≤◌, All, IfOk, List, OnErr, Option, filter, length, map, sum};
+ghost use Rattle.idx_fields.specs.Field.{sample_bytes};
 ghost use Rattle.idx_geom.specs.Region.{HoldsAll, common_bounds, place_of, points, upper_ends};
-ghost use Rattle.idx_pieces.specs.Parcels.{heading_of, meeting};
-ghost use Rattle.idx_pieces.specs.Reading.{EndsBelow, HoldsUpTo, IsReady, heading};
+ghost use Rattle.idx_pieces.specs.Parcels.{MeetsSome, heading_of, meeting};
+ghost use Rattle.idx_pieces.specs.Reading.{EndsBelow, HoldsUpTo, IsReady, bytes_before, heading};
+ghost use Rattle.idx_pieces.specs.Samples.{region_bytes};
 
 use crate::cursor::Cursor;
 use crate::filling::Filling;
@@ -29,7 +31,7 @@ fn begin(
     prove!(extent.axes() >= 2);
     prove!(region.axes() >= 2);
     prove!(region.count() >= 1);
-    let bytes = Bytes::with_capacity(alloc, room_of(header, &extent, &region))?;
+    let bytes = Bytes::with_capacity(alloc, room_of(header, &region) as usize)?;
     let cursor = Cursor::at(&extent, &region, 0);
     Ok(Filling {
         parcel: Parcel {
@@ -42,15 +44,28 @@ fn begin(
     })
 }
 
-/// How many bytes the samples of a region of a box have, those of all fields together. It is asked for as room alone:
-/// no clause promises it.
-pub(crate) fn room_of(header: &Header, extent: &Region, region: &Region) -> usize {
-    region
-        .count()
-        .saturating_mul(header.volume_bytes() / extent.count()) as usize
+/// How many bytes the samples of a region have, those of all fields together: the room that they are to be taken in.
+pub(crate) fn room_of(header: &Header, region: &Region) -> u64
+    ensures bytes { result ≡ region_bytes header.now region.now }
+    ensures few { result ≤ 2 ^ 52 }
+{
+    region.count() * point_bytes(header)
 }
 
-/// The parcels of a rank with no samples yet: one for each piece that its region meets.
+/// How many bytes a point has: those of its sample of each field.
+fn point_bytes(header: &Header) -> u64
+    ensures bytes { result ≡ sum (map sample_bytes header.now.fields) }
+    ensures few { result ≤ 2 ^ 12 }
+{
+    let mut bytes = 0;
+    'fields: for field in 0..header.field_count() {
+        bytes += header.sample_bytes(field);
+    }
+    bytes
+}
+
+/// The parcels of a rank with no samples yet: one for each piece that its region meets. Memory is taken only where there
+/// is such a piece.
 pub(crate) fn begin_all(
     alloc: Global,
     header: &Header,
@@ -65,6 +80,7 @@ pub(crate) fn begin_all(
     ensures held { IfOk result (λ parts. (told : Option (List ℕ)) → All (HoldsUpTo header.now told 0) parts.items) }
     ensures headings { IfOk result (λ parts.
         map heading parts.items ≡ map (heading_of rank region.now) (meeting region.now pieces.now.items)) }
+    ensures some { OnErr result (MeetsSome region.now pieces.now.items) }
 {
     let mut parts = Vec::new(alloc);
     'pieces: for i in 0..pieces.len() {

@@ -38,8 +38,8 @@ pub(crate) fn joined(
     ensures valid { IsHeader header.now }
 {
     let places = place_count(header, piece);
-    let room = room_of(header, &header.region(), &piece.region);
-    let mut bytes = Bytes::with_capacity(alloc, room)?;
+    let room = room_of(header, &piece.region);
+    let mut bytes = Bytes::with_capacity(alloc, room as usize)?;
     let mut before = 0;
     for field in 0..header.field_count() {
         let size = header.sample_bytes(field);

@@ -1,8 +1,8 @@
-ghost use Rattle.std.specs.Prelude.{◌≡◌, ℕ, ◌-◌, ◌*◌, ◌^◌, ◌≤◌, All, IfOk, List, OnOk, length, map, sum};
+ghost use Rattle.std.specs.Prelude.{◌≡◌, ℕ, ◌-◌, ◌*◌, ◌^◌, ◌≤◌, All, IfOk, List, OnErr, OnOk, length, map, sum};
 ghost use Rattle.idx_geom.specs.Region.{HoldsAll, points};
 ghost use Rattle.idx_fields.specs.Field.{sample_bytes};
 ghost use Rattle.idx_header.specs.Header.{volume_bytes};
-ghost use Rattle.idx_pieces.specs.Parcels.{AreParcelsOf, AsksBetween, IsFull};
+ghost use Rattle.idx_pieces.specs.Parcels.{AreParcelsOf, AsksBetween, IsFull, MeetsSome};
 ghost use Rattle.idx_pieces.specs.RawReads.{AsksAtMost, HasVolume, KeepsRaw};
 ghost use Rattle.idx_pieces.specs.Reading.{BeginsFrom, EndsBelow, HoldsUpTo, IsReady, heading};
 
@@ -20,6 +20,7 @@ const WINDOW_BYTES: usize = 1 << 18;
 
 /// Reads what a rank has of pieces: one parcel for each piece that its region meets, in their order. The raw volume is
 /// read through a window of 256 KiB, in rising order. `RawFault` where a call on it failed, with its count of faults.
+/// Where the region meets no piece, nothing is read, no memory is taken, and the answer is Ok.
 pub fn read_rank<V: Source>(
     alloc: Global,
     raw: &mut V,
@@ -35,6 +36,7 @@ pub fn read_rank<V: Source>(
     ensures full { IfOk result (λ parcels. All (IsFull header.now (V.contents raw.old)) parcels.items) }
     ensures raw { KeepsRaw (V.contents raw.old) (V.contents raw.new) (V.faults raw.old) (V.faults raw.new) result }
     ensures asked { AsksBetween header.now region.now pieces.now.items (V.asked raw.old) (V.asked raw.new) }
+    ensures some { OnErr result (MeetsSome region.now pieces.now.items) }
 {
     read_by_window(alloc, raw, header, region, rank, pieces, WINDOW_BYTES)
 }
@@ -57,10 +59,14 @@ pub(crate) fn read_by_window<V: Source>(
     ensures full { IfOk result (λ parcels. All (IsFull header.now (V.contents raw.old)) parcels.items) }
     ensures raw { KeepsRaw (V.contents raw.old) (V.contents raw.new) (V.faults raw.old) (V.faults raw.new) result }
     ensures asked { AsksBetween header.now region.now pieces.now.items (V.asked raw.old) (V.asked raw.new) }
+    ensures some { OnErr result (MeetsSome region.now pieces.now.items) }
 {
     let Ok(mut parts) = begin_all(alloc, header, region, rank, pieces) else {
         return Err(RawRefusal::NoMemory);
     };
+    if parts.is_empty() {
+        return Ok(Vec::new(alloc));
+    }
     let Ok(mut window) = Vec::from_elem(alloc, 0u8, room) else {
         return Err(RawRefusal::NoMemory);
     };

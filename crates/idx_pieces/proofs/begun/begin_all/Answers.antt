@@ -1,11 +1,11 @@
-use Rattle.std.proofs.Common.{Vec, Global, ◌≡◌, ℕ, ◌<◌, List, [], ◌∷◌, ◌++◌, length, take, get_or, map, sym, ap, ◌∙◌, subst, arith}
+use Rattle.std.proofs.Common.{Vec, Global, ◌≡◌, ℕ, ◌<◌, List, [], ◌∷◌, ◌++◌, length, take, get_or, map, sym, ap, ◌∙◌, subst, arith, rules}
 use Rattle.std.proofs.lemmas.List.{map-append}
 use Rattle.std.proofs.lemmas.List.Elements.{All-same, All-push}
-use Rattle.idx_pieces.specs.Parcels.{heading_of, meeting}
+use Rattle.idx_pieces.specs.Parcels.{MeetsSome, heading_of, meeting}
 use Rattle.idx_pieces.specs.Reading.{HoldsUpTo, IsReady, heading}
 use Rattle.idx_pieces.specs.declared.filling.Filling.{Filling}
 use Rattle.idx_pieces.specs.declared.piece.Piece.{Piece}
-use Rattle.idx_pieces.proofs.MeetLemmas.{meets-from_point, misses-from_none, meeting-more, meeting-skip}
+use Rattle.idx_pieces.proofs.MeetLemmas.{meets-from_point, meets-one, misses-from_none, meeting-more, meeting-skip}
 use Rattle.idx_pieces.proofs.begun.begin_all.Goals.{in-None, in-Some+in_ok-part-in-Some+in_ok-push-in-Some}
 use Rattle.idx_pieces.proofs.begun.begin_all.Goals as goal
 
@@ -48,3 +48,17 @@ pieces-preserved c =
                 ∙ sym (ap (map (heading_of c.args.rank region)) more ∙ map-append (heading_of c.args.rank region) (meeting region (take i pieces)) (p ∷ []));
           }
     ]
+
+pub returns-in_err-part-in-Some-clause-some : goal.returns-in_err-part-in-Some-clause-some
+returns-in_err-part-in-Some-clause-some c =
+    let p : Piece = c.index-piece.result.now in
+    let some : MeetsSome c.args.region.now c.args.pieces.now.items =
+    meets-one c.args.region.now c.args.pieces.now.items c.pieces.i p (omega (arith, c.pieces-test.true, c.pieces.auto.i-end, c.len-i-end.ensures)) c.index-piece.ensures c.in-Some.ensures.bounds.0 in
+    search rules
+
+pub returns-in_err-push-in-Some-clause-some : goal.returns-in_err-push-in-Some-clause-some
+returns-in_err-push-in-Some-clause-some c =
+    let p : Piece = c.index-piece.result.now in
+    let some : MeetsSome c.args.region.now c.args.pieces.now.items =
+    meets-one c.args.region.now c.args.pieces.now.items c.pieces.i p (omega (arith, c.pieces-test.true, c.pieces.auto.i-end, c.len-i-end.ensures)) c.index-piece.ensures c.in-Some.ensures.bounds.0 in
+    search rules
