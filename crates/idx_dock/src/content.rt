@@ -1,7 +1,7 @@
 //! The blocks of a file, as the delivered runs give them.
 ghost use Rattle.std.specs.Prelude.{◌≡◌, ◌+◌, ◌-◌, ◌*◌, ◌^◌, ◌<◌, ◌≤◌, [], IfOk, OnErr, OnOk, length, min, replicate, slice_range};
 ghost use Rattle.std.specs.List.{flat_map, range_with_len};
-ghost use Rattle.idx_outside.specs.Cause.{Rose};
+ghost use Rattle.idx_outside.specs.Cause.{Rose, counted};
 ghost use Rattle.idx_outside.specs.Contents.{appended};
 ghost use Rattle.idx_header.specs.Header.{IsHeader, block_count, sample_bytes_of};
 ghost use Rattle.idx_layout.specs.Placing.{present_blocks};
@@ -34,6 +34,8 @@ pub(crate) fn write_file<D: Draft>(
         appended (D.contents draft.old) (file_among header.now file (runs_in awaited.now))) }
     ensures quiet { OnOk result (D.faults draft.new ≡ D.faults draft.old) }
     ensures outage { OnErr result (Rose (D.faults draft.old) (D.faults draft.new)) }
+    ensures once { OnErr result (D.faults draft.new ≡ counted (D.faults draft.old)) }
+    ensures path { D.path draft.new ≡ D.path draft.old }
 {
     put_table(header, file, buffer, draft)?;
     put_fields(header, file, awaited, passed, buffer, draft)?;
@@ -56,6 +58,8 @@ fn put_fields<D: Draft>(
         (fields_among header.now file (runs_in awaited.now))) }
     ensures quiet { OnOk result (D.faults draft.new ≡ D.faults draft.old) }
     ensures outage { OnErr result (Rose (D.faults draft.old) (D.faults draft.new)) }
+    ensures once { OnErr result (D.faults draft.new ≡ counted (D.faults draft.old)) }
+    ensures path { D.path draft.new ≡ D.path draft.old }
 {
     for field in 0..header.field_count() {
         put_field(header, file, field, awaited, passed, buffer, draft)?;
@@ -81,6 +85,8 @@ fn put_field<D: Draft>(
         (flat_map (block_among header.now (runs_in awaited.now) field) (present_blocks (placing_of header.now) file))) }
     ensures quiet { OnOk result (D.faults draft.new ≡ D.faults draft.old) }
     ensures outage { OnErr result (Rose (D.faults draft.old) (D.faults draft.new)) }
+    ensures once { OnErr result (D.faults draft.new ≡ counted (D.faults draft.old)) }
+    ensures path { D.path draft.new ≡ D.path draft.old }
 {
     reset(passed);
     for block in file_blocks(header, file) {
@@ -128,6 +134,8 @@ fn put_block<D: Draft>(
         (ArePassed header.now field ((block + 1) * 2 ^ header.now.block_bits) awaited.now passed.new) }
     ensures quiet { OnOk result (D.faults draft.new ≡ D.faults draft.old) }
     ensures outage { OnErr result (Rose (D.faults draft.old) (D.faults draft.new)) }
+    ensures once { OnErr result (D.faults draft.new ≡ counted (D.faults draft.old)) }
+    ensures path { D.path draft.new ≡ D.path draft.old }
 {
     let samples = block_samples(header);
     let mut from = block * samples;
@@ -166,6 +174,8 @@ fn put_some<D: Draft>(
     ensures passed { ArePassed header.now field from awaited.now passed.new }
     ensures quiet { OnOk result (D.faults draft.new ≡ D.faults draft.old) }
     ensures outage { OnErr result (Rose (D.faults draft.old) (D.faults draft.new)) }
+    ensures once { OnErr result (D.faults draft.new ≡ counted (D.faults draft.old)) }
+    ensures path { D.path draft.new ≡ D.path draft.old }
 {
     let Some(run) = next_run(header, file, field, from, awaited, passed) else {
         return put_gap(header, field, from, end, buffer, draft);
@@ -200,6 +210,8 @@ fn put_run<D: Draft>(
         (sample_bytes_of header.now run.now.field * (to - run.now.first)))) }
     ensures quiet { OnOk result (D.faults draft.new ≡ D.faults draft.old) }
     ensures outage { OnErr result (Rose (D.faults draft.old) (D.faults draft.new)) }
+    ensures once { OnErr result (D.faults draft.new ≡ counted (D.faults draft.old)) }
+    ensures path { D.path draft.new ≡ D.path draft.old }
 {
     let size = header.sample_bytes(run.field);
     let to = end_of(header, file, run).min(end);
@@ -227,6 +239,8 @@ fn put_gap<D: Draft>(
         (replicate (sample_bytes_of header.now field * (to - from)) 0)) }
     ensures quiet { OnOk result (D.faults draft.new ≡ D.faults draft.old) }
     ensures outage { OnErr result (Rose (D.faults draft.old) (D.faults draft.new)) }
+    ensures once { OnErr result (D.faults draft.new ≡ counted (D.faults draft.old)) }
+    ensures path { D.path draft.new ≡ D.path draft.old }
 {
     put_zeros(header.sample_bytes(field) * (to - from), buffer, draft)?;
     Ok(to)

@@ -5,7 +5,7 @@ ghost use Rattle.idx_layout.specs.Placing.{file_numbers};
 ghost use Rattle.idx_layout.specs.OfHeader.{placing_of};
 ghost use Rattle.idx_pieces.specs.Runs.{IsRun};
 ghost use Rattle.std.specs.Option.{ForSome};
-ghost use Rattle.idx_outside.specs.Cause.{Rose};
+ghost use Rattle.idx_outside.specs.Cause.{Rose, counted};
 ghost use Rattle.idx_outside.specs.Files.{retold};
 ghost use Rattle.idx_dock.specs.Content.{dock_bytes};
 ghost use Rattle.idx_dock.specs.Dock.{FitsDock, IsDivision, IsDock, missing, new_dock, unwanted, with_shipment};
@@ -109,12 +109,17 @@ impl Dock {
     }
 
     /// Appends the file to a draft, and seals it: the table, and for each field the present blocks, with the delivered
-    /// samples at their addresses and zeros elsewhere. After `Outage` the draft comes back. Takes no memory.
+    /// samples at their addresses and zeros elsewhere. After `Outage`, of the one call on the draft that failed, the draft
+    /// comes back: nothing is tried again. Takes no memory.
     pub fn write<D: Draft>(self, draft: D) -> Result<D::Leaf, (D, Outage)>
         requires complete { missing self ≡ None }
         requires empty { ForSome (D.contents draft) (λ bytes. bytes ≡ []) }
         ensures contents { IfOk result (λ leaf. D.Leaf.contents leaf ≡ retold (D.contents draft) (dock_bytes self)) }
+        ensures unfailed { IfOk result (λ leaf. D.Leaf.faults leaf ≡ D.faults draft) }
+        ensures path { IfOk result (λ leaf. D.Leaf.path leaf ≡ D.path draft) }
         ensures outage { IfErr result (λ back. Rose (D.faults draft) (D.faults back.0)) }
+        ensures once { IfErr result (λ back. D.faults back.0 ≡ counted (D.faults draft)) }
+        ensures same_path { IfErr result (λ back. D.path back.0 ≡ D.path draft) }
     {
         let Dock {
             header,

@@ -1,7 +1,7 @@
 //! Bytes that are gathered in a buffer before a draft takes them.
 ghost use Rattle.std.specs.Prelude.{◌≡◌, ◌+◌, ◌*◌, ◌^◌, ◌<◌, ◌≤◌, [], ◌++◌, OnErr, OnOk, length, replicate, vec_capacity, vec_len};
 ghost use Rattle.std.specs.List.{flat_map};
-ghost use Rattle.idx_outside.specs.Cause.{Rose};
+ghost use Rattle.idx_outside.specs.Cause.{Rose, counted};
 ghost use Rattle.idx_outside.specs.Contents.{appended};
 ghost use Rattle.idx_header.specs.Header.{block_count};
 ghost use Rattle.idx_layout.specs.declared.layout.Layout.{Layout};
@@ -27,6 +27,8 @@ pub(crate) fn put<D: Draft>(bytes: &[u8], buffer: &mut Vec<u8>, draft: &mut D) -
         appended (appended (D.contents draft.old) buffer.old.items) bytes.now) }
     ensures quiet { OnOk result (D.faults draft.new ≡ D.faults draft.old) }
     ensures outage { OnErr result (Rose (D.faults draft.old) (D.faults draft.new)) }
+    ensures once { OnErr result (D.faults draft.new ≡ counted (D.faults draft.old)) }
+    ensures path { D.path draft.new ≡ D.path draft.old }
 {
     if bytes.len() >= LARGE || bytes.len() > buffer.capacity() {
         put_many(bytes, buffer, draft)
@@ -43,6 +45,8 @@ fn put_few<D: Draft>(bytes: &[u8], buffer: &mut Vec<u8>, draft: &mut D) -> Resul
         appended (appended (D.contents draft.old) buffer.old.items) bytes.now) }
     ensures quiet { OnOk result (D.faults draft.new ≡ D.faults draft.old) }
     ensures outage { OnErr result (Rose (D.faults draft.old) (D.faults draft.new)) }
+    ensures once { OnErr result (D.faults draft.new ≡ counted (D.faults draft.old)) }
+    ensures path { D.path draft.new ≡ D.path draft.old }
 {
     if bytes.len() > buffer.capacity() - buffer.len() {
         flush(buffer, draft)?;
@@ -57,6 +61,8 @@ fn put_many<D: Draft>(bytes: &[u8], buffer: &mut Vec<u8>, draft: &mut D) -> Resu
         appended (appended (D.contents draft.old) buffer.old.items) bytes.now) }
     ensures quiet { OnOk result (D.faults draft.new ≡ D.faults draft.old) }
     ensures outage { OnErr result (Rose (D.faults draft.old) (D.faults draft.new)) }
+    ensures once { OnErr result (D.faults draft.new ≡ counted (D.faults draft.old)) }
+    ensures path { D.path draft.new ≡ D.path draft.old }
 {
     flush(buffer, draft)?;
     draft.append(bytes)
@@ -70,6 +76,8 @@ pub(crate) fn flush<D: Draft>(buffer: &mut Vec<u8>, draft: &mut D) -> Result<(),
     ensures room { vec_capacity buffer.old ≤ vec_capacity buffer.new }
     ensures quiet { OnOk result (D.faults draft.new ≡ D.faults draft.old) }
     ensures outage { OnErr result (Rose (D.faults draft.old) (D.faults draft.new)) }
+    ensures once { OnErr result (D.faults draft.new ≡ counted (D.faults draft.old)) }
+    ensures path { D.path draft.new ≡ D.path draft.old }
 {
     draft.append(buffer)?;
     buffer.clear();
@@ -96,6 +104,8 @@ pub(crate) fn put_zeros<D: Draft>(
         appended (appended (D.contents draft.old) buffer.old.items) (replicate count 0)) }
     ensures quiet { OnOk result (D.faults draft.new ≡ D.faults draft.old) }
     ensures outage { OnErr result (Rose (D.faults draft.old) (D.faults draft.new)) }
+    ensures once { OnErr result (D.faults draft.new ≡ counted (D.faults draft.old)) }
+    ensures path { D.path draft.new ≡ D.path draft.old }
 {
     put_copies(&[0; ZEROS], count, buffer, draft)
 }
@@ -113,6 +123,8 @@ fn put_copies<D: Draft>(
         appended (appended (D.contents draft.old) buffer.old.items) (replicate count 0)) }
     ensures quiet { OnOk result (D.faults draft.new ≡ D.faults draft.old) }
     ensures outage { OnErr result (Rose (D.faults draft.old) (D.faults draft.new)) }
+    ensures once { OnErr result (D.faults draft.new ≡ counted (D.faults draft.old)) }
+    ensures path { D.path draft.new ≡ D.path draft.old }
 {
     let mut left = count;
     while left > 0 {
@@ -137,6 +149,8 @@ pub(crate) fn put_table<D: Draft>(
         (replicate 40 0 ++ flat_map row_bytes (rows_of_file Layout.Hz (placing_of header.now) file))) }
     ensures quiet { OnOk result (D.faults draft.new ≡ D.faults draft.old) }
     ensures outage { OnErr result (Rose (D.faults draft.old) (D.faults draft.new)) }
+    ensures once { OnErr result (D.faults draft.new ≡ counted (D.faults draft.old)) }
+    ensures path { D.path draft.new ≡ D.path draft.old }
 {
     put(&[0; ROW_BYTES], buffer, draft)?;
     for row in file_rows(header, Layout::Hz, file) {
@@ -151,6 +165,8 @@ fn put_row<D: Draft>(row: &Row, buffer: &mut Vec<u8>, draft: &mut D) -> Result<(
         appended (appended (D.contents draft.old) buffer.old.items) (row_bytes row.now)) }
     ensures quiet { OnOk result (D.faults draft.new ≡ D.faults draft.old) }
     ensures outage { OnErr result (Rose (D.faults draft.old) (D.faults draft.new)) }
+    ensures once { OnErr result (D.faults draft.new ≡ counted (D.faults draft.old)) }
+    ensures path { D.path draft.new ≡ D.path draft.old }
 {
     let mut bytes = [0; ROW_BYTES];
     write_row(row, &mut bytes);

@@ -30,6 +30,7 @@ loop-from-preserved g c =
           ∙ ap (appended before) (range_two f from to end far c.in_ok-from.ensures.within)
           ∙ c.loop-from.invariant.written;
       quiet = c.in_ok-from.ensures.quiet ∙ c.loop-from.invariant.quiet;
+      path = c.put_some.ensures.path ∙ c.loop-from.invariant.path;
     }
 
 pub returns-clause-written : goal.returns-clause-written

@@ -15,6 +15,7 @@ invariant-loop-from g l =
       written : appended (appended (draft.contents l.draft) l.buffer.items) (flat_map (sample_among l.header (runs_in l.awaited) l.field) (range_with_len l.from (l.end - l.from)))
           ≡ appended (appended (draft.contents l.fn.draft) l.fn.buffer.items) (block_among l.header (runs_in l.awaited) l.field l.block);
       quiet : draft.faults l.draft ≡ draft.faults l.fn.draft;
+      path : draft.path l.draft ≡ draft.path l.fn.draft;
     }
 
 abbrev pub decreases-loop-from : goal.decreases-loop-from

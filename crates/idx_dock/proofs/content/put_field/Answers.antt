@@ -16,6 +16,7 @@ loop-block-init g c =
       ahead = ahead_all h c.args.file c.args.field (length c.args.passed.now) c.args.awaited.now c.reset.new.passed c.into_iter-block-iterator.result c.requires.writable.header c.requires.passed c.reset.ensures all;
       written = ap (λ blocks. appended before (flat_map (block_among h (runs_in c.args.awaited.now) c.args.field) blocks)) all;
       quiet = refl;
+      path = refl;
     }
 
 pub put_block-requires-clause-passed : goal.put_block-requires-clause-passed
@@ -41,4 +42,5 @@ loop-block-preserved g c =
           ∙ ap (λ blocks. appended before (flat_map block blocks)) (sym first)
           ∙ c.loop-block.invariant.written;
       quiet = c.in_ok-put_block.ensures.quiet ∙ c.loop-block.invariant.quiet;
+      path = c.put_block.ensures.path ∙ c.loop-block.invariant.path;
     }

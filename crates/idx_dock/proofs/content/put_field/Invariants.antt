@@ -16,4 +16,5 @@ invariant-loop-block g l =
       written : appended (appended (draft.contents l.draft) l.buffer.items) (flat_map (block_among l.header (runs_in l.awaited) l.field) l.block-iterator)
           ≡ appended (appended (draft.contents l.fn.draft) l.fn.buffer.items) (flat_map (block_among l.header (runs_in l.awaited) l.field) (present_blocks (placing_of l.header) l.file));
       quiet : draft.faults l.draft ≡ draft.faults l.fn.draft;
+      path : draft.path l.draft ≡ draft.path l.fn.draft;
     }

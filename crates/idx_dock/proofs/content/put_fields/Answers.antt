@@ -23,6 +23,7 @@ loop-field-preserved g c =
           ∙ ap (λ fields. appended before (flat_map part fields)) (sym (range_step field n exists))
           ∙ c.loop-field.invariant.written;
       quiet = c.in_ok-put_field.ensures.quiet ∙ c.loop-field.invariant.quiet;
+      path = c.put_field.ensures.path ∙ c.loop-field.invariant.path;
     }
 
 pub returns-clause-written : goal.returns-clause-written

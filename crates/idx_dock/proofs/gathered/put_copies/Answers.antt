@@ -21,4 +21,5 @@ loop-left-preserved g c =
           ∙ ap (appended before) (replicate-append-replicate some rest 0 ∙ ap (λ n. replicate n 0) parts)
           ∙ c.loop-left.invariant.written;
       quiet = c.in_ok-put.ensures.quiet ∙ c.loop-left.invariant.quiet;
+      path = c.put.ensures.path ∙ c.loop-left.invariant.path;
     }

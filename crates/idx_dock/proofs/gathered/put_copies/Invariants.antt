@@ -11,6 +11,7 @@ invariant-loop-left g l =
       written : appended (appended (draft.contents l.draft) l.buffer.items) (replicate l.left 0)
           ≡ appended (appended (draft.contents l.fn.draft) l.fn.buffer.items) (replicate l.count 0);
       quiet : draft.faults l.draft ≡ draft.faults l.fn.draft;
+      path : draft.path l.draft ≡ draft.path l.fn.draft;
     }
 
 abbrev pub decreases-loop-left : goal.decreases-loop-left

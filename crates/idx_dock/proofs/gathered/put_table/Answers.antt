@@ -19,6 +19,7 @@ loop-row-init g c =
           (c.into_iter-row-iterator.ensures.into_iter_gives ∙ c.file_rows-row-items.ensures.rows)
           ∙ appended-appended before (replicate 40 0) (flat_map row_bytes rows);
       quiet = c.in_ok-put.ensures.quiet;
+      path = c.put.ensures.path;
     }
 
 pub loop-row-preserved : goal.loop-row-preserved
@@ -31,4 +32,5 @@ loop-row-preserved g c =
           ∙ ap (λ rows. appended before (flat_map row_bytes rows)) (sym c.in-Some.ensures.steps)
           ∙ c.loop-row.invariant.written;
       quiet = c.in_ok-put_row.ensures.quiet ∙ c.loop-row.invariant.quiet;
+      path = c.put_row.ensures.path ∙ c.loop-row.invariant.path;
     }

@@ -16,4 +16,5 @@ invariant-loop-row g l =
       written : appended (appended (draft.contents l.draft) l.buffer.items) (flat_map row_bytes l.row-iterator)
           ≡ appended (appended (draft.contents l.fn.draft) l.fn.buffer.items) (replicate 40 0 ++ flat_map row_bytes (rows_of_file Hz (placing_of l.header) l.file));
       quiet : draft.faults l.draft ≡ draft.faults l.fn.draft;
+      path : draft.path l.draft ≡ draft.path l.fn.draft;
     }
