@@ -41,6 +41,8 @@ impl<D: Draft, R: Clock + Copy, W: Write + Copy> Draft for WatchedDraft<D, R, W>
 
     ghost contents = { D.contents };
 
+    ghost path = { D.path };
+
     ghost faults = { D.faults };
 
     fn append(&mut self, piece: &[u8]) -> Result<(), Outage> {
