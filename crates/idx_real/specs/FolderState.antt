@@ -41,10 +41,11 @@ pub record DraftState (F : Type 0) : Type 0 where
   pub path : List ℕ
   pub faults : Faults
 
--- a finished file: its path once it is committed, and its length
+-- a finished file: its path once it is committed, its length, and how many faults its draft had
 pub record LeafState : Type 0 where
   pub path : List ℕ
   pub len : ℕ
+  pub faults : ℕ
 
 -- Whether each leaf was written for the path that it is to stand under: its own path ends with that one.
 abbrev pub are_of_their_paths : List (List ℕ × LeafState) → Bool

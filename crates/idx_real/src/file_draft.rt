@@ -77,6 +77,8 @@ impl<F: Write + OpenFile + Drop> Draft for FileDraft<F> {
 
     ghost contents = { λ _. None };
 
+    ghost path = { λ _. None };
+
     ghost faults = { λ s. s.faults.count };
 
     fn append(&mut self, piece: &[u8]) -> Result<(), Outage>
@@ -95,6 +97,7 @@ impl<F: Write + OpenFile + Drop> Draft for FileDraft<F> {
     /// The length is the one that the system tells of the file.
     fn seal(mut self) -> Result<FileLeaf, (FileDraft<F>, Outage)>
         ensures path { IfOk result (λ leaf. leaf.path ≡ self.path) }
+        ensures faults { IfOk result (λ leaf. leaf.faults ≡ self.faults.count) }
         ensures same { IfErr result (λ back. (back.0.file ≡ self.file) × (back.0.staged ≡ self.staged) × (back.0.path ≡ self.path)) }
         ensures err { IfErr result (λ back. back.0.faults.count ≡ counted self.faults.count) }
         ensures cause { IfErr result (λ back. Rose self.faults.count back.0.faults.count) }
@@ -106,9 +109,9 @@ impl<F: Write + OpenFile + Drop> Draft for FileDraft<F> {
                     file: _file,
                     staged: _staged,
                     path,
-                    log: _log,
+                    log,
                 } = self;
-                Ok(FileLeaf::new(path, len))
+                Ok(FileLeaf::sealed(path, len, log.faults()))
             }
             Err(outage) => Err((self, outage)),
         }

@@ -153,6 +153,8 @@ impl<S: Read + Write + OpenStream + Drop, R: Clock + Drop> Link for TcpLink<S, R
 
     ghost written = { λ _. None };
 
+    ghost readings = { λ _. None };
+
     ghost faults = { λ s. s.faults.count };
 
     fn read(&mut self, into: &mut [u8]) -> Result<usize, Outage>
