@@ -1,5 +1,6 @@
 //! How a header's text is put under its name, where no other stands.
 use crate::lock::hold;
+use crate::regular_file::{front, open_regular};
 use crate::step_folder::PART;
 use crate::{Lockable, Reason};
 use std::alloc::Global;
@@ -11,8 +12,11 @@ use std::rt::Files;
 /// How many names beside a path are tried. Each is that of a run that is writing now, or of one that died.
 const STAGED_NAMES: u64 = 1000;
 
-/// Puts a text under a path where nothing stands, or an empty file. It is written beside it first, so that the path
-/// has all of it or nothing.
+/// How often an empty file is looked at that another run is writing over.
+const MOST_LOOKS: u32 = 1_000;
+
+/// Puts a text under a path where nothing stands, an empty file, or the same text already. It is written beside it first,
+/// so that the path has all of it or nothing.
 pub(crate) fn put_new<R: Files>(
     rt: &R,
     alloc: Global,
@@ -24,7 +28,7 @@ where
 {
     let (staged, file) = stage(rt, alloc, path)?;
     let put = match write_all(file, text) {
-        Ok(()) => link_new(rt, staged.as_str(), path),
+        Ok(()) => link_new(rt, alloc, staged.as_str(), path, text),
         Err(reason) => Err(reason),
     };
     let _removed = fs::remove_file(rt, staged.as_str());
@@ -53,30 +57,88 @@ fn write_all<F: Write + Drop>(file: F, text: &[u8]) -> Result<(), Reason> {
     Ok(file.flush()?)
 }
 
-/// Gives a file a second name, where nothing stands under it but an empty file.
-fn link_new<R: Files>(rt: &R, staged: &str, path: &str) -> Result<(), Reason>
+/// Gives a file with this text a second name, where nothing stands under it but an empty file or the same text.
+fn link_new<R: Files>(
+    rt: &R,
+    alloc: Global,
+    staged: &str,
+    path: &str,
+    text: &[u8],
+) -> Result<(), Reason>
 where
     R::File: Lockable,
 {
     match fs::hard_link(rt, staged, path) {
         Ok(()) => Ok(()),
-        Err(error) if error.kind() == ErrorKind::AlreadyExists => replace_empty(rt, staged, path),
+        Err(error) if error.kind() == ErrorKind::AlreadyExists => {
+            settle(rt, alloc, staged, path, text)
+        }
         Err(error) => Err(Reason::from(error)),
     }
 }
 
-/// Renames a file over an empty one, which no other run may do at the same time.
-fn replace_empty<R: Files>(rt: &R, staged: &str, path: &str) -> Result<(), Reason>
+/// Puts the file in the place of an empty one. While another run does so, it is looked at again.
+fn settle<R: Files>(
+    rt: &R,
+    alloc: Global,
+    staged: &str,
+    path: &str,
+    text: &[u8],
+) -> Result<(), Reason>
+where
+    R::File: Lockable,
+{
+    for _ in 0..MOST_LOOKS {
+        match settle_once(rt, alloc, staged, path, text) {
+            Err(Reason::AnotherRun) => {}
+            settled => return settled,
+        }
+    }
+    Err(Reason::AnotherRun)
+}
+
+/// Puts the file in the place of an empty one. The same text is as good as put, and nothing is put over another.
+fn settle_once<R: Files>(
+    rt: &R,
+    alloc: Global,
+    staged: &str,
+    path: &str,
+    text: &[u8],
+) -> Result<(), Reason>
 where
     R::File: Lockable,
 {
     let standing = fs::symlink_metadata(rt, path)?;
-    if !standing.is_file() || standing.len() > 0 {
+    if !standing.is_file() {
         return Err(Reason::StandsAlready);
     }
+    if standing.len() == 0 {
+        return replace_empty(rt, staged, path);
+    }
+    if has_text(rt, alloc, path, text)? {
+        return Ok(());
+    }
+    Err(Reason::StandsAlready)
+}
+
+/// Whether a file has this text and no more.
+fn has_text<R: Files>(rt: &R, alloc: Global, path: &str, text: &[u8]) -> Result<bool, Reason> {
+    let most = (text.len() as u64).saturating_add(1);
+    match front(alloc, open_regular(rt, path)?, most) {
+        Ok(found) => Ok(found?.as_slice() == text),
+        Err(_) => Err(Reason::no_memory()),
+    }
+}
+
+/// Renames a file over an empty one, which no other run may do at the same time. Where one does, or has done so, that is
+/// told.
+fn replace_empty<R: Files>(rt: &R, staged: &str, path: &str) -> Result<(), Reason>
+where
+    R::File: Lockable,
+{
     let empty = hold(rt, path)?;
     if empty.metadata()?.len() > 0 {
-        return Err(Reason::StandsAlready);
+        return Err(Reason::AnotherRun);
     }
     Ok(fs::rename(rt, staged, path)?)
 }

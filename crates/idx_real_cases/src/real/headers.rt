@@ -35,13 +35,19 @@ fn puts(rt: &HostRuntime, path: &str, text: &[u8], fault: &str) -> bool {
     }
 }
 
+/// Texts other than the one that stands: of its length, shorter, longer, and empty.
+static OTHER_TEXTS: [&[u8]; 4] = [b"late", b"tex", b"texts", b""];
+
 #[test]
 fn a_header_is_put_once_and_read(rt: HostRuntime) -> Result<(), Fail> {
     let path = "first/set/dataset.idx";
     assert!(rt; reads(&rt, path, b"a"));
     assert!(rt; puts(&rt, path, b"text", "") && reads(&rt, path, b"atext"));
+    assert!(rt; puts(&rt, path, b"text", ""));
     let want = "first/set/dataset.idx: something stands there already";
-    assert!(rt; puts(&rt, path, b"late", want));
+    for &other in &OTHER_TEXTS {
+        assert!(rt; puts(&rt, path, other, want));
+    }
     assert!(rt; reads(&rt, path, b"atext"));
     assert!(rt; !stands(&rt, "first/set/dataset.idx.part0"));
     fs::remove_dir_all(&rt, "first")?;
