@@ -1,7 +1,8 @@
-ghost use Rattle.std.specs.Prelude.{◌≡◌, ◌↔◌, ◌<◌, ◌≤◌, None, IsSome, IfOk, OnOk, OnErr, length};
+ghost use Rattle.std.specs.Prelude.{◌≡◌, ◌↔◌, ◌+◌, ◌<◌, ◌≤◌, None, Ok, IsSome, IfOk, OnOk, OnErr, false, nat_eq, length};
 ghost use Rattle.std.specs.Io.KnownBytes.{Appends, ReadConsumes};
 ghost use Rattle.idx_outside.specs.Cause.{counted, NeverFalls, Rose};
 ghost use Rattle.idx_real.specs.Faults.{no_faults};
+ghost use Rattle.idx_real.specs.LinkState.{most_read, ReadsAsBefore};
 
 use crate::fault_log::FaultLog;
 use crate::{Patience, Reason};
@@ -11,14 +12,19 @@ use std::marker::Model;
 use std::net::{OpenStream, Shutdown};
 use std::time::{Clock, Duration, Instant};
 
+/// How many bytes of a link are read at most; behind them its input ends. Whoever serves a link keeps the targets of its
+/// heads as long as it lasts, so this bounds the memory that a peer can take.
+const MOST_READ: usize = 8 * 1024 * 1024;
+
 /// How many bytes are dropped at most of what a peer still sends at the end.
 const MOST_DROPPED: usize = 65_536;
 
 /// How often a read is made again at most that a signal interrupted.
 const MOST_INTERRUPTED: u32 = 1_000;
 
-/// A connection over TCP, of which nothing is known. Pieces are sent at once. A contract sees the stream and the
-/// faults.
+/// A connection over TCP, of which nothing is known. Pieces are sent at once. Its input ends where its peer ends it, and
+/// behind 8 MiB. A contract sees the stream, how much is still read of it, whether it has ended, how long a read waits and
+/// the faults.
 ///
 /// Each is one fault: a peer that is gone, one that lets the link wait longer than its patience, and any other answer
 /// of the system to a read or a write but bytes and the end of the input.
@@ -31,7 +37,9 @@ pub struct TcpLink<S: Read + Write + OpenStream + Drop, R: Clock + Drop> {
     waits: Duration,
     /// When the last piece was written, or the link began.
     since: Instant,
-    /// Whether the input has ended.
+    /// How many bytes are still read at most.
+    left: usize,
+    /// Whether the stream has ended.
     ended: bool,
     log: FaultLog,
 }
@@ -41,13 +49,25 @@ impl<S: Read + Write + OpenStream + Drop, R: Clock + Drop> Model for TcpLink<S, 
 
     ghost Value = { LinkState S };
 
-    ghost view = { λ s. record { stream = s.stream; faults = s.log } };
+    ghost view = { λ s. record {
+      stream = s.stream;
+      left = s.left;
+      ended = s.ended;
+      waits = s.waits;
+      faults = s.log;
+    } };
 }
 
 impl<S: Read + Write + OpenStream + Drop, R: Clock + Drop> TcpLink<S, R> {
     /// A connection that begins now.
     pub(crate) fn begin(rt: R, stream: S, patience: Patience) -> io::Result<TcpLink<S, R>>
-        ensures { IfOk result (λ link. link ≡ record { stream = stream; faults = no_faults }) }
+        ensures { IfOk result (λ link. link ≡ record {
+          stream = stream;
+          left = most_read;
+          ended = false;
+          waits = patience.silence;
+          faults = no_faults;
+        }) }
     {
         stream.set_nodelay(true)?;
         stream.set_read_timeout(Some(patience.silence))?;
@@ -59,6 +79,7 @@ impl<S: Read + Write + OpenStream + Drop, R: Clock + Drop> TcpLink<S, R> {
             patience,
             waits: patience.silence,
             since,
+            left: MOST_READ,
             ended: false,
             log: FaultLog::new(),
         })
@@ -72,7 +93,7 @@ impl<S: Read + Write + OpenStream + Drop, R: Clock + Drop> TcpLink<S, R> {
         self.log.last()
     }
 
-    /// Ends the connection. Where its input has not ended and no fault was counted, the write side is shut first, and
+    /// Ends the connection. Where the stream has not ended and no fault was counted, the write side is shut first, and
     /// what the peer still sends is read and dropped, up to a limit and for no longer than its time, so that the last
     /// piece is not lost to a reset.
     pub(crate) fn end(mut self) {
@@ -100,7 +121,8 @@ impl<S: Read + Write + OpenStream + Drop, R: Clock + Drop> TcpLink<S, R> {
 
     /// Lets a read wait so long and no longer.
     fn wait_at_most(&mut self, time: Duration) -> Result<(), Reason>
-        ensures { self.new ≡ self.old }
+        ensures waits { OnOk result (self.new ≡ record self.old { waits = time }) }
+        ensures refused { OnErr result (self.new ≡ self.old) }
     {
         if self.waits != time {
             self.stream.set_read_timeout(Some(time))?;
@@ -114,6 +136,9 @@ impl<S: Read + Write + OpenStream + Drop, R: Clock + Drop> TcpLink<S, R> {
         requires { 0 < length into.old }
         ensures within { IfOk result (λ n. n ≤ length into.old) }
         ensures read { ReadConsumes (S.remaining self.old.stream) (S.remaining self.new.stream) result into.new }
+        ensures ended { IfOk result (λ n. self.new.ended ≡ nat_eq n 0) }
+        ensures not_ended { OnErr result (self.new.ended ≡ self.old.ended) }
+        ensures left { self.new.left ≡ self.old.left }
         ensures faults { self.new.faults ≡ self.old.faults }
     {
         let left = self.time_left()?;
@@ -133,9 +158,28 @@ impl<S: Read + Write + OpenStream + Drop, R: Clock + Drop> TcpLink<S, R> {
         }
     }
 
+    /// Reads once, no more than may still be read.
+    fn read_allowed(&mut self, into: &mut [u8]) -> Result<usize, Reason>
+        requires some { 0 < length into.old }
+        requires allowed { 0 < self.old.left }
+        ensures within { IfOk result (λ n. n ≤ length into.old) }
+        ensures read { ReadConsumes (S.remaining self.old.stream) (S.remaining self.new.stream) result into.new }
+        ensures ended { IfOk result (λ n. self.new.ended ≡ nat_eq n 0) }
+        ensures not_ended { OnErr result (self.new.ended ≡ self.old.ended) }
+        ensures left { IfOk result (λ n. self.new.left + n ≡ self.old.left) }
+        ensures kept { OnErr result (self.new.left ≡ self.old.left) }
+        ensures faults { self.new.faults ≡ self.old.faults }
+    {
+        let most = into.len().min(self.left);
+        let count = self.read_in_time(&mut into[..most])?;
+        self.left -= count;
+        Ok(count)
+    }
+
     /// Writes the whole piece, and begins the time to the next.
     fn write_whole(&mut self, piece: &[u8]) -> Result<(), Reason>
         ensures taken { OnOk result (Appends (S.contents self.old.stream) (S.contents self.new.stream) piece.now) }
+        ensures input { ReadsAsBefore self.old self.new }
         ensures faults { self.new.faults ≡ self.old.faults }
     {
         match self.stream.write_all(piece) {
@@ -160,18 +204,28 @@ impl<S: Read + Write + OpenStream + Drop, R: Clock + Drop> Link for TcpLink<S, R
     fn read(&mut self, into: &mut [u8]) -> Result<usize, Outage>
         requires { 0 < length into.old }
         ensures within { IfOk result (λ n. n ≤ length into.old) }
-        ensures read { ReadConsumes (S.remaining self.old.stream) (S.remaining self.new.stream) result into.new }
+        ensures read { 0 < self.old.left
+            → ReadConsumes (S.remaining self.old.stream) (S.remaining self.new.stream) result into.new }
+        ensures over { self.old.left ≡ 0 → (result ≡ Ok 0) × (self.new ≡ self.old) }
+        ensures left { IfOk result (λ n. self.new.left + n ≡ self.old.left) }
+        ensures kept { OnErr result (self.new.left ≡ self.old.left) }
+        ensures ended { 0 < self.old.left → IfOk result (λ n. self.new.ended ≡ nat_eq n 0) }
+        ensures not_ended { OnErr result (self.new.ended ≡ self.old.ended) }
         ensures quiet { OnOk result (self.new.faults ≡ self.old.faults) }
         ensures err { OnErr result (self.new.faults.count ≡ counted self.old.faults.count) }
         ensures count { NeverFalls self.old.faults.count self.new.faults.count }
         ensures cause { OnErr result (Rose self.old.faults.count self.new.faults.count) }
     {
-        let found = self.read_in_time(into);
+        if self.left == 0 {
+            return Ok(0);
+        }
+        let found = self.read_allowed(into);
         self.log.answer(found)
     }
 
     fn write(&mut self, piece: &[u8]) -> Result<(), Outage>
         ensures taken { OnOk result (Appends (S.contents self.old.stream) (S.contents self.new.stream) piece.now) }
+        ensures input { ReadsAsBefore self.old self.new }
         ensures quiet { OnOk result (self.new.faults ≡ self.old.faults) }
         ensures err { OnErr result (self.new.faults.count ≡ counted self.old.faults.count) }
         ensures count { NeverFalls self.old.faults.count self.new.faults.count }
