@@ -7,11 +7,13 @@ use Rattle.idx_outside.specs.declared.bay_call.BayCall.{BayCall}
 use Rattle.idx_real.specs.Faults.{Faults}
 use Rattle.idx_real.specs.declared.fault.Reason.{Reason}
 
--- The bytes of the header file's path, the folder that was last begun, how many calls changed the bay, modulo 2 ^ 64, the
--- call that counted the last fault, its path, where it is not the header file's, and the faults.
+-- The bytes of the header file's path, the folder that was last begun, whether a staged folder is locked, how many calls
+-- changed the bay, modulo 2 ^ 64, the call that counted the last fault, its path, where it is not the header file's, and
+-- the faults.
 pub record FolderState : Type 0 where
   pub path : List ℕ
   pub begun : Option (List ℕ)
+  pub held : Bool
   pub changes : ℕ
   pub call : Option BayCall
   pub failed : Option (List ℕ)
@@ -23,6 +25,7 @@ failed_at call place reason s =
     record {
       path = s.path;
       begun = s.begun;
+      held = s.held;
       changes = s.changes;
       call = Some call;
       failed = place;

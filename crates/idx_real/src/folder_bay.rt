@@ -1,4 +1,4 @@
-ghost use Rattle.std.specs.Prelude.{◌≡◌, ◌↔◌, ◌<◌, ◌+◌, ◌%◌, ◌^◌, None, Some, Ok, Err, ⊤, IsSome, IsErr, IsOkAnd, string_bytes, option_map, IfSome, IfOk, OnOk, OnErr, IsErrOf, IsTrue, is_ok, length};
+ghost use Rattle.std.specs.Prelude.{◌≡◌, ◌↔◌, ◌<◌, ◌+◌, ◌%◌, ◌^◌, None, Some, Ok, Err, ⊤, IsSome, IsErr, IsOkAnd, string_bytes, option_map, IfSome, IfOk, OnOk, OnErr, IsErrOf, IsTrue, IsFalse, true, false, ◌||◌, is_ok, is_some, length};
 ghost use Rattle.std.specs.Option.{unwrap_or};
 ghost use Rattle.idx_outside.specs.Calls.{counts_none, last_failed};
 ghost use Rattle.idx_outside.specs.Cause.{counted, NeverFalls, Rose, OnlyWhereRose};
@@ -31,16 +31,19 @@ pub const HEADER_READ: u64 = 65_537;
 ///
 /// A step of folder F is staged in `F.part` beside it, which is renamed at `commit`. From `begin_step` to `commit` it is
 /// locked, so that no other run writes the same step. After a refusal it may be left; it is never read, and the next
-/// `begin_step` of F drops what is in it. A header is written under a name of its own, and put where none stands.
+/// `begin_step` of F drops what is in it. A header is written under a name of its own, and put where none stands; where the
+/// very same text stands already, it is as good as put.
 ///
 /// Each call of the system that fails is one fault, but for what is not there where a call asks whether it is. So are
-/// what is no regular file where a file is read, what stands already where a step is committed or a header is put, a
-/// step that another run is writing, one that is committed and was not begun, a file outside of the step that was begun, a name that is no text, and want of memory in a call that cannot answer it.
+/// what is no regular file where a file is read, what stands already where a step is committed, another text where a
+/// header is put, a step that another run is writing, one that is committed and was not begun, a file outside of the step
+/// that was begun, a name that is no text, and want of memory in a call that cannot answer it.
 #[derive(Drop)]
 pub struct FolderBay<R: Files + Drop> {
     rt: R,
     path: String,
     begun: Option<String>,
+    /// The staged folder of the step that was begun, which is locked as long as it is open.
     held: Option<R::File>,
     changes: u64,
     call: Option<BayCall>,
@@ -56,7 +59,7 @@ struct Places {
 }
 
 impl<R: Files + Drop> Model for FolderBay<R> {
-    ghost use Rattle.std.specs.Prelude.{string_bytes, option_map};
+    ghost use Rattle.std.specs.Prelude.{string_bytes, option_map, is_some};
     ghost use Rattle.idx_real.specs.FolderState.{FolderState};
 
     ghost Value = { FolderState };
@@ -64,6 +67,7 @@ impl<R: Files + Drop> Model for FolderBay<R> {
     ghost view = { λ s. record {
       path = string_bytes s.path;
       begun = option_map string_bytes s.begun;
+      held = is_some s.held;
       changes = s.changes;
       call = s.call;
       failed = option_map string_bytes s.failed;
@@ -74,7 +78,7 @@ impl<R: Files + Drop> Model for FolderBay<R> {
 impl<R: Files + Drop> FolderBay<R> {
     /// `path` is the header file's. Opens nothing yet and takes no memory.
     pub fn new(rt: R, path: String) -> FolderBay<R>
-        ensures { result ≡ record { path = string_bytes path; begun = None; changes = 0; call = None; failed = None; faults = no_faults } }
+        ensures { result ≡ record { path = string_bytes path; begun = None; held = false; changes = 0; call = None; failed = None; faults = no_faults } }
     {
         FolderBay {
             rt,
@@ -129,6 +133,7 @@ impl<R: Files + Drop> FolderBay<R> {
         ensures ok { OnOk result (self.new ≡ self.old) }
         ensures path { self.new.path ≡ self.old.path }
         ensures begun { self.new.begun ≡ self.old.begun }
+        ensures held { self.new.held ≡ self.old.held }
         ensures changes { self.new.changes ≡ self.old.changes }
         ensures call { self.new.call ≡ last_failed call (is_ok result) self.old.call }
         ensures err { OnErr result (self.new.faults.count ≡ counted self.old.faults.count) }
@@ -195,7 +200,8 @@ impl<R: Files + Drop> FolderBay<R> {
 impl<R: Files + Drop> FolderBay<R> {
     /// Whether the step that was begun is this one, and its staged folder still stands at this place.
     fn holds(&self, folder: &str, place: &str) -> Result<bool, Reason>
-        ensures { IfOk result (λ holds. IsTrue holds → self.now.begun ≡ Some folder.now) }
+        ensures begun { IfOk result (λ holds. IsTrue holds → self.now.begun ≡ Some folder.now) }
+        ensures held { IfOk result (λ holds. IsTrue holds → IsTrue self.now.held) }
     {
         match &self.begun {
             Some(begun) if begun.as_str() == folder => self.stands_held(place),
@@ -204,7 +210,9 @@ impl<R: Files + Drop> FolderBay<R> {
     }
 
     /// Whether the staged folder that is locked stands at this place.
-    fn stands_held(&self, place: &str) -> Result<bool, Reason> {
+    fn stands_held(&self, place: &str) -> Result<bool, Reason>
+        ensures { IfOk result (λ stands. IsTrue stands → IsTrue self.now.held) }
+    {
         match &self.held {
             Some(held) => stands_at(&self.rt, held, place),
             None => Ok(false),
@@ -213,7 +221,7 @@ impl<R: Files + Drop> FolderBay<R> {
 
     /// Keeps a folder locked, and lets the last one go.
     fn keep(&mut self, held: Option<R::File>)
-        ensures { self.new ≡ self.old }
+        ensures { self.new ≡ record self.old { held = is_some held || self.old.held } }
     {
         if held.is_some() {
             self.held = held;
@@ -222,7 +230,7 @@ impl<R: Files + Drop> FolderBay<R> {
 
     /// Lets the folder go that is locked.
     fn let_go(&mut self)
-        ensures { self.new ≡ self.old }
+        ensures { self.new ≡ record self.old { held = false } }
     {
         self.held = None;
     }
@@ -236,6 +244,7 @@ impl<R: Files + Drop> FolderBay<R> {
         leaves: &Vec<(Bytes, FileLeaf)>,
     ) -> Result<(), Reason>
         ensures begun { OnOk result (self.now.begun ≡ Some folder.now) }
+        ensures held { OnOk result (IsTrue self.now.held) }
         ensures paths { OnOk result (IsTrue (are_of_their_paths leaves.now.items)) }
     {
         if !are_of_their_paths(leaves) {
@@ -254,6 +263,7 @@ impl<R: Files + Drop> FolderBay<R> {
         leaves: &Vec<(Bytes, FileLeaf)>,
     ) -> Result<Result<(), Refusal>, NoMemory>
         ensures begun { IfOk result (λ renamed. OnOk renamed (self.now.begun ≡ Some folder.now)) }
+        ensures held { IfOk result (λ renamed. OnOk renamed (IsTrue self.now.held)) }
         ensures paths { IfOk result (λ renamed. OnOk renamed (IsTrue (are_of_their_paths leaves.now.items))) }
     {
         let folder = match text_of(folder) {
@@ -328,7 +338,9 @@ where
     R::File: Lockable,
 {
     /// Locks the staged folder of a step and drops what is in it; `None` where this bay has locked it already.
-    fn hold_step(&self, folder: &str, place: &str) -> Result<Option<R::File>, Reason> {
+    fn hold_step(&self, folder: &str, place: &str) -> Result<Option<R::File>, Reason>
+        ensures { IfOk result (λ held. IsTrue (is_some held || self.now.held)) }
+    {
         if self.holds(folder, place)? {
             empty(&self.rt, self.alloc(), place)?;
             return Ok(None);
@@ -337,7 +349,9 @@ where
     }
 
     /// The same, where the folders above the staged one may be missing.
-    fn hold_staged(&self, folder: &str, place: String) -> Result<Option<R::File>, Refusal> {
+    fn hold_staged(&self, folder: &str, place: String) -> Result<Option<R::File>, Refusal>
+        ensures { IfOk result (λ held. IsTrue (is_some held || self.now.held)) }
+    {
         self.make_above(place.as_str())?;
         match self.hold_step(folder, place.as_str()) {
             Ok(held) => Ok(held),
@@ -347,7 +361,8 @@ where
 
     /// The same, with the name of the folder.
     fn stage_step(&self, folder: &str) -> Result<(String, Option<R::File>), Refusal>
-        ensures { IfOk result (λ step. string_bytes step.0 ≡ folder.now) }
+        ensures name { IfOk result (λ step. string_bytes step.0 ≡ folder.now) }
+        ensures held { IfOk result (λ step. IsTrue (is_some step.1 || self.now.held)) }
     {
         let place = self.place(folder, PART)?;
         match String::from_str(self.alloc(), folder) {
@@ -358,7 +373,7 @@ where
 
     /// Stages a step, which is then the one that was begun.
     fn begin_staged(&mut self, folder: &[u8]) -> Result<(), Refusal>
-        ensures ok { OnOk result (self.new ≡ record self.old { begun = Some folder.now }) }
+        ensures ok { OnOk result (self.new ≡ record self.old { begun = Some folder.now; held = true }) }
         ensures err { OnErr result (self.new ≡ self.old) }
     {
         let (begun, held) = self.stage_step(text_of(folder)?)?;
@@ -415,6 +430,7 @@ where
         ensures refused { OnErr result (into.new ≡ into.old) }
         ensures path { self.new.path ≡ self.old.path }
         ensures begun { self.new.begun ≡ self.old.begun }
+        ensures held { self.new.held ≡ self.old.held }
         ensures failed { IsErrOf result BayFault.Outage → self.new.failed ≡ None }
         ensures quiet { OnOk result (self.new.faults ≡ self.old.faults) }
         ensures no_memory { IsErrOf result BayFault.NoMemory → self.new.faults ≡ self.old.faults }
@@ -435,11 +451,12 @@ where
         }
     }
 
-    /// Makes the folders above the header file, writes beside it and links it to its name, where no header stands. An
-    /// empty file is none.
+    /// Makes the folders above the header file, writes beside it and links it to its name, where no header stands or
+    /// this one does, as where another run has put it. An empty file is none.
     fn set_header(&mut self, text: &[u8]) -> Result<(), Outage>
         ensures path { self.new.path ≡ self.old.path }
         ensures begun { self.new.begun ≡ self.old.begun }
+        ensures held { self.new.held ≡ self.old.held }
         ensures quiet { OnOk result (self.new.faults ≡ self.old.faults) }
         ensures err { OnErr result (self.new.faults.count ≡ counted self.old.faults.count) }
         ensures changes { self.new.changes ≡ (self.old.changes + 1) % 2 ^ 64 }
@@ -456,6 +473,7 @@ where
     fn has_step(&mut self, folder: &[u8]) -> Result<bool, Outage>
         ensures path { self.new.path ≡ self.old.path }
         ensures begun { self.new.begun ≡ self.old.begun }
+        ensures held { self.new.held ≡ self.old.held }
         ensures quiet { OnOk result (self.new.faults ≡ self.old.faults) }
         ensures err { OnErr result (self.new.faults.count ≡ counted self.old.faults.count) }
         ensures changes { self.new.changes ≡ self.old.changes }
@@ -472,7 +490,9 @@ where
     fn begin_step(&mut self, folder: &[u8]) -> Result<(), Outage>
         ensures path { self.new.path ≡ self.old.path }
         ensures begun { OnOk result (self.new.begun ≡ Some folder.now) }
+        ensures held { OnOk result (IsTrue self.new.held) }
         ensures refused { OnErr result (self.new.begun ≡ self.old.begun) }
+        ensures kept { OnErr result (self.new.held ≡ self.old.held) }
         ensures quiet { OnOk result (self.new.faults ≡ self.old.faults) }
         ensures err { OnErr result (self.new.faults.count ≡ counted self.old.faults.count) }
         ensures changes { self.new.changes ≡ (self.old.changes + 1) % 2 ^ 64 }
@@ -490,6 +510,7 @@ where
         ensures outside { ¬ (InStep self.old.begun path.now) → IsErrOf result BayFault.Outage }
         ensures path { self.new.path ≡ self.old.path }
         ensures begun { self.new.begun ≡ self.old.begun }
+        ensures held { self.new.held ≡ self.old.held }
         ensures quiet { OnOk result (self.new.faults ≡ self.old.faults) }
         ensures no_memory { IsErrOf result BayFault.NoMemory → self.new.faults ≡ self.old.faults }
         ensures outage { IsErrOf result BayFault.Outage → self.new.faults.count ≡ counted self.old.faults.count }
@@ -506,6 +527,7 @@ where
     fn leaf(&mut self, path: &[u8]) -> Result<Option<FileLeaf>, BayFault>
         ensures path { self.new.path ≡ self.old.path }
         ensures begun { self.new.begun ≡ self.old.begun }
+        ensures held { self.new.held ≡ self.old.held }
         ensures quiet { OnOk result (self.new.faults ≡ self.old.faults) }
         ensures no_memory { IsErrOf result BayFault.NoMemory → self.new.faults ≡ self.old.faults }
         ensures outage { IsErrOf result BayFault.Outage → self.new.faults.count ≡ counted self.old.faults.count }
@@ -522,6 +544,9 @@ where
     /// written for another path, or the staged folder is not the one that was begun, that is a fault.
     fn commit(&mut self, folder: &[u8], leaves: &Vec<(Bytes, FileLeaf)>) -> Result<(), BayFault>
         ensures begun_step { OnOk result (self.old.begun ≡ Some folder.now) }
+        ensures was_held { OnOk result (IsTrue self.old.held) }
+        ensures let_go { OnOk result (IsFalse self.new.held) }
+        ensures kept { OnErr result (self.new.held ≡ self.old.held) }
         ensures paths { OnOk result (IsTrue (are_of_their_paths leaves.now.items)) }
         ensures path { self.new.path ≡ self.old.path }
         ensures begun { self.new.begun ≡ self.old.begun }
@@ -548,6 +573,7 @@ where
         ensures call { 0 < draft.faults.count → self.new.call ≡ Some BayCall.Retire }
         ensures path { self.new.path ≡ self.old.path }
         ensures begun { self.new.begun ≡ self.old.begun }
+        ensures held { self.new.held ≡ self.old.held }
         ensures changes { self.new.changes ≡ (self.old.changes + 1) % 2 ^ 64 }
         ensures count { NeverFalls self.old.faults.count self.new.faults.count }
     {
