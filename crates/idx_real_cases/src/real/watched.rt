@@ -1,15 +1,17 @@
-//! A runtime that looks at a header's file when it gets its name.
+//! A runtime that looks at a header's file when it gets its name, and one in which a folder is exchanged once it is open.
 use super::*;
 use std::alloc::Allocator;
 use std::cell::Cell;
 use std::fs::{File, Metadata, OpenOptions};
 use std::rt::Files;
 
-/// The files of the system. What is linked or renamed has so many bytes then.
+/// The files of the system. What is linked or renamed has so many bytes then, and another folder stands at this path once
+/// it was opened.
 #[derive(Drop)]
 struct Watched<'a> {
     rt: &'a HostRuntime,
     named: &'a Cell<u64>,
+    exchanged: &'a str,
 }
 
 impl Watched<'_> {
@@ -25,7 +27,12 @@ impl Files for Watched<'_> {
     type Dir = <HostRuntime as Files>::Dir;
 
     fn open_file(&self, how: &OpenOptions, path: &str) -> io::Result<File> {
-        self.rt.open_file(how, path)
+        let file = self.rt.open_file(how, path)?;
+        if path == self.exchanged {
+            self.rt.rename(path, "seized/taken")?;
+            self.rt.create_dir(path)?;
+        }
+        Ok(file)
     }
 
     fn open_dir(&self, path: &str) -> io::Result<<HostRuntime as Files>::Dir> {
@@ -73,7 +80,11 @@ impl Files for Watched<'_> {
 
 /// Whether a header is put, of which this cell gets to know.
 fn puts_watched(rt: &HostRuntime, named: &Cell<u64>) -> Result<bool, Fail> {
-    let watched = Watched { rt, named };
+    let watched = Watched {
+        rt,
+        named,
+        exchanged: "",
+    };
     let mut bay = FolderBay::new(watched, String::from_str(rt.alloc(), "watched.idx")?);
     Ok(bay.set_header(b"text").is_ok())
 }
@@ -83,5 +94,27 @@ fn a_header_gets_its_name_with_all_its_bytes(rt: HostRuntime) -> Result<(), Fail
     let named = Cell::new(0);
     assert!(rt; puts_watched(&rt, &named)? && named.get() == 4);
     fs::remove_file(&rt, "watched.idx")?;
+    Ok(())
+}
+
+/// Whether a step is begun whose staged folder another run exchanges when it is open and not yet locked.
+fn begins_exchanged(rt: &HostRuntime, named: &Cell<u64>) -> Result<bool, Fail> {
+    let watched = Watched {
+        rt,
+        named,
+        exchanged: "seized/t0.part",
+    };
+    let mut bay = FolderBay::new(watched, String::from_str(rt.alloc(), "seized/set.idx")?);
+    let begun = bay.begin_step(b"t0").is_ok();
+    let want = "seized/t0.part: another run is writing this step";
+    Ok(begun || !is_text(rt.alloc(), bay.last_fault(), want))
+}
+
+#[test]
+fn a_staged_folder_that_is_exchanged_before_it_is_locked_is_another_runs(
+    rt: HostRuntime,
+) -> Result<(), Fail> {
+    assert!(rt; !begins_exchanged(&rt, &Cell::new(0))?);
+    fs::remove_dir_all(&rt, "seized")?;
     Ok(())
 }
