@@ -57,7 +57,7 @@ IsTaken_more kept rest more R.TooBig (inl (h, begins, many), left) =
 IsTaken_more kept rest more R.TooBig (inr (front, full), left) =
     (IsFront_full kept more full front.none front.goes_on, ap Some (ap (λ (t : List ℕ). t ++ more) left))
 IsTaken_more kept rest more (R.Fault faults) t = absurd t
-IsTaken_more kept rest more R.NoMemory left = ap Some (ap (λ (t : List ℕ). t ++ more) left)
+IsTaken_more kept rest more R.NoMemory ((h, next), left) = ((h, (Begins_more kept more h next.0, next.1)), ap Some (ap (λ (t : List ℕ). t ++ more) left))
 
 -- ---- the same, of an input that may be unknown
 

@@ -3,7 +3,7 @@ ghost use Rattle.std.specs.Prelude.{◌≡◌, ◌<◌, length, Some, IfSome};
 ghost use Rattle.idx_outside.specs.Cause.{NeverFalls, Rose};
 ghost use Rattle.idx_outside.specs.Input.{behind};
 ghost use Rattle.idx_http.specs.Heads.{head_limit, window};
-ghost use Rattle.idx_http.specs.Read.{IsHeadRead, IsLook, IsTaken, OnFault, UnlessFault};
+ghost use Rattle.idx_http.specs.Read.{IsHeadRead, IsLook, IsTaken, IsWanting, OnFault, ReadsFronts, UnlessFault};
 
 use crate::Pending;
 use crate::look::{Found, Look};
@@ -44,10 +44,13 @@ pub enum HeadRead {
 }
 
 /// What stands next in the kept bytes followed by those of the link, however these come. A head is taken off; in every
-/// other case the input stays as it was.
+/// other case the input stays as it was. The link is read only while the bytes that are kept only begin a head.
 pub fn read_head<L: Link>(alloc: Global, link: &mut L, pending: &mut Pending) -> HeadRead
     ensures read { IfSome (behind pending.old (L.incoming link.old))
         (λ s. IsHeadRead s (behind pending.new (L.incoming link.new)) result) }
+    ensures readings { ReadsFronts (behind pending.old (L.incoming link.old)) (L.written link.old)
+        (L.readings link.old) (L.readings link.new) }
+    ensures front { OnFault result (λ faults. IsWanting pending.new) }
     ensures written { L.written link.new ≡ L.written link.old }
     ensures count { NeverFalls (L.faults link.old) (L.faults link.new) }
     ensures quiet { UnlessFault result (L.faults link.new ≡ L.faults link.old) }

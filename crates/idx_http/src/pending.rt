@@ -2,7 +2,7 @@
 ghost use Rattle.std.specs.Prelude.{◌≡◌, ◌+◌, ◌<◌, ◌≤◌, [], length, drop, take};
 ghost use Rattle.std.specs.Prelude.{IfOk, IfSome, OnOk, OnErr};
 ghost use Rattle.idx_outside.specs.Cause.{NeverFalls, Rose};
-ghost use Rattle.idx_outside.specs.Input.{behind};
+ghost use Rattle.idx_outside.specs.Input.{behind, read_once_more};
 ghost use Rattle.idx_http.specs.Heads.{head_limit, window};
 ghost use Rattle.idx_http.specs.Read.{IsLook};
 
@@ -76,6 +76,9 @@ impl Pending {
         ensures input { behind self.new (L.incoming link.new) ≡ behind self.old (L.incoming link.old) }
         ensures end { IfOk result (λ n. n ≡ 0 → IfSome (L.incoming link.new) (λ bytes. bytes ≡ [])) }
         ensures none { IfOk result (λ n. n ≡ 0 → self.new ≡ self.old) }
+        ensures held { OnErr result (self.new ≡ self.old) }
+        ensures readings { L.readings link.new
+            ≡ read_once_more (L.readings link.old) (L.incoming link.old) (L.written link.old) }
         ensures written { L.written link.new ≡ L.written link.old }
         ensures count { NeverFalls (L.faults link.old) (L.faults link.new) }
         ensures quiet { OnOk result (L.faults link.new ≡ L.faults link.old) }
@@ -105,6 +108,8 @@ fn read_behind<L: Link>(link: &mut L, buffer: &mut [u8], len: usize) -> Result<u
         ≡ behind (take n (drop len buffer.new)) (L.incoming link.new)) }
     ensures end { IfOk result (λ n. n ≡ 0 → IfSome (L.incoming link.old) (λ bytes. bytes ≡ [])) }
     ensures held { OnErr result (L.incoming link.new ≡ L.incoming link.old) }
+    ensures readings { L.readings link.new
+        ≡ read_once_more (L.readings link.old) (L.incoming link.old) (L.written link.old) }
     ensures written { L.written link.new ≡ L.written link.old }
     ensures count { NeverFalls (L.faults link.old) (L.faults link.new) }
     ensures quiet { OnOk result (L.faults link.new ≡ L.faults link.old) }
