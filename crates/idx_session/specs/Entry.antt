@@ -1,5 +1,5 @@
 -- One head that was answered.
-use Rattle.std.specs.Prelude.{◌≡◌, ℕ, Bool, List, [], ◌∷◌, length, drop, Option}
+use Rattle.std.specs.Prelude.{◌≡◌, ℕ, ◌≤◌, Bool, List, [], ◌∷◌, length, drop, Option, ⊤}
 use Rattle.httparse.specs.Grammar.{print_request}
 use Rattle.idx_outside.specs.declared.served.Served.{Served}
 use Rattle.idx_hall.specs.Hall.{HallValue}
@@ -59,6 +59,12 @@ served_of e = record { target = target_of e.asked; status = e.reply.status; seen
 abbrev pub mark_after : Mark → List Entry → Mark
 mark_after mark [] = mark
 mark_after mark (e ∷ entries) = mark_after e.reply.mark entries
+
+-- The board that is named never gets shorter along these entries, and after each of them at least so many posts were seen.
+abbrev pub SeenRises : Mark → List Entry → Type 0
+SeenRises mark [] = ⊤
+SeenRises mark (e ∷ entries) =
+    (mark.seen ≤ e.reply.mark.seen) × (e.reply.mark.seen ≤ length e.reply.mark.state.posts) × SeenRises e.reply.mark entries
 
 -- which replies may follow what is known, to what was asked, as the last one or not
 abbrev pub Answers : Type 1

@@ -1,10 +1,13 @@
 -- What is answered on a link.
-use Rattle.std.specs.Prelude.{◌≡◌, ◌⊎◌, ℕ, ◌+◌, ◌≤◌, Bool, true, false, ◌==◌, List, [], ◌∷◌, ◌++◌, length, map, Option, Some, IfSome, Result, Ok, Err}
+use Rattle.std.specs.Prelude.{◌≡◌, ◌⊎◌, ℕ, ◌+◌, ◌≤◌, Bool, true, false, ◌==◌, List, [], ◌∷◌, ◌++◌, length, map, All, Option, Some, None, IfSome, Result, Ok, Err, ⊤}
 use Rattle.std.specs.List.{flat_map}
 use Rattle.idx_outside.specs.Cause.{Rose}
 use Rattle.idx_outside.specs.Contents.{appended, AppendsPrefix}
+use Rattle.idx_outside.specs.Input.{Reading}
 use Rattle.idx_outside.specs.declared.served.Served.{Served}
-use Rattle.idx_http.specs.Heads.{Next, NextHead, ended, cut}
+use Rattle.httparse.specs.Grammar.{RequestHead}
+use Rattle.idx_http.specs.Heads.{Next, NextHead, whole, ended, cut}
+use Rattle.idx_http.specs.Read.{IsWanting}
 use Rattle.idx_session.specs.declared.asked.Asked.{Asked}
 use Rattle.idx_session.specs.declared.link_end.LinkEnd.{LinkEnd}
 use Rattle.idx_session.specs.declared.link_end.LinkEnd.TheVariants as E
@@ -66,15 +69,34 @@ KnownAs lost last known (E.CutOff kept) = known ≡ last
 KnownAs lost last known (E.LinkFault faults) = known ≡ last
 KnownAs lost last known E.NoMemory = (known ≡ last) ⊎ lost last known
 
+-- The reading was made in its turn: when what had come of the input s behind the heads of the first entries only began a head,
+-- and when behind w the replies to these heads had been written, all of them and nothing else.
+pub record InTurn (s w : List ℕ) (entries : List Entry) (reading : Reading) : Type 0 where
+  pub front : List Entry
+  pub more : List Entry
+  pub split : entries ≡ front ++ more
+  pub kept : List ℕ
+  pub spells : Spells s front (kept ++ reading.coming)
+  pub wanting : IsWanting kept
+  pub written : reading.written ≡ w ++ joined front
+
+-- Each reading was made in its turn, where the input, what was written before and the readings are known.
+abbrev pub ReadInTurn : List Entry → Option (List ℕ) → Option (List ℕ) → Option (List Reading) → Option (List Reading) → Type 0
+ReadInTurn entries (Some s) (Some w) (Some old) new = (more : List Reading) × (new ≡ Some (old ++ more)) × All (InTurn s w entries) more
+ReadInTurn entries (Some s) (Some w) None new = ⊤
+ReadInTurn entries (Some s) None old new = ⊤
+ReadInTurn entries None w old new = ⊤
+
 -- What was answered on a link: the new entries, each a right reply to what it was asked, what was written of them, what is
--- known at the end, and how they follow from the input, where that is known.
-pub record Session (answers : Answers) (lost : Lost) (mark known : Mark) (input written_old written_new : Option (List ℕ)) (served_old served_new : List Served) (end : LinkEnd) : Type 0 where
+-- known at the end, how they follow from the input, where that is known, and when the link was read.
+pub record Session (answers : Answers) (lost : Lost) (mark known : Mark) (input written_old written_new : Option (List ℕ)) (readings_old readings_new : Option (List Reading)) (served_old served_new : List Served) (end : LinkEnd) : Type 0 where
   pub entries : List Entry
   pub noted : served_new ≡ served_old ++ map served_of entries
   pub follows : Follows answers mark 0 entries
   pub written : WrittenAs written_old written_new entries end
   pub marked : KnownAs lost (mark_after mark entries) known end
   pub spelt : IfSome input (λ s. (rest : List ℕ) × Spells s entries rest × EndsAs entries rest end)
+  pub timely : ReadInTurn entries input written_old readings_old readings_new
 
 -- a new entry for what was asked, as the step says
 pub record IsEntry (answers : Answers) (mark_old mark_new : Mark) (asked : Asked) (last : Bool) (served_old served_new : List Served) (e : Entry) : Type 0 where
@@ -109,10 +131,10 @@ EndCounts old new (E.CutOff kept) = new ≡ old
 EndCounts old new (E.LinkFault faults) = Rose old new × (faults ≡ new)
 EndCounts old new E.NoMemory = new ≡ old
 
--- what asks next in an input s, of which `left` is left, or how the link ends where nothing does
+-- what asks next in an input s, of which `left` is left, or how the link ends where nothing does; only a head takes memory
 abbrev pub IsNext : List ℕ → Option (List ℕ) → Result Asked LinkEnd → Type 0
 IsNext s left (Ok asked) = (a : Next) × NextHead s a × IsAsked a asked × (left ≡ Some (left_of a s))
 IsNext s left (Err E.Closed) = NextHead s ended
 IsNext s left (Err (E.CutOff kept)) = NextHead s (cut kept)
 IsNext s left (Err (E.LinkFault faults)) = Unit {0}
-IsNext s left (Err E.NoMemory) = Unit {0}
+IsNext s left (Err E.NoMemory) = (h : RequestHead) × NextHead s (whole h)

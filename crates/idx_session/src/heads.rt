@@ -2,6 +2,7 @@
 ghost use Rattle.std.specs.Prelude.{◌≡◌, IfErr, IfSome, OnOk};
 ghost use Rattle.idx_outside.specs.Cause.{NeverFalls};
 ghost use Rattle.idx_outside.specs.Input.{behind};
+ghost use Rattle.idx_http.specs.Read.{ReadsFronts};
 ghost use Rattle.idx_session.specs.Session.{EndCounts, IsNext, Session};
 
 use crate::one::{Step, answer_one};
@@ -14,7 +15,8 @@ use std::alloc::Global;
 const HEADS: u32 = 65536;
 
 /// Answers the heads of a link in order, until its input ends, a reply closes, or the link or memory fails. An entry is
-/// appended for each head that was answered. A link is read for at most 65,536 heads of at most 8,192 bytes.
+/// appended for each head that was answered. A link is read for at most 65,536 heads of at most 8,192 bytes, and only while
+/// no whole head is kept and all replies so far are written.
 pub fn serve_heads<S, T, R, P: Responder<S, T, R>, L: Link>(
     alloc: Global,
     responder: &mut P,
@@ -28,7 +30,8 @@ pub fn serve_heads<S, T, R, P: Responder<S, T, R>, L: Link>(
     ensures ready { P.ready site.now turn.new }
     ensures session { Session (P.answers site.now) (P.lost site.now) (P.mark responder.old turn.old reader.old)
         (P.mark responder.new turn.new reader.new) (L.incoming link.old)
-        (L.written link.old) (L.written link.new) served.old.items served.new.items result }
+        (L.written link.old) (L.written link.new) (L.readings link.old) (L.readings link.new)
+        served.old.items served.new.items result }
     ensures grew { P.grew turn.old reader.old turn.new reader.new }
     ensures count { NeverFalls (L.faults link.old) (L.faults link.new) }
     ensures counts { EndCounts (L.faults link.old) (L.faults link.new) result }
@@ -58,6 +61,8 @@ pub fn serve_heads<S, T, R, P: Responder<S, T, R>, L: Link>(
 fn next_asked<L: Link>(alloc: Global, link: &mut L, pending: &mut Pending) -> Result<Asked, LinkEnd>
     ensures next { IfSome (behind pending.old (L.incoming link.old))
         (λ s. IsNext s (behind pending.new (L.incoming link.new)) result) }
+    ensures readings { ReadsFronts (behind pending.old (L.incoming link.old)) (L.written link.old)
+        (L.readings link.old) (L.readings link.new) }
     ensures written { L.written link.new ≡ L.written link.old }
     ensures count { NeverFalls (L.faults link.old) (L.faults link.new) }
     ensures quiet { OnOk result (L.faults link.new ≡ L.faults link.old) }

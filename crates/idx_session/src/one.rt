@@ -39,6 +39,7 @@ pub(crate) fn answer_one<S, T, R, P: Responder<S, T, R>, L: Link>(
         (P.mark responder.new turn.new reader.new) asked last served.old.items served.new.items
         (L.written link.old) (L.written link.new) result }
     ensures incoming { L.incoming link.new ≡ L.incoming link.old }
+    ensures readings { L.readings link.new ≡ L.readings link.old }
     ensures grew { P.grew turn.old reader.old turn.new reader.new }
     ensures count { NeverFalls (L.faults link.old) (L.faults link.new) }
     ensures counts { StepCounts (L.faults link.old) (L.faults link.new) result }

@@ -11,5 +11,5 @@ invariant-loop-number g l = record {
   grew : g.P.Responder.grew l.initial.turn l.initial.reader l.turn l.reader;
   quiet : g.L.Link.faults l.link ≡ g.L.Link.faults l.initial.link;
   session : SoFar (g.P.Responder.answers l.site) (g.P.Responder.mark l.initial.responder l.initial.turn l.initial.reader) (g.P.Responder.mark l.responder l.turn l.reader)
-      (g.L.Link.incoming l.initial.link) (behind l.pending (g.L.Link.incoming l.link)) (g.L.Link.written l.initial.link) (g.L.Link.written l.link) l.initial.served.items l.served.items l.number;
+      (g.L.Link.incoming l.initial.link) (behind l.pending (g.L.Link.incoming l.link)) (g.L.Link.written l.initial.link) (g.L.Link.written l.link) (g.L.Link.readings l.initial.link) (g.L.Link.readings l.link) l.initial.served.items l.served.items l.number;
 }
