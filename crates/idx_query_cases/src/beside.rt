@@ -4,6 +4,7 @@ ghost use Rattle.std.specs.Arc.{arc_value};
 ghost use Rattle.std.proofs.Props.{props};
 ghost use Rattle.idx_turn.specs.Stands.{MayGive, stand};
 ghost use Rattle.idx_lock.specs.Seats.{chair_value, given_by, seat_value};
+ghost use Rattle.idx_query_cases.specs.Beside.{shape_at};
 
 use idx_hall::Hall;
 use idx_lock::Chair;
@@ -24,7 +25,7 @@ pub(crate) struct Beside<'a, E: Blocks, R: Wait> {
     holds: u64,
     ghost free: { given_by writer ≡ None },
     ghost adds: { writer.seat.writer ≡ true },
-    ghost shaped: { IfSome next (λ step. E.shape (arc_value step) ≡ writer.seat.seen.shape) } by { Prim.hlevel props },
+    ghost shaped: { IfSome next (λ step. E.shape (arc_value step) ≡ shape_at writer) } by { Prim.hlevel props },
 }
 
 impl<'a, E: Blocks + Drop, R: Wait> Beside<'a, E, R> {
@@ -36,7 +37,7 @@ impl<'a, E: Blocks + Drop, R: Wait> Beside<'a, E, R> {
     ) -> Beside<'a, E, R>
         requires free { given_by writer ≡ None }
         requires adds { writer.seat.writer ≡ true }
-        requires shape { E.shape (arc_value next) ≡ writer.seat.seen.shape }
+        requires shape { E.shape (arc_value next) ≡ shape_at writer }
         ensures chair { result.chair ≡ chair }
     {
         Beside {
