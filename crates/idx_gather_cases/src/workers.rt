@@ -34,7 +34,7 @@ fn hold<R: Threads + Sync + Abort>(
 ) -> Result<(), Fail> {
     let gate = HoldGate::new(held, place, other, place, TURNS);
     assert!(rt; is_gathered(rt, alloc, &gate)?);
-    assert!(rt; !gate.met_limit(), "worker {held}");
+    assert!(rt; gate.saw_both() && !gate.met_limit(), "worker {held}");
     Ok(())
 }
 

@@ -356,7 +356,7 @@ fn late_end<R: Threads + Wait + Sync + Abort>(
 fn a_head_behind_a_publish_is_answered_out_of_it(rt: HostRuntime) -> Result<(), Fail> {
     let gate = gate_of_a_late_link();
     let (served, ended) = late_end(&rt, rt.alloc(), &gate)?;
-    assert!(rt; !gate.met_limit());
+    assert!(rt; gate.saw_both() && !gate.met_limit());
     assert!(rt; served == Some((LinkEnd::Closed, true)));
     assert!(rt; ended == Some(IngestEnd::Published { post: 1 }));
     Ok(())
@@ -373,7 +373,7 @@ fn workers_share_what_either_reads(rt: HostRuntime) -> Result<(), Fail> {
             1_000_000,
         );
         let (summary, reads) = served_by_two(&rt, rt.alloc(), &gate)?;
-        assert!(rt; !gate.met_limit());
+        assert!(rt; gate.saw_both() && !gate.met_limit());
         assert!(rt; (summary.links, summary.replies, reads) == (2, 2, 4));
     }
     Ok(())

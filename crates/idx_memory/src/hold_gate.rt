@@ -14,6 +14,7 @@ pub struct HoldGate {
     other: u32,
     passed: GatePlace,
     turns: u64,
+    came: AtomicBool,
     has_passed: AtomicBool,
     met: AtomicBool,
 }
@@ -28,6 +29,7 @@ impl HoldGate {
             other,
             passed,
             turns,
+            came: AtomicBool::new(false),
             has_passed: AtomicBool::new(false),
             met: AtomicBool::new(false),
         }
@@ -36,6 +38,11 @@ impl HoldGate {
     /// Whether the worker was let through because its turns were over.
     pub fn met_limit(&self) -> bool {
         self.met.load(Ordering::SeqCst)
+    }
+
+    /// Whether both workers came: the one to the place where it is held, and the other one past its own.
+    pub fn saw_both(&self) -> bool {
+        self.came.load(Ordering::SeqCst) && self.has_passed.load(Ordering::SeqCst)
     }
 
     /// Whether the other worker passed its place within the turns.
@@ -55,8 +62,11 @@ impl Gate for HoldGate {
         if worker == self.other && place == self.passed {
             self.has_passed.store(true, Ordering::SeqCst);
         }
-        if worker == self.held && place == self.at && !self.waits_for_other() {
-            self.met.store(true, Ordering::SeqCst);
+        if worker == self.held && place == self.at {
+            self.came.store(true, Ordering::SeqCst);
+            if !self.waits_for_other() {
+                self.met.store(true, Ordering::SeqCst);
+            }
         }
     }
 }

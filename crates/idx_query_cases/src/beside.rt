@@ -1,11 +1,11 @@
 //! A turn at a seat of a lock, beside the writer's seat, which evicts and publishes between two rounds.
-ghost use Rattle.std.specs.Prelude.{◌≡◌, true, false, IfSome, None, Some};
-ghost use Rattle.std.specs.Arc.{arc_value};
-ghost use Rattle.std.proofs.Props.{props};
+ghost use Rattle.std.specs.Prelude.{◌≡◌, true, false, None, Some};
 ghost use Rattle.idx_turn.specs.Stands.{MayGive, stand};
 ghost use Rattle.idx_lock.specs.Seats.{chair_value, given_by, seat_value};
 ghost use Rattle.idx_query_cases.specs.Beside.{shape_at};
+ghost use Rattle.idx_query_cases.specs.Wide.{wide_blocks};
 
+use crate::wide::Wide;
 use idx_hall::Hall;
 use idx_lock::Chair;
 use idx_outside::Blocks;
@@ -17,28 +17,28 @@ const SECOND_ROUND: u64 = 3;
 
 /// A seat that asks, the writer's seat of the same lock, the step that the writer is to publish, how many entries it evicted, and
 /// how many times the hall was taken at the seat that asks.
-pub(crate) struct Beside<'a, E: Blocks, R: Wait> {
-    chair: Chair<'a, Hall<E>, R>,
-    writer: Chair<'a, Hall<E>, R>,
-    next: Option<Arc<E>>,
+pub(crate) struct Beside<'a, R: Wait> {
+    chair: Chair<'a, Hall<Wide>, R>,
+    writer: Chair<'a, Hall<Wide>, R>,
+    next: Option<Arc<Wide>>,
     evicted: u64,
     holds: u64,
     ghost free: { given_by writer ≡ None },
     ghost adds: { writer.seat.writer ≡ true },
-    ghost shaped: { IfSome next (λ step. E.shape (arc_value step) ≡ shape_at writer) } by { Prim.hlevel props },
+    ghost shaped: { shape_at writer ≡ wide_blocks },
 }
 
-impl<'a, E: Blocks + Drop, R: Wait> Beside<'a, E, R> {
+impl<'a, R: Wait> Beside<'a, R> {
     /// The two seats, and the step that comes later.
     pub(crate) fn new(
-        chair: Chair<'a, Hall<E>, R>,
-        writer: Chair<'a, Hall<E>, R>,
-        next: Arc<E>,
-    ) -> Beside<'a, E, R>
+        chair: Chair<'a, Hall<Wide>, R>,
+        writer: Chair<'a, Hall<Wide>, R>,
+        next: Arc<Wide>,
+    ) -> Beside<'a, R>
         requires free { given_by writer ≡ None }
         requires adds { writer.seat.writer ≡ true }
-        requires shape { E.shape (arc_value next) ≡ shape_at writer }
-        ensures chair { result.chair ≡ chair }
+        requires shape { shape_at writer ≡ wide_blocks }
+        ensures chair { result.chair ≡ chair.entry }
     {
         Beside {
             chair,
@@ -71,12 +71,13 @@ impl<'a, E: Blocks + Drop, R: Wait> Beside<'a, E, R> {
 }
 
 /// Evicts all cached blocks, and publishes a step behind the newest one of its time, in two holds. How many entries went.
-fn evict_and_publish<E: Blocks + Drop, T: Turn<Hall<E>>>(turn: &mut T, step: Arc<E>) -> u64
+fn evict_and_publish<T: Turn<Hall<Wide>>>(turn: &mut T, step: Arc<Wide>) -> u64
     requires given { T.given turn.old ≡ None }
     requires adds { T.may_add turn.old ≡ true }
-    requires shape { E.shape (arc_value step) ≡ T.shape turn.old }
+    requires shape { T.shape turn.old ≡ wide_blocks }
     ensures given { T.given turn.new ≡ None }
     ensures adds { T.may_add turn.new ≡ true }
+    ensures shape { T.shape turn.new ≡ T.shape turn.old }
 {
     let evicted = evict(turn);
     publish(turn, step);
@@ -84,7 +85,7 @@ fn evict_and_publish<E: Blocks + Drop, T: Turn<Hall<E>>>(turn: &mut T, step: Arc
 }
 
 /// Evicts all cached blocks, in one hold. How many entries went.
-fn evict<E: Blocks + Drop, T: Turn<Hall<E>>>(turn: &mut T) -> u64
+fn evict<T: Turn<Hall<Wide>>>(turn: &mut T) -> u64
     requires given { T.given turn.old ≡ None }
     ensures given { T.given turn.new ≡ None }
     ensures adds { T.may_add turn.new ≡ T.may_add turn.old }
@@ -97,12 +98,13 @@ fn evict<E: Blocks + Drop, T: Turn<Hall<E>>>(turn: &mut T) -> u64
 }
 
 /// Publishes a step behind the newest one of its time, in one hold.
-fn publish<E: Blocks + Drop, T: Turn<Hall<E>>>(turn: &mut T, step: Arc<E>)
+fn publish<T: Turn<Hall<Wide>>>(turn: &mut T, step: Arc<Wide>)
     requires given { T.given turn.old ≡ None }
     requires adds { T.may_add turn.old ≡ true }
-    requires shape { E.shape (arc_value step) ≡ T.shape turn.old }
+    requires shape { T.shape turn.old ≡ wide_blocks }
     ensures given { T.given turn.new ≡ None }
     ensures adds { T.may_add turn.new ≡ true }
+    ensures shape { T.shape turn.new ≡ T.shape turn.old }
 {
     let mut held = turn.take();
     let hall = held.get_mut();
@@ -111,7 +113,7 @@ fn publish<E: Blocks + Drop, T: Turn<Hall<E>>>(turn: &mut T, step: Arc<E>)
     turn.give(held);
 }
 
-impl<E: Blocks + Drop, R: Wait> Turn<Hall<E>> for Beside<'_, E, R> {
+impl<R: Wait> Turn<Hall<Wide>> for Beside<'_, R> {
     ghost tells = { false };
 
     ghost kept = { λ _. None };
@@ -128,7 +130,7 @@ impl<E: Blocks + Drop, R: Wait> Turn<Hall<E>> for Beside<'_, E, R> {
 
     ghost holds = { λ s. s.chair.holds };
 
-    fn take(&mut self) -> Held<Hall<E>> {
+    fn take(&mut self) -> Held<Hall<Wide>> {
         self.holds = self.holds.wrapping_add(1);
         if self.holds == SECOND_ROUND
             && let Some(step) = self.next.take()
@@ -138,7 +140,7 @@ impl<E: Blocks + Drop, R: Wait> Turn<Hall<E>> for Beside<'_, E, R> {
         self.chair.take()
     }
 
-    fn give(&mut self, held: Held<Hall<E>>)
+    fn give(&mut self, held: Held<Hall<Wide>>)
         requires { MayGive (given_by self.old.chair) self.old.chair.seat.writer (stand held.shape held.board) }
         ensures kept { false ≡ true → None ≡ Some held }
         ensures given { self.new.chair ≡ chair_value (seat_value self.old.chair.seat.lock (stand held.shape held.board)

@@ -137,6 +137,6 @@ fn the_others_go_on_where_a_door_fails(rt: HostRuntime) -> Result<(), Fail> {
 fn one_serves_while_the_other_is_held(rt: HostRuntime) -> Result<(), Fail> {
     let gate = HoldGate::new(0, GatePlace::Accepted, 1, GatePlace::Answered, 1_000_000);
     let outcome = outcome_of(&rt, rt.alloc(), &[(1, 0), (1, 0), (0, 0)], &gate)?;
-    assert!(rt; !gate.met_limit() && outcome.summary.links == 2);
+    assert!(rt; gate.saw_both() && !gate.met_limit() && outcome.summary.links == 2);
     Ok(())
 }
