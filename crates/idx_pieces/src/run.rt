@@ -1,6 +1,6 @@
 use idx_outside::Bytes;
 
-/// Samples of a field at consecutive hierarchical addresses.
+/// Samples of a field at consecutive hierarchical addresses, one sample at least.
 #[derive(Debug, Drop)]
 pub struct Run {
     /// The number of the field, from 0.

@@ -7,6 +7,6 @@ pub struct Shipment {
     pub piece: u64,
     /// The number of the file: that of its first block.
     pub file: u64,
-    /// The samples, rising by field and then by address.
+    /// The samples: runs that rise by field and then by address, none of them without a sample.
     pub runs: Runs,
 }
