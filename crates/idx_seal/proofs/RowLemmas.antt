@@ -13,7 +13,7 @@ use Rattle.idx_dock.specs.Dock.{DockValue}
 use Rattle.idx_seal.specs.declared.job.Job.{Job}
 use Rattle.idx_seal.specs.declared.written.Written.{Written}
 use Rattle.idx_seal.specs.declared.written.Written.TheVariants.{Open, Sealed, Failed}
-use Rattle.idx_seal.specs.Jobs.{IsOpen, IsOpened, Writes, WritesTo, faults_of, file_faults, has_failed, is_failed, is_sealed, job_shown, leaf_shown, planned, planned_bytes}
+use Rattle.idx_seal.specs.Jobs.{Finishes, IsOpen, IsOpened, Writes, WritesTo, ends_finished, faults_of, file_faults, has_failed, is_failed, is_sealed, job_shown, leaf_shown, planned, planned_bytes}
 
 or_false : (a b : Bool) → (a || b) ≡ false → (a ≡ false) × (b ≡ false)
 or_false true b none = absurd (cc)
@@ -49,11 +49,11 @@ planned_more f jobs job docks rest dock all first made before =
     ∙ ap (λ file. map planned jobs ++ file ∷ map f rest) made
     ∙ ap (λ s. map planned jobs ++ map f s) (sym first) ∙ before
 
-module _ {D L : Type 0} (contents : D → Option (List ℕ)) (leaf_contents : L → Option (List ℕ)) (faults : D → ℕ) (known : Option (List MemFile)) where
+module _ {D L : Type 0} (contents path : D → Option (List ℕ)) (faults : D → ℕ) (leaf_contents leaf_path : L → Option (List ℕ)) (leaf_faults : L → ℕ) (known : Option (List MemFile)) where
   -- a job whose draft was just made can be run
-  pub opened_open : (jobs : List (Job D L)) → All (IsOpened contents faults known) jobs → All (IsOpen contents) jobs
+  pub opened_open : (jobs : List (Job D L)) → All (IsOpened contents path faults known) jobs → All (IsOpen contents) jobs
   opened_open jobs opened =
-      let P : Job D L → Type 0 = IsOpened contents faults known in
+      let P : Job D L → Type 0 = IsOpened contents path faults known in
       let Q : Job D L → Type 0 = IsOpen contents in
       All-weaker P Q (λ job is. record {
         dock = is.dock;
@@ -64,38 +64,61 @@ module _ {D L : Type 0} (contents : D → Option (List ℕ)) (leaf_contents : L 
       }) jobs opened
 
   -- drafts that were just made have counted no fault
-  pub opened_faultless : (jobs : List (Job D L)) → All (IsOpened contents faults known) jobs → sum_by (faults_of faults) jobs ≡ 0
+  pub opened_faultless : (jobs : List (Job D L)) → All (IsOpened contents path faults known) jobs → sum_by (faults_of faults) jobs ≡ 0
   opened_faultless [] opened = refl
   opened_faultless (job ∷ jobs) opened =
-      let P : Job D L → Type 0 = IsOpened contents faults known in
+      let P : Job D L → Type 0 = IsOpened contents path faults known in
       let first = All-head P job jobs opened in
       let none : faults_of faults job ≡ 0 = ap (file_faults faults) first.is ∙ first.unfailed in
       let more : sum_by (faults_of faults) jobs ≡ 0 = opened_faultless jobs (All-tail P job jobs opened) in
       sum_by-cons (faults_of faults) job jobs ∙ omega (arith, none, more)
 
-  file_sealed : (dock : DockValue) (draft : D) (file : Option (Written D L)) → contents draft ≡ known_with known [] → WritesTo contents leaf_contents faults dock draft file → is_failed file ≡ false →
+  file_sealed : (dock : DockValue) (draft : D) (file : Option (Written D L)) → contents draft ≡ known_with known [] → WritesTo contents path faults leaf_contents leaf_path leaf_faults dock draft file → is_failed file ≡ false →
       (is_sealed file ≡ true) × (leaf_shown leaf_contents file ≡ known_with known (dock_bytes dock))
   file_sealed dock draft None empty written kept = absurd written
   file_sealed dock draft (Some (Open other back)) empty written kept = absurd written
-  file_sealed dock draft (Some (Sealed leaf)) empty written kept = (refl, written ∙ ap (λ c. retold c (dock_bytes dock)) empty ∙ known_retold known (dock_bytes dock))
+  file_sealed dock draft (Some (Sealed leaf)) empty written kept = (refl, written.0 ∙ ap (λ c. retold c (dock_bytes dock)) empty ∙ known_retold known (dock_bytes dock))
   file_sealed dock draft (Some (Failed back)) empty written kept = let wrong : true ≡ false = kept in absurd (cc)
 
-  file_failed : (dock : DockValue) (draft : D) (file : Option (Written D L)) → WritesTo contents leaf_contents faults dock draft file → is_failed file ≡ true → 0 < file_faults faults file
+  file_failed : (dock : DockValue) (draft : D) (file : Option (Written D L)) → WritesTo contents path faults leaf_contents leaf_path leaf_faults dock draft file → is_failed file ≡ true → 0 < file_faults faults file
   file_failed dock draft None written failed = absurd written
   file_failed dock draft (Some (Open other back)) written failed = absurd written
   file_failed dock draft (Some (Sealed leaf)) written failed = let wrong : false ≡ true = failed in absurd (cc)
-  file_failed dock draft (Some (Failed back)) written failed = written
+  file_failed dock draft (Some (Failed back)) written failed = written.0
+
+  file_finished : (at : List ℕ) (dock : DockValue) (draft : D) (file : Option (Written D L)) → path draft ≡ known_with known at → faults draft ≡ 0 →
+      WritesTo contents path faults leaf_contents leaf_path leaf_faults dock draft file → ends_finished leaf_path leaf_faults known at file
+  file_finished at dock draft None named unfailed written = tt
+  file_finished at dock draft (Some (Open other back)) named unfailed written = tt
+  file_finished at dock draft (Some (Sealed leaf)) named unfailed written = (written.1 ∙ named, written.2 ∙ unfailed)
+  file_finished at dock draft (Some (Failed back)) named unfailed written = tt
+
+  -- those that were sealed tell the paths of their jobs, and no fault
+  pub row_finished : (old new : List (Job D L)) → length new ≡ length old →
+      ((i : ℕ) (d : Job D L) → i < length old → Writes contents path faults leaf_contents leaf_path leaf_faults (get_or old i d) (get_or new i d)) →
+      All (IsOpened contents path faults known) old → AllByRecursion (Finishes leaf_path leaf_faults known) new
+  row_finished [] [] number each opened = tt
+  row_finished [] (n ∷ ns) number each opened = absurd (omega (arith, number))
+  row_finished (o ∷ os) [] number each opened = absurd (omega (arith, number))
+  row_finished (o ∷ os) (n ∷ ns) number each opened =
+      let P : Job D L → Type 0 = IsOpened contents path faults known in
+      let first = All-head P o os opened in
+      let wrote = each 0 o (omega arith) in
+      let named : path first.draft ≡ known_with known n.path = first.named ∙ ap (known_with known) (sym wrote.same) in (
+        file_finished n.path first.dock first.draft n.file named first.unfailed (wrote.file first.dock first.draft first.is),
+        row_finished os ns (omega (arith, number)) (λ i d within. each (suc i) d (omega (arith, within))) (All-tail P o os opened),
+      )
 
   -- where no draft came back, all were sealed, with the bytes that were to be written
   pub row_sealed : (old new : List (Job D L)) → length new ≡ length old →
-      ((i : ℕ) (d : Job D L) → i < length old → Writes contents leaf_contents faults (get_or old i d) (get_or new i d)) →
-      All (IsOpened contents faults known) old → list_any has_failed new ≡ false →
+      ((i : ℕ) (d : Job D L) → i < length old → Writes contents path faults leaf_contents leaf_path leaf_faults (get_or old i d) (get_or new i d)) →
+      All (IsOpened contents path faults known) old → list_any has_failed new ≡ false →
       AllByRecursion (λ job. is_sealed job.file ≡ true) new × (map (job_shown leaf_contents) new ≡ known_files known (map planned old))
   row_sealed [] [] number each opened kept = (tt, refl)
   row_sealed [] (n ∷ ns) number each opened kept = absurd (omega (arith, number))
   row_sealed (o ∷ os) [] number each opened kept = absurd (omega (arith, number))
   row_sealed (o ∷ os) (n ∷ ns) number each opened kept =
-      let P : Job D L → Type 0 = IsOpened contents faults known in
+      let P : Job D L → Type 0 = IsOpened contents path faults known in
       let first = All-head P o os opened in
       let wrote = each 0 o (omega arith) in
       let none = or_false (has_failed n) (list_any has_failed ns) kept in
@@ -108,13 +131,13 @@ module _ {D L : Type 0} (contents : D → Option (List ℕ)) (leaf_contents : L 
 
   -- where a draft came back, it has counted a fault
   pub row_failed : (old new : List (Job D L)) → length new ≡ length old →
-      ((i : ℕ) (d : Job D L) → i < length old → Writes contents leaf_contents faults (get_or old i d) (get_or new i d)) →
-      All (IsOpened contents faults known) old → list_any has_failed new ≡ true → 0 < sum_by (faults_of faults) new
+      ((i : ℕ) (d : Job D L) → i < length old → Writes contents path faults leaf_contents leaf_path leaf_faults (get_or old i d) (get_or new i d)) →
+      All (IsOpened contents path faults known) old → list_any has_failed new ≡ true → 0 < sum_by (faults_of faults) new
   row_failed [] [] number each opened failed = let wrong : false ≡ true = failed in absurd (cc)
   row_failed [] (n ∷ ns) number each opened failed = absurd (omega (arith, number))
   row_failed (o ∷ os) [] number each opened failed = absurd (omega (arith, number))
   row_failed (o ∷ os) (n ∷ ns) number each opened failed =
-      let P : Job D L → Type 0 = IsOpened contents faults known in
+      let P : Job D L → Type 0 = IsOpened contents path faults known in
       let first = All-head P o os opened in
       let wrote = each 0 o (omega arith) in
       let sum = sum_by-cons (faults_of faults) n ns in

@@ -1,6 +1,7 @@
 -- The jobs of a row: what workers make of docks and drafts.
 use Rattle.std.specs.Prelude.{◌≡◌, ℕ, ◌<◌, Bool, true, false, List, [], Option, Some, None}
 use Rattle.std.specs.Option.{ForSome}
+use Rattle.idx_outside.specs.Cause.{counted}
 use Rattle.idx_outside.specs.Files.{known_with, retold}
 use Rattle.idx_outside.specs.declared.mem_file.MemFile.{MemFile}
 use Rattle.idx_dock.specs.Content.{dock_bytes}
@@ -18,22 +19,28 @@ module _ {D L : Type 0} (contents : D → Option (List ℕ)) where
     pub complete : missing dock ≡ None
     pub empty : ForSome (contents draft) (λ bytes. bytes ≡ [])
 
-  -- The same, where the bytes are known exactly where the committed files are. The draft has counted no fault.
-  pub record IsOpened (faults : D → ℕ) (known : Option (List MemFile)) (job : Job D L) : Type 0 where
+  -- The same, where the bytes and the path are known exactly where the committed files are. The draft was made for the
+  -- job's path, and has counted no fault.
+  pub record IsOpened (path : D → Option (List ℕ)) (faults : D → ℕ) (known : Option (List MemFile)) (job : Job D L) : Type 0 where
     pub dock : DockValue
     pub draft : D
     pub is : job.file ≡ Some (Open dock draft)
     pub complete : missing dock ≡ None
     pub empty : contents draft ≡ known_with known []
+    pub named : path draft ≡ known_with known job.path
     pub unfailed : faults draft ≡ 0
 
-module _ {D L : Type 0} (contents : D → Option (List ℕ)) (leaf_contents : L → Option (List ℕ)) (faults : D → ℕ) where
-  -- a draft to which a dock was written was sealed, with the bytes of the dock, or came back with a fault counted
+module _ {D L : Type 0} (contents path : D → Option (List ℕ)) (faults : D → ℕ)
+    (leaf_contents leaf_path : L → Option (List ℕ)) (leaf_faults : L → ℕ) where
+  -- A draft to which a dock was written was sealed, with the bytes of the dock and the draft's path and faults, or came
+  -- back with one fault more.
   abbrev pub WritesTo : DockValue → D → Option (Written D L) → Type 0
   WritesTo dock draft None = ⊥
   WritesTo dock draft (Some (Open dock' back)) = ⊥
-  WritesTo dock draft (Some (Sealed leaf)) = leaf_contents leaf ≡ retold (contents draft) (dock_bytes dock)
-  WritesTo dock draft (Some (Failed back)) = 0 < faults back
+  WritesTo dock draft (Some (Sealed leaf)) =
+      (leaf_contents leaf ≡ retold (contents draft) (dock_bytes dock)) × (leaf_path leaf ≡ path draft)
+      × (leaf_faults leaf ≡ faults draft)
+  WritesTo dock draft (Some (Failed back)) = (0 < faults back) × (faults back ≡ counted (faults draft))
 
   -- what a worker makes of a job
   pub record Writes (old new : Job D L) : Type 0 where
@@ -82,3 +89,17 @@ module _ {D L : Type 0} where
   -- the path of a file that was sealed, with what is known of its leaf
   abbrev pub job_shown : (L → Option (List ℕ)) → Job D L → List ℕ × Option (List ℕ)
   job_shown contents job = (job.path, leaf_shown contents job.file)
+
+module _ {L : Type 0} (path : L → Option (List ℕ)) (faults : L → ℕ) (known : Option (List MemFile)) where
+  -- a leaf under its draft's path, which is known where the committed files are; its draft counted no fault
+  abbrev pub IsFinished : List ℕ × L → Type 0
+  IsFinished entry = (path entry.1 ≡ known_with known entry.0) × (faults entry.1 ≡ 0)
+
+  -- so is the leaf of this path, where the draft was sealed
+  abbrev pub ends_finished : {D : Type 0} → List ℕ → Option (Written D L) → Type 0
+  ends_finished at (Some (Sealed leaf)) = IsFinished (at, leaf)
+  ends_finished at file = Unit {0}
+
+  -- so is that of a job
+  abbrev pub Finishes : {D : Type 0} → Job D L → Type 0
+  Finishes job = ends_finished job.path job.file

@@ -19,7 +19,7 @@ impl<D: Draft> Job<D, D::Leaf> {
     /// Writes the dock to the draft and seals it. Whether it was sealed. Takes no memory.
     pub(crate) fn run(&mut self) -> bool
         requires { IsOpen D.contents self.old }
-        ensures { Writes D.contents D.Leaf.contents D.faults self.old self.new }
+        ensures { Writes D.contents D.path D.faults D.Leaf.contents D.Leaf.path D.Leaf.faults self.old self.new }
     {
         let written = match self.file.take() {
             Some(Written::Open(dock, draft)) => write(dock, draft),
@@ -36,7 +36,8 @@ impl<D: Draft> Job<D, D::Leaf> {
 fn write<D: Draft>(dock: Dock, draft: D) -> Written<D, D::Leaf>
     requires complete { missing dock ≡ None }
     requires empty { ForSome (D.contents draft) (λ bytes. bytes ≡ []) }
-    ensures { WritesTo D.contents D.Leaf.contents D.faults dock draft (Some result) }
+    ensures { WritesTo D.contents D.path D.faults D.Leaf.contents D.Leaf.path D.Leaf.faults
+        dock draft (Some result) }
 {
     match dock.write(draft) {
         Ok(leaf) => Written::Sealed(leaf),

@@ -32,7 +32,7 @@ pub(crate) fn open_row<B: Bay>(
     requires admits { (file : ℕ) → B.admits bay.old (file_name header.now step file) }
     requires none { vec_len jobs.old ≡ 0 }
     requires room { count ≤ vec_capacity jobs.old }
-    ensures opened { All (IsOpened B.Draft.contents B.Draft.faults (B.files bay.old)) jobs.new.items }
+    ensures opened { All (IsOpened B.Draft.contents B.Draft.path B.Draft.faults (B.files bay.old)) jobs.new.items }
     ensures planned { OnOk result (map planned jobs.new.items
         ++ map (dock_file header.now step) (into_iter_items docks.new)
         ≡ map (dock_file header.now step) (into_iter_items docks.old)) }
@@ -62,7 +62,7 @@ fn open_file<B: Bay>(
 ) -> Result<Job<B::Draft, B::Leaf>, BayFault>
     requires complete { missing dock ≡ None }
     requires admits { B.admits bay.old (file_name header.now step dock.file) }
-    ensures opened { IfOk result (IsOpened B.Draft.contents B.Draft.faults (B.files bay.old)) }
+    ensures opened { IfOk result (IsOpened B.Draft.contents B.Draft.path B.Draft.faults (B.files bay.old)) }
     ensures planned { IfOk result (λ job. planned job ≡ dock_file header.now step dock) }
     ensures answers { Answers result (B.faults bay.old) (B.faults bay.new) (B.failed bay.old) (B.failed bay.new) }
     ensures kept { Keeps B.header B.files B.begun B.admits B.faults bay.old bay.new }

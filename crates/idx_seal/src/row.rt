@@ -1,5 +1,5 @@
 //! The files of a row: as many as there are workers.
-ghost use Rattle.std.specs.Prelude.{◌≡◌, ◌+◌, ◌<◌, ◌≤◌, ◌++◌, ℕ, None, OnOk, map, vec_capacity, vec_len};
+ghost use Rattle.std.specs.Prelude.{◌≡◌, ◌+◌, ◌<◌, ◌≤◌, ◌++◌, ℕ, All, None, OnOk, map, vec_capacity, vec_len};
 ghost use Rattle.std.specs.List.{AllByRecursion};
 ghost use Rattle.std.specs.Vec.Iter.{into_iter_items, into_iter_len};
 ghost use Rattle.idx_outside.specs.Files.{known_files, shown};
@@ -7,6 +7,7 @@ ghost use Rattle.idx_header.specs.Names.{file_name};
 ghost use Rattle.idx_dock.specs.Dock.{missing};
 ghost use Rattle.idx_seal.specs.Bay.{Answers, Keeps};
 ghost use Rattle.idx_seal.specs.Files.{dock_file};
+ghost use Rattle.idx_seal.specs.Jobs.{IsFinished};
 
 use crate::giving_up::give_all_up;
 use crate::leaves::take_leaves;
@@ -45,6 +46,8 @@ where
         ++ known_files (B.files bay.old) (map (dock_file header.now step) (into_iter_items docks.new))
         ≡ shown B.Leaf.contents leaves.old.items
         ++ known_files (B.files bay.old) (map (dock_file header.now step) (into_iter_items docks.old))) }
+    ensures finished { OnOk result (All (IsFinished B.Leaf.path B.Leaf.faults (B.files bay.old)) leaves.old.items →
+        All (IsFinished B.Leaf.path B.Leaf.faults (B.files bay.old)) leaves.new.items) }
     ensures fewer { OnOk result (into_iter_len docks.new < into_iter_len docks.old) }
     ensures complete { OnOk result (AllByRecursion (λ d. missing d ≡ None) (into_iter_items docks.new)) }
     ensures room { OnOk result (vec_len leaves.new + into_iter_len docks.new ≤ vec_capacity leaves.new) }

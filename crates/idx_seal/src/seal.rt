@@ -1,6 +1,6 @@
 ghost use Rattle.std.specs.Prelude.{◌≡◌, ◌≢◌, ◌≤◌, ℕ, All, Err, IfOk, None, OnOk, map};
 ghost use Rattle.idx_outside.specs.Cause.{NeverFalls, Rose};
-ghost use Rattle.idx_outside.specs.Files.{StillAdmits, known_files, shown};
+ghost use Rattle.idx_outside.specs.Files.{AllNamed, StillAdmits, known_files, known_with, shown};
 ghost use Rattle.idx_header.specs.Names.{file_name};
 ghost use Rattle.idx_dock.specs.Dock.{missing};
 ghost use Rattle.idx_seal.specs.Bay.{IsSealCall};
@@ -14,7 +14,8 @@ use std::alloc::Global;
 use std::thread::Threads;
 
 /// Writes complete docks to drafts of a bay by so many workers, and seals them: the paths of their files of a step,
-/// each with its leaf, in the order of the docks. The paths are those of the header, the bytes those of the docks.
+/// each with its leaf, in the order of the docks. The paths are those of the header, the bytes those of the docks. Each
+/// file was made for its path, and no call on its draft has failed.
 ///
 /// The files are written in rows of as many as there are workers, so that the dock at place `j` is written by the
 /// worker `j % workers`, and the memory of the docks of a row is free before the next row begins. A worker passes the
@@ -41,6 +42,10 @@ where
     requires admits { (file : ℕ) → B.admits bay.old (file_name header.now step file) }
     ensures leaves { IfOk result (λ leaves. shown B.Leaf.contents leaves.items ≡
         known_files (B.files bay.old) (map (dock_file header.now step) docks.items)) }
+    ensures named { IfOk result (λ leaves. AllNamed B.Leaf.path leaves.items) }
+    ensures paths { IfOk result (λ leaves.
+        All (λ entry. B.Leaf.path entry.1 ≡ known_with (B.files bay.old) entry.0) leaves.items) }
+    ensures faultless { IfOk result (λ leaves. All (λ entry. B.Leaf.faults entry.1 ≡ 0) leaves.items) }
     ensures files { B.files bay.new ≡ B.files bay.old }
     ensures header { B.header bay.new ≡ B.header bay.old }
     ensures begun { B.begun bay.new ≡ B.begun bay.old }

@@ -25,7 +25,7 @@ where
     requires open { All (IsOpen D.contents) jobs.old.items }
     ensures number { vec_len jobs.new ≡ vec_len jobs.old }
     ensures each { (i : ℕ) (d : AJob D D.Leaf) → i < vec_len jobs.old →
-        Writes D.contents D.Leaf.contents D.faults
+        Writes D.contents D.path D.faults D.Leaf.contents D.Leaf.path D.Leaf.faults
         (slice_index_or jobs.old.items i d) (slice_index_or jobs.new.items i d) }
 {
     let workers = jobs.len();
@@ -35,7 +35,7 @@ where
         workers,
         &|i: usize, job: &mut Job<D, D::Leaf>|
             requires { (i < 2 ^ 32) × IsOpen D.contents job.old }
-            ensures { Writes D.contents D.Leaf.contents D.faults job.old job.new }
+            ensures { Writes D.contents D.path D.faults D.Leaf.contents D.Leaf.path D.Leaf.faults job.old job.new }
         {
             let sealed = job.run();
             if sealed && last <= i {

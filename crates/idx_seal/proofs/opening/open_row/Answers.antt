@@ -15,6 +15,7 @@ pub loop-opened-preserved : goal.loop-opened-preserved
 loop-opened-preserved g c =
     let bay = g.B.Bay in
     let contents = g.B.Draft.Draft.contents in
+    let path = g.B.Draft.Draft.path in
     let faults = g.B.Draft.Draft.faults in
     let f = dock_file c.args.header.now c.args.step in
     let before = c.loop-opened.invariant in
@@ -23,9 +24,9 @@ loop-opened-preserved g c =
     let first = c.in-Some.ensures.cases.0 in
     let pushed : c.push.new.self.items ≡ c.loop-opened.jobs.items ++ job ∷ [] = grind (arith, common_steps) in
     record {
-      opened = subst (All (IsOpened contents faults (bay.files c.args.bay.now))) (sym pushed)
-          (All-push (IsOpened contents faults (bay.files c.args.bay.now)) c.loop-opened.jobs.items job before.opened
-          (subst (λ known. IsOpened contents faults known job) before.kept.files_same made.opened));
+      opened = subst (All (IsOpened contents path faults (bay.files c.args.bay.now))) (sym pushed)
+          (All-push (IsOpened contents path faults (bay.files c.args.bay.now)) c.loop-opened.jobs.items job before.opened
+          (subst (λ known. IsOpened contents path faults known job) before.kept.files_same made.opened));
       all = ap (λ jobs. map planned jobs ++ map f (into_iter_items c.next.new.self)) pushed
           ∙ planned_more f c.loop-opened.jobs.items job (into_iter_items c.loop-opened.docks) (into_iter_items c.next.new.self) c.in-Some.dock _ first made.planned before.all;
       complete = (subst (AllByRecursion (λ d. missing d ≡ None)) first before.complete).1;

@@ -1,4 +1,4 @@
-use Rattle.std.proofs.Common.{rules, ◌≡◌, [], ◌++◌, Err, None, map, refl, sym, subst, ◌∙◌, arith, append-nil}
+use Rattle.std.proofs.Common.{rules, ◌≡◌, [], ◌++◌, All, Err, None, map, refl, sym, subst, ◌∙◌, arith, append-nil}
 use Rattle.std.proofs.lemmas.Grind.{common_steps}
 use Rattle.std.specs.List.{AllByRecursion}
 use Rattle.std.specs.Vec.Iter.{into_iter_items}
@@ -8,6 +8,7 @@ use Rattle.idx_header.specs.Names.{file_name}
 use Rattle.idx_dock.specs.Dock.{missing}
 use Rattle.idx_seal.specs.Bay.{Answers}
 use Rattle.idx_seal.specs.Files.{dock_file}
+use Rattle.idx_seal.specs.Jobs.{IsFinished}
 use Rattle.idx_seal.proofs.BayLemmas.{call_stays, handed_on, keeps_none, keeps_then}
 use Rattle.idx_seal.proofs.RowLemmas.{all_in_turn}
 use Rattle.idx_seal.proofs.seal.seal_docks.Goals as goal
@@ -50,6 +51,8 @@ rows-preserved g c =
           (subst (λ known. shown contents c.seal_row.new.leaves.items ++ known_files known (map f (into_iter_items c.seal_row.new.docks))
           ≡ shown contents c.rows.leaves.items ++ known_files known (map f (into_iter_items c.rows.docks))) before.kept.files_same sealed.leaves)
           before.all;
+      finished = subst (λ known. All (IsFinished g.B.Leaf.Leaf.path g.B.Leaf.Leaf.faults known) c.rows.leaves.items →
+          All (IsFinished g.B.Leaf.Leaf.path g.B.Leaf.Leaf.faults known) c.seal_row.new.leaves.items) before.kept.files_same sealed.finished before.finished;
       complete = sealed.complete;
       room = sealed.room;
       admits = λ file. sealed.kept.still (file_name c.args.header.now c.args.step file) (before.admits file);
@@ -64,6 +67,7 @@ rows-init g c =
     let items : into_iter_items c.into_iter-docks.result ≡ c.args.docks.items = search rules in
     record {
       all = search rules;
+      finished = search rules;
       complete = subst (AllByRecursion (λ d. missing d ≡ None)) (sym items) (all_in_turn (λ d. missing d ≡ None) c.args.docks.items c.requires.complete);
       room = grind (arith, common_steps);
       admits = c.requires.admits;
