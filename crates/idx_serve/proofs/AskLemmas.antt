@@ -13,7 +13,7 @@ asked_by h pairs ask (Some fault) (inl same) = absurd (cc)
 asked_by h pairs ask (Some fault) (inr same) = absurd (cc)
 asked_by h pairs ask None asked = asked
 
-asked_of : (h : HeaderValue) (name target : List ℕ) (ask : Ask) → IsRead h name target (Ok ask) → IsAsked h (pairs_of (split_once 63 target).1) ask
+pub asked_of : (h : HeaderValue) (name target : List ℕ) (ask : Ask) → IsRead h name target (Ok ask) → IsAsked h (pairs_of (split_once 63 target).1) ask
 asked_of h name target ask read = asked_by h (pairs_of (split_once 63 target).1) ask (early_fault h name target) read
 
 within : (h : HeaderValue) (vs : List (List ℕ)) (i : ℕ) → 1 ≤ length h.fields → IsFieldAsked h vs i → i < length h.fields

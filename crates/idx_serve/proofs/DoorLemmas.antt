@@ -1,6 +1,6 @@
 -- One more link of a door.
-use Rattle.std.proofs.Common.{◌≡◌, ℕ, ◌+◌, ◌-◌, ◌^◌, ◌≤◌, Bool, true, false, ◌||◌, List, [], ◌∷◌, ◌++◌, Option, Some, None, inl, inr, length, map, refl, sym, ap, subst, ◌∙◌, arith, append_assoc, append-nil, length-append}
-use Rattle.std.specs.Prelude.{min, sum_by, if◌then◌else◌}
+use Rattle.std.proofs.Common.{◌≡◌, ℕ, ◌+◌, ◌-◌, ◌^◌, Bool, true, false, ◌||◌, List, [], ◌∷◌, ◌++◌, Option, Some, None, inl, inr, length, map, refl, sym, ap, subst, ◌∙◌, arith, append_assoc, append-nil, length-append}
+use Rattle.std.specs.Prelude.{if◌then◌else◌}
 use Rattle.std.specs.List.{list_any}
 use Rattle.std.specs.Option.{ForSome}
 use Rattle.std.proofs.lemmas.List.{map-append}
@@ -12,7 +12,6 @@ use Rattle.idx_session.specs.Entry.{State}
 use Rattle.idx_session.specs.Session.{EndCounts}
 use Rattle.idx_serve.specs.Links.{IsServed}
 use Rattle.idx_serve.specs.Visits.{AreVisits, AtDoor, CameBack, IsEnd, IsVisit, LinkTells, Visit, capped, finished, is_starved}
-use Rattle.idx_serve.specs.declared.door.ServeEnd.{ServeEnd}
 use Rattle.idx_serve.specs.declared.door.ServeEnd.TheVariants as S
 use Rattle.idx_serve.specs.declared.site.Site.{Site}
 
@@ -71,10 +70,10 @@ module _ {L : Type 0} where
 
   -- a link was served, with no entry before
   pub visit_of : {tell : LinkTells L} {tells : Bool} {site : Site} {before after : State} (v : Visit L) (old : List Served) → old ≡ []
-      → IsServed tells site before after (tell.incoming v.link) (tell.written v.link) (tell.written v.back) old v.served v.end
+      → IsServed tells site before after (tell.incoming v.link) (tell.written v.link) (tell.written v.back) (tell.readings v.link) (tell.readings v.back) old v.served v.end
       → NeverFalls (tell.faults v.link) (tell.faults v.back) → EndCounts (tell.faults v.link) (tell.faults v.back) v.end → IsVisit tell tells site before after v
   visit_of {tell} {tells} {site} {before} {after} v old none served count counts = record {
-    served = subst (λ l. IsServed tells site before after (tell.incoming v.link) (tell.written v.link) (tell.written v.back) l v.served v.end) none served;
+    served = subst (λ l. IsServed tells site before after (tell.incoming v.link) (tell.written v.link) (tell.written v.back) (tell.readings v.link) (tell.readings v.back) l v.served v.end) none served;
     count = count;
     counts = counts;
   }

@@ -3,3 +3,4 @@ pub mod NewestLemmas
 pub mod AskLemmas
 pub mod TextLemmas
 pub mod DoorLemmas
+pub mod BoardLemmas

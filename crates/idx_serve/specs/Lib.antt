@@ -4,5 +4,6 @@ pub mod Texts
 pub mod Later
 pub mod States
 pub mod Replies
+pub mod Boards
 pub mod Links
 pub mod Visits

@@ -18,15 +18,21 @@ abbrev pub seen_after : Refusal → ℕ → ℕ
 seen_after (R.NotPublished board) seen = board
 seen_after refusal seen = seen
 
--- a reply that refuses what was asked
+-- A refusal is written down as itself, or, where there was no memory for its text, as want of memory.
+abbrev pub IsWrittenAs : Refusal → Refusal → Type 0
+IsWrittenAs cause refusal = (refusal ≡ cause) ⊎ (refusal ≡ R.NoMemory)
+
+-- A reply that refuses what was asked, for this reason, which is written down. It closes where the reason does.
 pub record Refuses (tells : Bool) (site : Site) (before : Mark) (asked : Asked) (last : Bool) (reply : Reply) : Type 0 where
-  pub refusal : Refusal
+  pub reason : Refusal
   pub left : State
-  pub cause : IsRefused tells site asked before.state left refusal
+  pub cause : IsRefused tells site asked before.state left reason
+  pub refusal : Refusal
+  pub written : IsWrittenAs reason refusal
   pub eased : IsEased tells refusal left reply.mark.state
   pub seen : reply.mark.seen ≡ seen_after refusal before.seen
   pub status : reply.status ≡ status_of refusal
-  pub closes : reply.closes ≡ (closing last asked || ends refusal)
+  pub closes : reply.closes ≡ (closing last asked || ends reason)
   pub bytes : reply.bytes ≡ refusal_reply refusal reply.closes
 
 -- the bytes are those of a reply with the samples that were asked for, out of the post of this number
@@ -51,9 +57,12 @@ pub record Gives (tells : Bool) (site : Site) (before : Mark) (asked : Asked) (l
 abbrev pub IsReply : Bool → Site → Answers
 IsReply tells site before asked last reply = Refuses tells site before asked last reply ⊎ Gives tells site before asked last reply
 
--- what a head may leave whose refusal could not be written down
+-- What a head leaves that gets no reply: it is refused, half of the cached blocks are dropped for want of memory, and not even this
+-- could be written down.
 pub record IsLost (tells : Bool) (site : Site) (before after : Mark) : Type 0 where
   pub asked : Asked
-  pub refusal : Refusal
-  pub cause : IsRefused tells site asked before.state after.state refusal
+  pub reason : Refusal
+  pub left : State
+  pub cause : IsRefused tells site asked before.state left reason
+  pub eased : IsEased tells R.NoMemory left after.state
   pub seen : after.seen ≡ before.seen

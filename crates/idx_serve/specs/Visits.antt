@@ -1,9 +1,10 @@
 -- What is answered on the links of a door, one after another.
-use Rattle.std.specs.Prelude.{◌≡◌, ◌⊎◌, ℕ, ◌-◌, ◌^◌, ◌≤◌, Bool, true, false, List, [], ◌∷◌, ◌++◌, length, map, min, sum_by, Option, Some, None}
+use Rattle.std.specs.Prelude.{◌≡◌, ◌⊎◌, ℕ, ◌-◌, ◌^◌, Bool, true, false, List, [], ◌∷◌, ◌++◌, length, map, min, sum_by, Option, Some, None}
 use Rattle.std.specs.List.{list_any}
 use Rattle.std.specs.Option.{ForSome}
 use Rattle.idx_outside.specs.Cause.{NeverFalls, Rose}
 use Rattle.idx_outside.specs.Doors.{DoorTold, door_told}
+use Rattle.idx_outside.specs.Input.{Reading}
 use Rattle.idx_outside.specs.declared.served.Served.{Served}
 use Rattle.idx_session.specs.Entry.{State}
 use Rattle.idx_session.specs.Session.{EndCounts}
@@ -14,15 +15,17 @@ use Rattle.idx_serve.specs.declared.door.ServeEnd.{ServeEnd}
 use Rattle.idx_serve.specs.declared.door.ServeEnd.TheVariants as S
 use Rattle.idx_serve.specs.declared.site.Site.{Site}
 
--- What links tell: what is still to come, what was written, and how many faults were counted.
+-- What links tell: what is still to come, what was written, when they were read, and how many faults were counted.
 pub record LinkTells (L : Type 0) : Type 0 where
   pub incoming : L → Option (List ℕ)
   pub written : L → Option (List ℕ)
+  pub readings : L → Option (List Reading)
   pub faults : L → ℕ
 
 -- the same, by the ghost members of their trait
-abbrev pub link_tells : {L : Type 0} → (L → Option (List ℕ)) → (L → Option (List ℕ)) → (L → ℕ) → LinkTells L
-link_tells incoming written faults = record { incoming = incoming; written = written; faults = faults }
+abbrev pub link_tells : {L : Type 0} → (L → Option (List ℕ)) → (L → Option (List ℕ)) → (L → Option (List Reading)) → (L → ℕ) → LinkTells L
+link_tells incoming written readings faults =
+    record { incoming = incoming; written = written; readings = readings; faults = faults }
 
 -- A link as it was handed out and as it came back, the entries of what was answered on it, and how it ended.
 pub record Visit (L : Type 0) : Type 0 where
@@ -37,7 +40,7 @@ finished v = (v.back, v.served)
 
 -- the link was served, from the state before to the one afterwards
 pub record IsVisit {L : Type 0} (tell : LinkTells L) (tells : Bool) (site : Site) (before after : State) (v : Visit L) : Type 0 where
-  pub served : IsServed tells site before after (tell.incoming v.link) (tell.written v.link) (tell.written v.back) [] v.served v.end
+  pub served : IsServed tells site before after (tell.incoming v.link) (tell.written v.link) (tell.written v.back) (tell.readings v.link) (tell.readings v.back) [] v.served v.end
   pub count : NeverFalls (tell.faults v.link) (tell.faults v.back)
   pub counts : EndCounts (tell.faults v.link) (tell.faults v.back) v.end
 

@@ -3,9 +3,10 @@ ghost use Rattle.std.specs.Prelude.{◌≡◌, ◌||◌, ℕ, None, IfOk, OnErr}
 ghost use Rattle.idx_layout.specs.Shape.{shape_of};
 ghost use Rattle.idx_session.specs.Entry.{mark_of, state_of};
 ghost use Rattle.idx_serve.specs.Later.{IsLater};
-ghost use Rattle.idx_serve.specs.Replies.{IsLost, IsReply, seen_after};
+ghost use Rattle.idx_serve.specs.Replies.{IsLost, IsReply, IsWrittenAs, seen_after};
 ghost use Rattle.idx_serve.specs.States.{IsEased, IsHalved};
 ghost use Rattle.idx_serve.specs.Texts.{refusal_reply};
+ghost use Rattle.idx_serve.specs.declared.refusal.Refusal.{Refusal};
 
 use crate::making::make;
 use crate::question::asks_close;
@@ -13,7 +14,7 @@ use crate::texts::refusal_text;
 use crate::{Refusal, Site};
 use idx_hall::Hall;
 use idx_outside::{Blocks, NoMemory, Reader};
-use idx_session::{Answered, Asked, Responder};
+use idx_session::{Answered, Asked, ReplyText, Responder};
 use idx_turn::Turn;
 use std::alloc::Global;
 use std::marker::PhantomData;
@@ -84,14 +85,13 @@ impl<E: Blocks + Drop, T: Turn<Hall<E>>, R: Reader<E::Leaf>> Responder<Site, T, 
                     faults: reader.faults(),
                 })
             }
-            Err(refusal) => {
-                let closes = closes || refusal.ends();
-                let text = refusal_text(alloc, refusal, closes)?;
-                ease(turn, refusal);
-                self.seen = seen_after(refusal, self.seen);
+            Err(reason) => {
+                let closes = closes || reason.ends();
+                let written = refuse(alloc, turn, reason, closes)?;
+                self.seen = seen_after(written.refusal, self.seen);
                 Ok(Answered {
-                    status: refusal.status(),
-                    text,
+                    status: written.refusal.status(),
+                    text: written.text,
                     closes,
                     seen: self.seen,
                     faults: reader.faults(),
@@ -99,6 +99,13 @@ impl<E: Blocks + Drop, T: Turn<Hall<E>>, R: Reader<E::Leaf>> Responder<Site, T, 
             }
         }
     }
+}
+
+/// A refusal that was written down.
+#[derive(Drop)]
+struct Written {
+    refusal: Refusal,
+    text: ReplyText,
 }
 
 /// The length of the board that the last reply which names one was made from, after a refusal.
@@ -111,10 +118,59 @@ fn seen_after(refusal: Refusal, seen: u64) -> u64
     }
 }
 
-/// What follows a refusal: for want of memory half of the cached blocks are dropped.
-fn ease<E: Blocks + Drop, T: Turn<Hall<E>>>(turn: &mut T, refusal: Refusal)
+/// Writes a refusal down, or, where there is no memory for its text, want of memory. For that half of the cached blocks
+/// are dropped first. Answers `NoMemory` only where not even that could be written down.
+fn refuse<E: Blocks + Drop, T: Turn<Hall<E>>>(
+    alloc: Global,
+    turn: &mut T,
+    reason: Refusal,
+    closes: bool,
+) -> Result<Written, NoMemory>
     requires given { T.given turn.old ≡ None }
-    ensures eased { (faults reads : ℕ) → IsEased T.tells refusal
+    ensures written { IfOk result (λ written. IsWrittenAs reason written.refusal) }
+    ensures text { IfOk result (λ written. written.text ≡ refusal_reply written.refusal closes) }
+    ensures eased { (faults reads : ℕ) → IfOk result (λ written. IsEased T.tells written.refusal
+        (state_of (T.seen turn.old) (T.may_add turn.old) faults reads
+        (T.kept turn.old) (T.holds turn.old))
+        (state_of (T.seen turn.new) (T.may_add turn.new) faults reads
+        (T.kept turn.new) (T.holds turn.new))) }
+    ensures halved { (faults reads : ℕ) → OnErr result (IsHalved T.tells
+        (state_of (T.seen turn.old) (T.may_add turn.old) faults reads
+        (T.kept turn.old) (T.holds turn.old))
+        (state_of (T.seen turn.new) (T.may_add turn.new) faults reads
+        (T.kept turn.new) (T.holds turn.new))) }
+    ensures later { (faults reads : ℕ) → IsLater
+        (state_of (T.seen turn.old) (T.may_add turn.old) faults reads
+        (T.kept turn.old) (T.holds turn.old))
+        (state_of (T.seen turn.new) (T.may_add turn.new) faults reads
+        (T.kept turn.new) (T.holds turn.new))
+        (T.shape turn.old) (T.shape turn.new) (T.lock turn.old) (T.lock turn.new) }
+    ensures given { T.given turn.new ≡ None }
+{
+    match reason {
+        Refusal::NoMemory => refuse_memory(alloc, turn, closes),
+        refusal => match refusal_text(alloc, refusal, closes) {
+            Ok(text) => Ok(Written { refusal, text }),
+            Err(NoMemory) => refuse_memory(alloc, turn, closes),
+        },
+    }
+}
+
+/// Drops half of the cached blocks, and writes want of memory down.
+fn refuse_memory<E: Blocks + Drop, T: Turn<Hall<E>>>(
+    alloc: Global,
+    turn: &mut T,
+    closes: bool,
+) -> Result<Written, NoMemory>
+    requires given { T.given turn.old ≡ None }
+    ensures written { (reason : Refusal) → IfOk result (λ written. IsWrittenAs reason written.refusal) }
+    ensures text { IfOk result (λ written. written.text ≡ refusal_reply written.refusal closes) }
+    ensures eased { (faults reads : ℕ) → IfOk result (λ written. IsEased T.tells written.refusal
+        (state_of (T.seen turn.old) (T.may_add turn.old) faults reads
+        (T.kept turn.old) (T.holds turn.old))
+        (state_of (T.seen turn.new) (T.may_add turn.new) faults reads
+        (T.kept turn.new) (T.holds turn.new))) }
+    ensures halved { (faults reads : ℕ) → IsHalved T.tells
         (state_of (T.seen turn.old) (T.may_add turn.old) faults reads
         (T.kept turn.old) (T.holds turn.old))
         (state_of (T.seen turn.new) (T.may_add turn.new) faults reads
@@ -127,10 +183,10 @@ fn ease<E: Blocks + Drop, T: Turn<Hall<E>>>(turn: &mut T, refusal: Refusal)
         (T.shape turn.old) (T.shape turn.new) (T.lock turn.old) (T.lock turn.new) }
     ensures given { T.given turn.new ≡ None }
 {
-    match refusal {
-        Refusal::NoMemory => evict_half(turn),
-        _ => {}
-    }
+    evict_half(turn);
+    let refusal = Refusal::NoMemory;
+    let text = refusal_text(alloc, refusal, closes)?;
+    Ok(Written { refusal, text })
 }
 
 /// Drops the half of the cached blocks, rounded up, that was used least recently.

@@ -44,7 +44,8 @@ pub fn serve_door<E: Blocks + Drop, T: Turn<Hall<E>>, R: Reader<E::Leaf>, D: Doo
 ) -> Summary
     requires shape { T.shape turn.old ≡ shape_of site.now.header }
     requires given { T.given turn.old ≡ None }
-    ensures served { (starved : Bool) × AtDoor (link_tells D.Link.incoming D.Link.written D.Link.faults) T.tells site.now
+    ensures served { (starved : Bool)
+        × AtDoor (link_tells D.Link.incoming D.Link.written D.Link.readings D.Link.faults) T.tells site.now
         (state_of (T.seen turn.old) (T.may_add turn.old) (R.faults reader.old) (R.reads reader.old)
         (T.kept turn.old) (T.holds turn.old))
         (state_of (T.seen turn.new) (T.may_add turn.new) (R.faults reader.new) (R.reads reader.new)

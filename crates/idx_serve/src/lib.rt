@@ -13,7 +13,7 @@ mod site;
 mod texts;
 
 pub use door::{ServeEnd, Summary, serve_door};
-pub use laws::answers_are_of_the_newest_post;
+pub use laws::{answers_are_of_the_newest_post, entries_hold_of_longer_boards};
 pub use link::serve_link;
 pub use refusal::Refusal;
 pub use site::Site;

@@ -32,7 +32,8 @@ pub fn serve_link<E: Blocks + Drop, T: Turn<Hall<E>>, R: Reader<E::Leaf>, L: Lin
         (T.kept turn.old) (T.holds turn.old))
         (state_of (T.seen turn.new) (T.may_add turn.new) (R.faults reader.new) (R.reads reader.new)
         (T.kept turn.new) (T.holds turn.new))
-        (L.incoming link.old) (L.written link.old) (L.written link.new) served.old.items served.new.items result }
+        (L.incoming link.old) (L.written link.old) (L.written link.new)
+        (L.readings link.old) (L.readings link.new) served.old.items served.new.items result }
     ensures later { IsLater
         (state_of (T.seen turn.old) (T.may_add turn.old) (R.faults reader.old) (R.reads reader.old)
         (T.kept turn.old) (T.holds turn.old))

@@ -1,4 +1,4 @@
-use Rattle.std.proofs.Common.{◌≡◌, ◌∙◌, ◌||◌, refl, ap, arith}
+use Rattle.std.proofs.Common.{◌∙◌, ◌||◌, refl, ap, arith}
 use Rattle.std.proofs.lemmas.Grind.{common_steps}
 use Rattle.idx_serve.specs.Later.{later_on, later_same}
 use Rattle.idx_serve.specs.Visits.{Visit}
