@@ -57,14 +57,15 @@ abbrev pub level_asked : ℕ → List (List ℕ) → Option ℕ
 level_asked other [] = Some other
 level_asked other (value ∷ more) = small (number_of value)
 
+-- what is spelt is this number
+abbrev pub is_number : Option ℕ → ℕ → Bool
+is_number None n = false
+is_number (Some m) n = m == n
+
 -- the value, where there is one, is the number of the finest level
 abbrev pub is_finest : HeaderValue → List (List ℕ) → Bool
 is_finest h [] = true
 is_finest h (value ∷ more) = is_number (number_of value) (length h.mask)
-  where
-    is_number : Option ℕ → ℕ → Bool
-    is_number None n = false
-    is_number (Some m) n = m == n
 
 -- the levels that are asked for
 pub record AreLevelsAsked (h : HeaderValue) (pairs : List Pair) (coarsest finest : ℕ) : Type 0 where

@@ -1,5 +1,5 @@
 -- What is kept of the parameters while a query is read.
-use Rattle.std.specs.Prelude.{◌≡◌, ℕ, Bool, true, false, List, [], ◌∷◌, codes, Option, Some, None, Result, Ok, Err, length}
+use Rattle.std.specs.Prelude.{◌≡◌, ℕ, List, [], ◌∷◌, codes, Option, Some, None, Result, Ok, Err}
 use Rattle.std.specs.List.{list_any}
 use Rattle.idx_request.specs.declared.noted.Noted.{Noted}
 use Rattle.idx_request.specs.declared.noted.Noted.TheVariants as N

@@ -1,5 +1,5 @@
 -- The parameters of a target: the pairs of its query, which is a form.
-use Rattle.std.specs.Prelude.{ℕ, Bool, ◌||◌, ◌==◌, List, [], ◌∷◌, map, filter, length, nat_lt, bytes_eq, codes}
+use Rattle.std.specs.Prelude.{ℕ, Bool, ◌||◌, ◌==◌, List, map, filter, length, nat_lt, bytes_eq, codes}
 use Rattle.std.specs.List.{list_any}
 use Rattle.std.specs.Str.{chars}
 use Rattle.std.specs.Str.Lossy.{utf8_lossy}

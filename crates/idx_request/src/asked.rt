@@ -1,9 +1,9 @@
 //! What is asked: the field, the step, the box and the levels.
-ghost use Rattle.std.specs.Prelude.{◌≡◌, ◌==◌, ℕ, ◌≤◌, List, None, Some, false, true, length};
+ghost use Rattle.std.specs.Prelude.{◌≡◌, ◌==◌, ℕ, ◌≤◌, List, [], ◌∷◌, IfNone, IfSome, None, Some, false, true, length};
 ghost use Rattle.std.specs.List.{list_all};
 ghost use Rattle.idx_header.specs.Header.{ends_of};
-ghost use Rattle.idx_request.specs.Asked.{AreLevelsAsked, IsBoxAsked, IsFieldAsked, digits_in_front, first_step, is_finest, is_no_fraction, level_asked, time_asked, time_of};
-ghost use Rattle.idx_text.specs.Number.{is_digit};
+ghost use Rattle.idx_request.specs.Asked.{AreLevelsAsked, IsBoxAsked, IsFieldAsked, digits_in_front, first_step, is_finest, is_no_fraction, is_number, level_asked, small, time_asked, time_of};
+ghost use Rattle.idx_text.specs.Number.{is_digit, number_of};
 ghost use Rattle.idx_request.specs.Faults.{are_levels, names_field};
 ghost use Rattle.idx_request.specs.Kept.{AreKept, Gives, IsAskRead, IsNoted};
 ghost use Rattle.idx_request.specs.Pairs.{Pair, has_double, is_double};
@@ -89,14 +89,25 @@ fn box_asked(alloc: Global, noted: Noted<'_>, header: &Header) -> Result<Region,
     let value = match noted {
         Noted::Missing => return Err(TargetFault::BadBox),
         Noted::Once(value) => value,
-        Noted::Twice => return Err(TargetFault::NoMemory),
+        Noted::Twice => return Err(TargetFault::BadBox),
     };
     let Ok(text) = decode(alloc, value) else {
         return Err(TargetFault::NoMemory);
     };
-    match read_box(text.as_str().as_bytes()) {
-        Some(region) if region.axes() == header.axes() => Ok(region),
-        _ => Err(TargetFault::BadBox),
+    match box_of(text.as_str().as_bytes(), header) {
+        Some(region) => Ok(region),
+        None => Err(TargetFault::BadBox),
+    }
+}
+
+/// The region that a text spells, if it has the dataset's axes.
+fn box_of(text: &[u8], header: &Header) -> Option<Region>
+    ensures some { IfSome result (λ r. IsBoxAsked header.now (text.now ∷ []) r) }
+    ensures none { IfNone result ((r : List (ℕ × ℕ)) → ¬ IsBoxAsked header.now (text.now ∷ []) r) }
+{
+    match read_box(text) {
+        Some(region) if region.axes() == header.axes() => Some(region),
+        _ => None,
     }
 }
 
@@ -130,12 +141,19 @@ fn level_asked(alloc: Global, noted: Noted<'_>, other: u32) -> Result<u32, Targe
     let Ok(text) = decode(alloc, value) else {
         return Err(TargetFault::NoMemory);
     };
-    let Some(number) = read_number(text.as_str().as_bytes()) else {
-        return Err(TargetFault::BadLevels);
-    };
-    match u32::try_from(number) {
-        Ok(level) => Ok(level),
-        Err(_) => Err(TargetFault::BadLevels),
+    match level_of(text.as_str().as_bytes()) {
+        Some(level) => Ok(level),
+        None => Err(TargetFault::BadLevels),
+    }
+}
+
+/// The level that a text spells: a number that has at most 32 binary digits.
+fn level_of(text: &[u8]) -> Option<u32>
+    ensures { result ≡ small (number_of text.now) }
+{
+    match read_number(text) {
+        Some(number) => u32::try_from(number).ok(),
+        None => None,
     }
 }
 
@@ -153,9 +171,20 @@ fn check_finest(alloc: Global, noted: Noted<'_>, header: &Header) -> Result<(), 
     let Ok(text) = decode(alloc, value) else {
         return Err(TargetFault::NoMemory);
     };
-    match read_number(text.as_str().as_bytes()) {
-        Some(number) if number == u64::from(header.max_level()) => Ok(()),
-        _ => Err(TargetFault::BadLevels),
+    if spells(text.as_str().as_bytes(), header.max_level()) {
+        Ok(())
+    } else {
+        Err(TargetFault::BadLevels)
+    }
+}
+
+/// Whether the text spells the number.
+fn spells(text: &[u8], number: u32) -> bool
+    ensures { result ≡ is_number (number_of text.now) number }
+{
+    match read_number(text) {
+        Some(spelt) => spelt == u64::from(number),
+        None => false,
     }
 }
 

@@ -1,5 +1,5 @@
 //! What is wished: the action, the dataset and the compression.
-ghost use Rattle.std.specs.Prelude.{◌≡◌, ℕ, List, None, Some, false, not};
+ghost use Rattle.std.specs.Prelude.{◌≡◌, ℕ, List, [], ◌∷◌, None, Some, false, not};
 ghost use Rattle.idx_request.specs.Faults.{fault_of_value, is_raw, where_true, wish_fault};
 ghost use Rattle.idx_request.specs.Kept.{AreKept, IsAnswer, IsNoted};
 ghost use Rattle.idx_request.specs.Pairs.{Pair, is_double};
@@ -71,10 +71,16 @@ fn check_compression(alloc: Global, noted: Noted<'_>) -> Result<(), TargetFault>
     let Ok(text) = decode(alloc, value) else {
         return Err(TargetFault::NoMemory);
     };
-    let text = text.as_str().as_bytes();
-    if text.is_empty() || text == b"raw".as_slice() {
+    if is_raw(text.as_str().as_bytes()) {
         Ok(())
     } else {
         Err(TargetFault::NotRaw)
     }
+}
+
+/// Whether the text names no compression.
+fn is_raw(text: &[u8]) -> bool
+    ensures { result ≡ is_raw (text.now ∷ []) }
+{
+    text.is_empty() || text == b"raw".as_slice()
 }

@@ -1,4 +1,4 @@
-use Rattle.std.proofs.Common.{ℕ, ◌+◌, length, sym, not, arith, rules}
+use Rattle.std.proofs.Common.{ℕ, length, sym, not, arith, rules}
 use Rattle.std.proofs.lemmas.List.Sums.{position_or_len_is}
 use Rattle.idx_text.specs.Number.{is_digit}
 use Rattle.idx_request.proofs.asked.digits_in_front.Goals as goal

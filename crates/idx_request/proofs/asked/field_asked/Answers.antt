@@ -1,4 +1,4 @@
-use Rattle.std.proofs.Common.{◌≡◌, ◌∙◌, ℕ, List, [], ◌∷◌, true, false, subst, sym, refl, rules}
+use Rattle.std.proofs.Common.{◌≡◌, ◌∙◌, [], ◌∷◌, true, false, subst, sym, refl, rules}
 use Rattle.idx_request.specs.Asked.{IsFieldAsked}
 use Rattle.idx_request.specs.Faults.{names_field}
 use Rattle.idx_request.specs.Kept.{IsNoted}

@@ -1,4 +1,4 @@
-use Rattle.std.proofs.Common.{◌≡◌, None, Err, ap, rules, subst, sym}
+use Rattle.std.proofs.Common.{◌≡◌, None, Err, rules, subst}
 use Rattle.std.specs.List.{list_any}
 use Rattle.form_urlencoded.specs.Form.{split_once}
 use Rattle.idx_request.specs.Faults.{IsRead, early_fault, wish_fault}
