@@ -15,8 +15,8 @@ use std::alloc::Global;
 const HEADS: u32 = 65536;
 
 /// Answers the heads of a link in order, until its input ends, a reply closes, or the link or memory fails. An entry is
-/// appended for each head that was answered. A link is read for at most 65,536 heads of at most 8,192 bytes, and only while
-/// no whole head is kept and all replies so far are written.
+/// appended for each head that was answered. A link is read for at most 65,536 heads of at most 8,192 bytes, and only
+/// while no whole head is kept and all replies so far are written.
 pub fn serve_heads<S, T, R, P: Responder<S, T, R>, L: Link>(
     alloc: Global,
     responder: &mut P,

@@ -35,7 +35,8 @@ impl<E: Blocks + Drop, D: Door, R: Reader<E::Leaf>> Job<Hall<E>, D, R> {
     )
         requires { IsReady lock.now (shape_of site.now.header) self.old }
         ensures { Works
-            (tells (link_tells D.Link.incoming D.Link.written D.Link.faults) D.told D.faults R.faults R.reads)
+            (tells (link_tells D.Link.incoming D.Link.written D.Link.readings D.Link.faults)
+            D.told D.faults R.faults R.reads)
             site.now self.old self.new }
     {
         let seat = self.place.take().unwrap();
@@ -74,7 +75,8 @@ where
     requires few { vec_len jobs.old < 2 ^ 32 }
     requires some { 0 < vec_len jobs.old }
     requires ready { All (IsReady lock.now (shape_of site.now.header)) jobs.old.items }
-    ensures { AllWork (tells (link_tells D.Link.incoming D.Link.written D.Link.faults) D.told D.faults R.faults R.reads)
+    ensures { AllWork (tells (link_tells D.Link.incoming D.Link.written D.Link.readings D.Link.faults)
+        D.told D.faults R.faults R.reads)
         site.now jobs.old.items jobs.new.items }
 {
     let threads = jobs.len();
@@ -85,7 +87,8 @@ where
         &|i: usize, job: &mut Job<Hall<E>, D, R>|
             requires { (i < 2 ^ 32) × IsReady lock.now (shape_of site.now.header) job.old }
             ensures { Works
-                (tells (link_tells D.Link.incoming D.Link.written D.Link.faults) D.told D.faults R.faults R.reads)
+                (tells (link_tells D.Link.incoming D.Link.written D.Link.readings D.Link.faults)
+                D.told D.faults R.faults R.reads)
                 site.entry.now job.old job.new }
         { job.run(rt, alloc, site, lock, gate, i as u32) },
     );

@@ -49,7 +49,8 @@ where
     requires reader { seat.writer ≡ false }
     requires shape { seat.seen.shape ≡ shape_of site.now.header }
     ensures served { AreServed
-        (tells (link_tells D.Link.incoming D.Link.written D.Link.faults) D.told D.faults R.faults R.reads) site.now
+        (tells (link_tells D.Link.incoming D.Link.written D.Link.readings D.Link.faults)
+        D.told D.faults R.faults R.reads) site.now
         workers seat result.0 doors.old.items doors.new.items readers.old.items readers.new.items result.1
         ⊎ NoneBegan seat result.0 doors.old.items doors.new.items readers.old.items readers.new.items result.1 }
 {

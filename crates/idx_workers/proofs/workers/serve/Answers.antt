@@ -10,7 +10,7 @@ use Rattle.idx_workers.proofs.workers.serve.Goals as goal
 pub returns-in-Ok : goal.returns-in-Ok
 returns-in-Ok g c =
     let number : length c.in-Ok.jobs.items ≡ c.args.workers = grind (arith, common_steps) in
-    let made = are_works (tells (link_tells g.D.Link.Link.incoming g.D.Link.Link.written g.D.Link.Link.faults) g.D.Door.told g.D.Door.faults g.R.Reader.faults g.R.Reader.reads)
+    let made = are_works (tells (link_tells g.D.Link.Link.incoming g.D.Link.Link.written g.D.Link.Link.readings g.D.Link.Link.faults) g.D.Door.told g.D.Door.faults g.R.Reader.faults g.R.Reader.reads)
     c.args.site.now c.args.workers c.args.seat c.in-Ok.jobs.items c.run_all.new.jobs.items c.make_jobs.new.doors.items c.make_jobs.new.readers.items number c.in-Ok.ensures.begun c.run_all.ensures in
     record {
       served = inl (record {
