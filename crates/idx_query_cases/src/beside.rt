@@ -1,12 +1,12 @@
 //! A turn at a seat of a lock, beside the writer's seat, which evicts and publishes between two rounds.
 ghost use Rattle.std.specs.Prelude.{◌≡◌, true, false, None, Some};
 ghost use Rattle.idx_turn.specs.Stands.{MayGive, stand};
-ghost use Rattle.idx_lock.specs.Seats.{chair_value, given_by, seat_value};
+ghost use Rattle.idx_lock.specs.Seats.{given_by};
 ghost use Rattle.idx_query_cases.specs.Beside.{shape_at};
 ghost use Rattle.idx_query_cases.specs.Wide.{wide_blocks};
 
 use crate::wide::Wide;
-use idx_hall::Hall;
+use idx_hall::{Hall, newest_posts};
 use idx_lock::Chair;
 use idx_outside::Blocks;
 use idx_turn::{Held, Turn};
@@ -107,6 +107,7 @@ fn publish<T: Turn<Hall<Wide>>>(turn: &mut T, step: Arc<Wide>)
     ensures shape { T.shape turn.new ≡ T.shape turn.old }
 {
     let mut held = turn.take();
+    newest_posts();
     let hall = held.get_mut();
     let after = hall.newest(step.time());
     let _ = hall.publish(step, after);
@@ -143,8 +144,12 @@ impl<R: Wait> Turn<Hall<Wide>> for Beside<'_, R> {
     fn give(&mut self, held: Held<Hall<Wide>>)
         requires { MayGive (given_by self.old.chair) self.old.chair.seat.writer (stand held.shape held.board) }
         ensures kept { false ≡ true → None ≡ Some held }
-        ensures given { self.new.chair ≡ chair_value (seat_value self.old.chair.seat.lock (stand held.shape held.board)
-            self.old.chair.seat.writer) false self.old.chair.holds }
+        ensures shape { self.new.chair.seat.seen.shape ≡ self.old.chair.seat.seen.shape }
+        ensures seen { self.new.chair.seat.seen.posts ≡ held.board }
+        ensures may_add { self.new.chair.seat.writer ≡ self.old.chair.seat.writer }
+        ensures lock { Some self.new.chair.seat.lock ≡ Some self.old.chair.seat.lock }
+        ensures holds { self.new.chair.holds ≡ self.old.chair.holds }
+        ensures given { given_by self.new.chair ≡ None }
     {
         self.chair.give(held);
     }
