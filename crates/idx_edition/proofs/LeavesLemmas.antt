@@ -1,5 +1,6 @@
 -- Leaves that are the files of a step as the writer lays them out.
 use Rattle.std.proofs.Common.{◌≡◌, ℕ, zero, suc, ◌<◌, ◌≤◌, List, [], ◌∷◌, length, map, Some, None, refl, sym, ap, subst, ◌∙◌, arith}
+use Rattle.std.proofs.Props.{props}
 use Rattle.std.specs.Prelude.{Option, slice_get}
 use Rattle.std.specs.Option.{ForSome, option_map}
 use Rattle.std.proofs.Math.ListN.{get_or}
@@ -34,6 +35,10 @@ same_lists (x ∷ xs) (y ∷ ys) same =
 pub field_exists : (h : HeaderValue) (field : ℕ) → field < length (block_lengths (placing_of h)) → field < length h.fields
 field_exists h field within =
     omega (arith, within, length-map-range_with_len (block_bytes (placing_of h)) 0 (length (placing_of h).sizes), length-map h.fields sample_bytes)
+
+-- that tables are those of files has one proof at most
+pub tables_fact : (tables : List (List Row)) (leaves : List (List ℕ × Option (List ℕ))) → IsProp (AreTablesOf tables leaves)
+tables_fact tables leaves = hlevel props
 
 module _ (layout : Layout) (h : HeaderValue) (step : ℕ) (is : IsHeader h) (volume : List (List (List ℕ))) (leaves : List (List ℕ × Option (List ℕ))) (w : AreWritten layout h step volume leaves) where
   -- as many leaves as files

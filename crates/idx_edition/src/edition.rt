@@ -48,7 +48,8 @@ impl<L: Leaf> Edition<L> {
         time: u64,
         leaves: Vec<(Bytes, L)>,
     ) -> Result<Edition<L>, NoMemory>
-        requires written { (volume : _) × AreWritten Layout.Hz header.now time volume (shown L.contents leaves.items) }
+        requires written { ∥ ((volume : _) ×
+            AreWritten Layout.Hz header.now time volume (shown L.contents leaves.items)) ∥₁ }
         ensures time { IfOk result (λ edition. edition.time ≡ time) }
         ensures own_header { IfOk result (λ edition. edition.tables.header ≡ header.now) }
         ensures shape { IfOk result (λ edition. shape_in edition.tables ≡ shape_of header.now) }

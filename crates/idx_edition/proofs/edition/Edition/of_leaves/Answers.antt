@@ -1,13 +1,14 @@
 use Rattle.std.proofs.Common.{◌≡◌, sym, subst}
 use Rattle.std.specs.Option.{ForSome}
+use Rattle.std.proofs.Math.Logic.{∥∥₁_elim}
 use Rattle.idx_outside.specs.Files.{shown}
 use Rattle.idx_layout.specs.declared.layout.Layout.TheVariants.{Hz}
 use Rattle.idx_layout.specs.Placing.{is_present}
 use Rattle.idx_layout.specs.OfHeader.{placing_of}
 use Rattle.idx_layout.specs.Shape.{shape_of}
-use Rattle.idx_edition.specs.Tables.{AreTablesOf, TablesValue, has_in_tables, shape_in, stored_in}
+use Rattle.idx_edition.specs.Tables.{AreTablesOf, TablesValue, has_in_tables, shape_in, stored_in, written_tables}
 use Rattle.idx_edition.specs.Loaded.{HoldsStored, IsWrittenBlock, OfBlocks}
-use Rattle.idx_edition.proofs.LeavesLemmas.{leaves_fit, leaves_have, leaves_stored}
+use Rattle.idx_edition.proofs.LeavesLemmas.{leaves_fit, leaves_have, leaves_stored, tables_fact}
 use Rattle.idx_edition.proofs.StoredLemmas.{written_held}
 use Rattle.idx_edition.proofs.edition.Edition.of_leaves.Goals as goal
 
@@ -15,10 +16,10 @@ pub invariant_of-result : goal.invariant_of-result
 invariant_of-result g c =
     let h = c.args.header.now in
     let leaves = shown g.L.Leaf.contents c.args.leaves.items in
-    let written = c.requires.written in
     record {
       fits = subst (λ (t : TablesValue). AreTablesOf t.tables leaves) (sym c.in_ok-tables.ensures.tables)
-          (leaves_fit Hz h c.args.time c.in_ok-tables.ensures.valid written.0 leaves written.1);
+          (∥∥₁_elim c.requires.written (tables_fact (written_tables Hz h).tables leaves)
+          (λ written. leaves_fit Hz h c.args.time c.in_ok-tables.ensures.valid written.0 leaves written.1));
     }
 
 pub returns-clause-has : goal.returns-clause-has
