@@ -1,7 +1,7 @@
 -- The files of a window are those of the step behind the first ones.
 use Rattle.std.proofs.Common.{◌≡◌, ◌≢◌, ℕ, ◌+◌, ◌≤◌, List, [], ◌∷◌, ◌++◌, length, get_or, map, take, drop, refl, sym, ap, subst, ◌∙◌, arith}
 use Rattle.std.specs.Prelude.{◌==◌, ◌&&◌, All, AllPairs, Contains, IfSome, Option, Some, None}
-use Rattle.std.specs.List.{list_any, range_with_len}
+use Rattle.std.specs.List.{AllZip, list_any, range_with_len}
 use Rattle.std.proofs.lemmas.List.{length-append, length-map, map-append}
 use Rattle.std.proofs.lemmas.List.Elements.{All-cons, All-contains_itself, All-head, All-map, All-nil, All-same, All-tail, All-take, All-weaker}
 use Rattle.idx_outside.specs.Files.{entry_shown, known_files, known_with, shown}
@@ -25,11 +25,12 @@ use Rattle.idx_volumes.specs.Volumes.{HaveOneFile, IsVolumeOf}
 use Rattle.idx_volumes.proofs.DockLemmas.{dock_volume}
 use Rattle.idx_volumes.proofs.JoinLemmas.{join}
 use Rattle.idx_gather.specs.Gather.{HasVolume}
-use Rattle.idx_gather.specs.States.{AreDocks, AreFirstFiles, AreFull, HaveSamples, IsDockOf, IsOpening}
+use Rattle.idx_gather.specs.States.{AreDocks, AreFilesSoFar, AreFirstFiles, AreFull, HaveSamples, IsDockOf, IsOpening, TellsFile}
 use Rattle.idx_gather.specs.Windows.{run_count}
 use Rattle.idx_gather.proofs.PairLemmas.{All-back, All-front, All-of_map, kept_apart, pairs_head, pairs_of_map, pairs_tail, pairs_take}
 use Rattle.idx_gather.proofs.RunLemmas.{run_within}
 use Rattle.idx_gather.proofs.SealLemmas.{length_take, take_more}
+use Rattle.idx_gather.proofs.ToldLemmas.{told_known, zip_append}
 
 -- ---- lists
 
@@ -194,38 +195,83 @@ module _ (h : HeaderValue) (step room : ℕ) (pieces : List Piece) (files : List
       subst (AllPairs (λ (x y : ℕ). x ≢ y)) (sym (window_is within are))
       (pairs_take (λ x y. x ≢ y) (length sealed + count) files (subst (AllPairs (λ (x y : ℕ). x ≢ y)) (sym is) (numbers_apart (placing_of h))))
 
+  -- Some volume has the files of the window, and its first files are those of another one.
+  pub record HasWindow (v u : List (List (List ℕ))) : Type 0 where
+    pub volume : IsVolumeOf h u
+    pub told_is : IfSome told (λ raw. u ≡ volume_of_raw h raw)
+    pub earlier : map (step_file Hz h u step) (take (length sealed) files) ≡ map (step_file Hz h v step) (take (length sealed) files)
+    pub new : map (step_file Hz h u step) (map (λ (d : DockValue). d.file) docks) ≡ map (dock_file h step) docks
+
+  has_window : files ≡ file_numbers (placing_of h) → length sealed ≤ length files → AreDocks h room pieces (drop (length sealed) files) done left docks →
+      All IsDock docks → AreFull docks → ((raw : List ℕ) → told ≡ Some raw → HaveSamples h (raw_sample h raw) docks) →
+      (v : List (List (List ℕ))) → IsVolumeOf h v → IfSome told (λ raw. v ≡ volume_of_raw h raw) → (u : List (List (List ℕ))) × HasWindow v u
+  unfolding window
+  has_window is within are docks_are full samples v volume told_is =
+      let before : List ℕ = take (length sealed) files in
+      let P : ℕ → Type 0 = Contains (file_numbers (placing_of h)) in
+      let apart = differ is within are in
+      let among = numbers is within are in
+      let all = grown told h docks v told_is volume docks_are (All-weaker (IsDockOf h pieces) (λ d. d.header ≡ h) (λ d of. of.header) docks are.docks_are)
+      (All-of_map P (λ (d : DockValue). d.file) docks (All-back P before window among))
+      (pairs_of_map (λ x y. x ≢ y) (λ (d : DockValue). d.file) docks (pairs_back (λ x y. x ≢ y) before window apart)) full samples in
+      let u : List (List (List ℕ)) = all.0 in (
+        u,
+        record {
+          volume = all.1.0.volume;
+          told_is = all.1.1;
+          earlier = maps_agree (step_file Hz h u step) (step_file Hz h v step) before
+              (λ k d inside. ap (λ bytes. (file_name h step (get_or before k d), bytes))
+              (all.1.0.kept (get_or before k d) (All-front P before window among k d inside)
+              (All-of_map (λ y. get_or before k d ≢ y) (λ (d : DockValue). d.file) docks (pairs_across (λ x y. x ≢ y) before window apart k d inside))));
+          new = files_of_docks h step u docks all.1.0.own;
+        },
+      )
+
+  -- the first files of a volume that has the window's are the earlier ones and those
+  with_window : length sealed ≤ length files → AreDocks h room pieces (drop (length sealed) files) done left docks → (v u : List (List (List ℕ))) → HasWindow v u →
+      map (step_file Hz h v step) (take (length sealed) files) ++ map (dock_file h step) docks
+      ≡ map (step_file Hz h u step) (take (length (sealed ++ known_files known (map (dock_file h step) docks))) files)
+  unfolding window more
+  with_window within are v u has =
+      ap (λ entries. entries ++ map (dock_file h step) docks) (sym has.earlier)
+      ∙ ap (λ entries. map (step_file Hz h u step) (take (length sealed) files) ++ entries) (sym has.new)
+      ∙ sym (map-append (step_file Hz h u step) (take (length sealed) files) window)
+      ∙ ap (map (step_file Hz h u step)) (window_is within are ∙ ap (λ k. take k files) (sym (number within are)))
+
+  -- so the files so far are the first ones of some volume, as far as they tell their bytes
+  pub so_far_more : files ≡ file_numbers (placing_of h) → length sealed ≤ length files → AreDocks h room pieces (drop (length sealed) files) done left docks →
+      All IsDock docks → AreFull docks → told ≡ None → AreFilesSoFar h step files sealed →
+      AreFilesSoFar h step files (sealed ++ known_files known (map (dock_file h step) docks))
+  so_far_more is within are docks_are full untold so_far =
+      let v : List (List (List ℕ)) = so_far.volume in
+      let none : (raw : List ℕ) → told ≡ Some raw → HaveSamples h (raw_sample h raw) docks = λ raw is'. absurd (not_told raw (sym untold ∙ is')) in
+      let all = has_window is within are docks_are full none v so_far.is (subst (λ (o : Option (List ℕ)). IfSome o (λ raw. v ≡ volume_of_raw h raw)) (sym untold) tt) in
+      record {
+        volume = all.0;
+        is = all.1.volume;
+        tell = subst (AllZip TellsFile (sealed ++ known_files known (map (dock_file h step) docks))) (with_window within are v all.0 all.1)
+            (zip_append TellsFile sealed (known_files known (map (dock_file h step) docks)) (map (step_file Hz h v step) (take (length sealed) files)) (map (dock_file h step) docks)
+            so_far.tell (told_known known (map (dock_file h step) docks)));
+      }
+    where
+      not_told : (raw : List ℕ) → ◌≡◌ {A = Option (List ℕ)} None (Some raw) → ⊥
+      not_told raw e = cc
+
   -- the step has the files of the window behind the first ones
   pub first_more : files ≡ file_numbers (placing_of h) → length sealed ≤ length files → AreDocks h room pieces (drop (length sealed) files) done left docks →
       All IsDock docks → AreFull docks → ((raw : List ℕ) → told ≡ Some raw → HaveSamples h (raw_sample h raw) docks) → AreFirstFiles h step known told files sealed →
       AreFirstFiles h step known told files (sealed ++ known_files known (map (dock_file h step) docks))
-  unfolding window more
   first_more is within are docks_are full samples first =
-      let n : ℕ = length sealed in
-      let before : List ℕ = take n files in
-      let P : ℕ → Type 0 = Contains (file_numbers (placing_of h)) in
       let v : List (List (List ℕ)) = first.volume in
-      let apart = differ is within are in
-      let among = numbers is within are in
-      let all = grown told h docks v first.told_is first.is docks_are (All-weaker (IsDockOf h pieces) (λ d. d.header ≡ h) (λ d of. of.header) docks are.docks_are)
-      (All-of_map P (λ (d : DockValue). d.file) docks (All-back P before window among))
-      (pairs_of_map (λ x y. x ≢ y) (λ (d : DockValue). d.file) docks (pairs_back (λ x y. x ≢ y) before window apart)) full samples in
-      let u : List (List (List ℕ)) = all.0 in
-      let earlier : map (step_file Hz h u step) before ≡ map (step_file Hz h v step) before =
-      maps_agree (step_file Hz h u step) (step_file Hz h v step) before
-      (λ k d inside. ap (λ bytes. (file_name h step (get_or before k d), bytes))
-      (all.1.0.kept (get_or before k d) (All-front P before window among k d inside)
-      (All-of_map (λ y. get_or before k d ≢ y) (λ (d : DockValue). d.file) docks (pairs_across (λ x y. x ≢ y) before window apart k d inside)))) in
-      let new : map (step_file Hz h u step) window ≡ map (dock_file h step) docks = files_of_docks h step u docks all.1.0.own in
+      let all = has_window is within are docks_are full samples v first.is first.told_is in
       record {
-        volume = u;
-        is = all.1.0.volume;
-        told_is = all.1.1;
+        volume = all.0;
+        is = all.1.volume;
+        told_is = all.1.told_is;
         same =
-            ap (λ entries. entries ++ more) (first.same ∙ ap (known_files known) (sym earlier))
-            ∙ ap (λ entries. known_files known (map (step_file Hz h u step) before) ++ known_files known entries) (sym new)
-            ∙ sym (map-append (entry_shown (known_with known)) (map (step_file Hz h u step) before) (map (step_file Hz h u step) window))
-            ∙ ap (known_files known) (sym (map-append (step_file Hz h u step) before window))
-            ∙ ap (λ xs. known_files known (map (step_file Hz h u step) xs)) (window_is within are ∙ ap (λ k. take k files) (sym (number within are)));
+            ap (λ entries. entries ++ known_files known (map (dock_file h step) docks)) first.same
+            ∙ sym (map-append (entry_shown (known_with known)) (map (step_file Hz h v step) (take (length sealed) files)) (map (dock_file h step) docks))
+            ∙ ap (known_files known) (with_window within are v all.0 all.1);
       }
 
 -- the same of what equals these
@@ -255,3 +301,19 @@ module _ {L : Type 0} (contents : L → Option (List ℕ)) (h g : HeaderValue) (
       moved g h s step k known told fs files (sealed ++ known_files k (map (dock_file g s) docks)) (shown contents next) gh ss ks all (sym after)
       (first_more g s room pieces fs sealed docks done left k told opening.files_are within
       (subst (λ (n : ℕ). AreDocks g room pieces (drop n fs) done left docks) (sym many) are) docks_are full samples before)
+
+-- and they are those of some volume, as far as they tell their bytes
+pub so_far_next : {L : Type 0} (contents : L → Option (List ℕ)) (h : HeaderValue) (step ranks room : ℕ) (pieces : List Piece) (files : List ℕ) (leaves more next : List (List ℕ × L)) (docks : List DockValue)
+    (done : ℕ) (left : List Piece) (known : Option (List MemFile)) → IsOpening h step ranks room pieces files (map (λ leaf. leaf.0) leaves) →
+    AreDocks h room pieces (drop (length leaves) files) done left docks → All IsDock docks → AreFull docks → next ≡ leaves ++ more → shown contents more ≡ known_files known (map (dock_file h step) docks) →
+    AreFilesSoFar h step files (shown contents leaves) → AreFilesSoFar h step files (shown contents next)
+so_far_next {L} contents h step ranks room pieces files leaves more next docks done left known opening are docks_are full after same so_far =
+    let sealed : List (List ℕ × Option (List ℕ)) = shown contents leaves in
+    let many : length sealed ≡ length leaves = length-map leaves (entry_shown contents) in
+    let first_of : List ℕ × L → List ℕ = λ leaf. leaf.0 in
+    let within : length sealed ≤ length files = omega (arith, many, opening.few, length-map leaves first_of) in
+    let all : shown contents next ≡ sealed ++ known_files known (map (dock_file h step) docks) =
+    ap (shown contents) after ∙ map-append (entry_shown contents) leaves more ∙ ap (λ entries. sealed ++ entries) same in
+    subst (AreFilesSoFar h step files) (sym all)
+    (so_far_more h step room pieces files sealed docks done left known None opening.files_are within
+    (subst (λ (n : ℕ). AreDocks h room pieces (drop n files) done left docks) (sym many) are) docks_are full refl so_far)

@@ -1,10 +1,11 @@
 -- From the files of some volume to the step of a raw volume, and what the refusals on the way say of the whole.
-use Rattle.std.proofs.Common.{◌≡◌, ℕ, ◌⊎◌, inl, inr, List, [], length, map, take, refl, sym, ap, subst, ◌∙◌, arith}
+use Rattle.std.proofs.Common.{◌≡◌, ℕ, ◌⊎◌, Bool, inl, inr, List, [], length, map, take, refl, sym, ap, subst, ◌∙◌, arith}
 use Rattle.std.specs.Prelude.{IfErr, IfOk, IfSome, IsSome, OnErr, OnOk, Option, Some, None, Result, Ok, Err, replicate}
 use Rattle.std.specs.Option.{ForSome}
 use Rattle.std.specs.Result.{IsErrAnd}
 use Rattle.std.proofs.lemmas.List.{length-map, length-replicate, take_all}
 use Rattle.idx_outside.specs.Files.{LiesIn, entry_shown, known_files, shown}
+use Rattle.idx_outside.specs.Shape.{Shape}
 use Rattle.idx_outside.specs.declared.bay_call.BayCall.{BayCall}
 use Rattle.idx_outside.specs.declared.mem_file.MemFile.{MemFile}
 use Rattle.idx_header.specs.Header.{HeaderValue, volume_bytes}
@@ -14,7 +15,7 @@ use Rattle.idx_layout.specs.OfHeader.{placing_of}
 use Rattle.idx_layout.specs.Placing.{file_numbers}
 use Rattle.idx_layout.specs.Step.{step_file, step_files, volume_of_raw}
 use Rattle.idx_volumes.proofs.JoinLemmas.{raw_is}
-use Rattle.idx_gather.specs.Gather.{HasBlocksOf, HasVolume, IsCaused, IsStoreFault, LacksVolume, Leaves, LeavesFailed, SomeStepAdded, StepAdded}
+use Rattle.idx_gather.specs.Gather.{HasBlocksOf, HasVolume, HoldsAdded, IsCaused, IsStoreFault, LacksVolume, Leaves, LeavesFailed, SomeStepAdded, StepAdded}
 use Rattle.idx_gather.specs.States.{AreFirstFiles, IsStepOf}
 use Rattle.idx_gather.specs.declared.gather_fault.GatherFault.{GatherFault}
 use Rattle.idx_gather.specs.declared.gather_fault.GatherFault.TheVariants.{RawWrongSize, RawFault, StoreFault, NoMemory}
@@ -103,6 +104,17 @@ module _ (h g : HeaderValue) (step s : ℕ) (old k : Option (List MemFile)) (new
       by_told None is = tt
       by_told (Some bytes) is = subst (λ (x : List ℕ). HasBlocksOf g x (stored v)) is (gives some.raw some.is)
   blocks_all (Err fault) stored gives = tt
+
+  -- it holds what the files store that were added
+  pub holds_all : {T : Type 0} (r : Result T GatherFault) (shape : T → Shape) (has : T → ℕ → ℕ → Bool) (stored : T → Option (ℕ → ℕ → List ℕ)) (leaves : T → List (List ℕ × Option (List ℕ))) →
+      IfOk r (λ edition. (raw : List ℕ) → IsStepOf g s k sealed raw → HoldsAdded g s k new (shape edition) (has edition) (stored edition) (leaves edition)) →
+      IfOk r (λ edition. HoldsAdded h step old new (shape edition) (has edition) (stored edition) (leaves edition))
+  holds_all (Ok v) shape has stored leaves gives =
+      subst (λ (x : Option (List MemFile)). HoldsAdded h step x new (shape v) (has v) (stored v) (leaves v)) kk
+      (subst (λ (x : ℕ). HoldsAdded h x k new (shape v) (has v) (stored v) (leaves v)) ss
+      (subst (λ (x : HeaderValue). HoldsAdded x s k new (shape v) (has v) (stored v) (leaves v)) gh
+      (gives some.raw some.is)))
+  holds_all (Err fault) shape has stored leaves gives = tt
 
   -- and a commit that failed leaves the files as they were, or all of it stands
   pub left_all : {T : Type 0} (r : Result T GatherFault) (before after : ℕ) → IfErr r (IsStoreFault before after) →

@@ -11,6 +11,7 @@ pub mod CauseLemmas
 pub mod BatchLemmas
 pub mod FitLemmas
 pub mod ShipLemmas
+pub mod ToldLemmas
 pub mod FirstLemmas
 pub mod SealAllLemmas
 pub mod FillLemmas

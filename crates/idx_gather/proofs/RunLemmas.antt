@@ -1,8 +1,10 @@
 -- The first run of a list: as many of its elements as fit into the room together, or one.
-use Rattle.std.proofs.Common.{◌≡◌, ℕ, zero, suc, ◌+◌, ◌<◌, ◌≤◌, Bool, true, false, cond, List, [], ◌∷◌, length, drop, ◌==◌, ◌||◌, refl, sym, ap, ◌∙◌, arith}
-use Rattle.std.specs.Prelude.{nat_le, slice_index_or}
+use Rattle.std.proofs.Common.{◌≡◌, ℕ, zero, suc, ◌+◌, ◌<◌, ◌≤◌, Bool, true, false, cond, inl, inr, List, [], ◌∷◌, length, map, take, drop, ◌==◌, ◌||◌, refl, sym, ap, ◌∙◌, arith}
+use Rattle.std.specs.Prelude.{nat_le, slice_index_or, sum}
+use Rattle.std.proofs.lemmas.Bool.{leb-false, leb-true}
+use Rattle.std.proofs.lemmas.List.Sums.{sum_by-cons}
 use Rattle.std.proofs.lemmas.Bool.Decides.{nat_tests}
-use Rattle.idx_gather.specs.Windows.{joins, more_fit, run_count}
+use Rattle.idx_gather.specs.Windows.{FitOrIsOne, first_run, joins, more_fit, run_count}
 
 -- How many make the first run, where so many of the first elements are known to, which use so much of the room.
 abbrev pub IsRunSoFar : {X : Type 0} → (X → ℕ) → ℕ → List X → ℕ → ℕ → Type 0
@@ -21,6 +23,44 @@ more_within size room used (x ∷ xs) = by_test (nat_le (used + size x) room) (m
 pub run_within : {X : Type 0} (size : X → ℕ) (room : ℕ) (xs : List X) → run_count size room xs ≤ length xs
 run_within size room [] = omega arith
 run_within size room (x ∷ xs) = omega (arith, more_within size room (size x) xs)
+
+sum_cons : (n : ℕ) (ns : List ℕ) → sum (n ∷ ns) ≡ n + sum ns
+sum_cons n ns = sum_by-cons (λ k. k) n ns
+
+-- those that fit behind some do not use more than the room
+more_fits : {X : Type 0} (size : X → ℕ) (room used : ℕ) (xs : List X) → used ≤ room → used + sum (map size (take (more_fit size room used xs) xs)) ≤ room
+more_fits size room used [] fits = omega (arith, fits)
+more_fits size room used (x ∷ xs) fits = by_test (nat_le (used + size x) room) refl (more_fits size room (used + size x) xs)
+  where
+    by_test : (b : Bool) → nat_le (used + size x) room ≡ b
+        → (used + size x ≤ room → (used + size x) + sum (map size (take (more_fit size room (used + size x) xs) xs)) ≤ room)
+        → used + sum (map size (take (cond b (suc (more_fit size room (used + size x) xs)) 0) (x ∷ xs))) ≤ room
+    by_test true is rest =
+        let whole = rest (leb-true (used + size x) room is) in
+        let sums = sum_cons (size x) (map size (take (more_fit size room (used + size x) xs) xs)) in omega (arith, whole, sums)
+    by_test false is rest = omega (arith, fits)
+
+-- none fits behind what uses more than the room
+none_more : {X : Type 0} (size : X → ℕ) (room used : ℕ) (xs : List X) → room < used → more_fit size room used xs ≡ 0
+none_more size room used [] over = refl
+none_more size room used (x ∷ xs) over = by_test (nat_le (used + size x) room) refl
+  where
+    by_test : (b : Bool) → nat_le (used + size x) room ≡ b → cond b (suc (more_fit size room (used + size x) xs)) 0 ≡ 0
+    by_test true is = let fits : used + size x ≤ room = leb-true (used + size x) room is in absurd (omega (arith, fits, over))
+    by_test false is = refl
+
+-- a run takes no more than the room, or is one
+pub run_fits : {X : Type 0} (size : X → ℕ) (room : ℕ) (xs : List X) → FitOrIsOne size room (first_run size room xs)
+run_fits size room [] = inl (omega arith)
+run_fits size room (x ∷ xs) = by_test (nat_le (size x) room) refl
+  where
+    by_test : (b : Bool) → nat_le (size x) room ≡ b → FitOrIsOne size room (first_run size room (x ∷ xs))
+    by_test true is =
+        let whole = more_fits size room (size x) xs (leb-true (size x) room is) in
+        let sums = sum_cons (size x) (map size (take (more_fit size room (size x) xs) xs)) in inl (omega (arith, whole, sums))
+    by_test false is =
+        let over : room < size x = leb-false (size x) room is in
+        inr (ap (λ n. suc (length (take n xs))) (none_more size room (size x) xs over))
 
 -- behind the first, a thing joins where it fits
 later : (count : ℕ) (b x : Bool) → ((suc count == 0) || b) ≡ x → b ≡ x

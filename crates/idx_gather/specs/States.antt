@@ -1,6 +1,6 @@
 -- What is true of the states through which a step is gathered.
 use Rattle.std.specs.Prelude.{◌≡◌, ℕ, ◌<◌, ◌≤◌, Bool, not, None, Option, IfSome, List, ◌++◌, length, map, filter, take, drop, All}
-use Rattle.std.specs.List.{list_any}
+use Rattle.std.specs.List.{AllZip, list_any}
 use Rattle.std.specs.Option.{is_some}
 use Rattle.idx_outside.specs.Files.{known_files}
 use Rattle.idx_outside.specs.declared.mem_file.MemFile.{MemFile}
@@ -100,3 +100,23 @@ pub record AreFirstFiles (h : HeaderValue) (step : ℕ) (known : Option (List Me
   pub is : IsVolume (map sample_bytes h.fields) (length (points h.box)) volume
   pub told_is : IfSome told (λ raw. volume ≡ volume_of_raw h raw)
   pub same : sealed ≡ known_files known (map (step_file Hz h volume step) (take (length sealed) files))
+
+-- a leaf has the path of this file, and its bytes where it tells its own
+abbrev pub TellsFile : List ℕ × Option (List ℕ) → List ℕ × List ℕ → Type 0
+TellsFile leaf file = (leaf.0 ≡ file.0) × IfSome leaf.1 (λ bytes. bytes ≡ file.1)
+
+-- Sealed files, by their paths and what they tell of their bytes, are the first files of the step of some volume, each once.
+pub record AreFilesSoFar (h : HeaderValue) (step : ℕ) (files : List ℕ) (sealed : List (List ℕ × Option (List ℕ))) : Type 0 where
+  pub volume : List (List (List ℕ))
+  pub is : IsVolume (map sample_bytes h.fields) (length (points h.box)) volume
+  pub tell : AllZip TellsFile sealed (map (step_file Hz h volume step) (take (length sealed) files))
+
+-- Sealed files are all files of the step of some volume, each once.
+pub record AreAllFiles (h : HeaderValue) (step : ℕ) (sealed : List (List ℕ × Option (List ℕ))) : Type 0 where
+  pub volume : List (List (List ℕ))
+  pub is : IsVolume (map sample_bytes h.fields) (length (points h.box)) volume
+  pub tell : AllZip TellsFile sealed (step_files Hz h volume step)
+
+-- sealed files tell their bytes exactly where the committed files are known
+abbrev pub TellAs : Option (List MemFile) → List (List ℕ × Option (List ℕ)) → Type 0
+TellAs known sealed = All (λ leaf. is_some leaf.1 ≡ is_some known) sealed

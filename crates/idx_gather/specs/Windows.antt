@@ -1,5 +1,5 @@
 -- How a step is gathered in bounded memory: windows of files, and batches of pieces.
-use Rattle.std.specs.Prelude.{ℕ, zero, suc, ◌+◌, ◌-◌, ◌*◌, ◌^◌, nat_le, ◌==◌, ◌||◌, Bool, if◌then◌else◌, List, [], ◌∷◌, length, map, min, sum, take}
+use Rattle.std.specs.Prelude.{◌≡◌, ◌⊎◌, ◌≤◌, ℕ, zero, suc, ◌+◌, ◌-◌, ◌*◌, ◌^◌, nat_le, ◌==◌, ◌||◌, Bool, if◌then◌else◌, List, [], ◌∷◌, length, map, min, sum, take}
 use Rattle.idx_fields.specs.Field.{sample_bytes}
 use Rattle.idx_header.specs.Header.{HeaderValue}
 use Rattle.idx_layout.specs.Files.{length_of_file}
@@ -21,6 +21,10 @@ run_count size room (x ∷ xs) = suc (more_fit size room (size x) xs)
 
 abbrev pub first_run : {X : Type 0} → (X → ℕ) → ℕ → List X → List X
 first_run size room xs = take (run_count size room xs) xs
+
+-- these take no more than the room together, or there is one
+abbrev pub FitOrIsOne : {X : Type 0} → (X → ℕ) → ℕ → List X → Type 0
+FitOrIsOne size room run = (sum (map size run) ≤ room) ⊎ (length run ≡ 1)
 
 -- the next window of some files: the most that fit into the room together, or one
 abbrev pub window_of : HeaderValue → ℕ → List ℕ → List ℕ

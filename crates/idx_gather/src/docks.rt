@@ -48,7 +48,7 @@ impl<L: Leaf> Docking<L> {
 }
 
 /// Looks at each dock, of which then is known what is true of every dock.
-fn look_over(docks: &[Dock])
+pub(crate) fn look_over(docks: &[Dock])
     ensures { All IsDock docks.now }
 {
     for dock in docks {

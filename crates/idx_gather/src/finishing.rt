@@ -1,11 +1,11 @@
-ghost use Rattle.std.specs.Prelude.{◌≡◌, ◌⊎◌, ℕ, IfErr, IfOk, List, OnErr, OnOk, length};
+ghost use Rattle.std.specs.Prelude.{◌≡◌, ◌⊎◌, ℕ, IfErr, IfOk, List, None, OnErr, OnOk, length};
 ghost use Rattle.std.specs.Option.{ForSome};
 ghost use Rattle.idx_outside.specs.Cause.{NeverFalls};
 ghost use Rattle.idx_outside.specs.Files.{HasStep as HasCommitted, shown};
 ghost use Rattle.idx_header.specs.Names.{step_folder};
 ghost use Rattle.idx_layout.specs.Shape.{shape_of};
-ghost use Rattle.idx_gather.specs.Gather.{HasBlocksOf, HasFolder, HasPresent, HoldsAdded, IsStoreFault, LeavesFailed, StepAdded};
-ghost use Rattle.idx_gather.specs.States.{IsStepOf};
+ghost use Rattle.idx_gather.specs.Gather.{HasBlocksOf, HasFolder, HasPresent, HoldsAdded, IsStoreFault, LeavesFailed, SomeStepAdded, StepAdded};
+ghost use Rattle.idx_gather.specs.States.{IsStepOf, TellAs};
 
 use crate::committing::commit_leaves;
 use crate::{GatherFault, Opening, Sealed};
@@ -39,28 +39,29 @@ impl<L: Leaf> Opening<L> {
 }
 
 impl<L: Leaf> Sealed<L> {
-    /// Makes all files stand at once, and gives the step as blocks. The files are those of some volume. All memory is
-    /// taken before they stand.
+    /// Makes all files stand at once, and gives the step as blocks. All memory is taken before they stand.
     pub fn commit<B: Bay<Leaf = L>>(
         self,
         alloc: Global,
         bay: &mut B,
     ) -> Result<Edition<L>, GatherFault>
         requires folder { HasFolder self.header self.step }
-        requires volume { (raw : List ℕ) ×
-            IsStepOf self.header self.step (B.files bay.old) (shown L.contents self.leaves.items) raw }
         requires new { ForSome (step_folder self.header self.step)
             (λ folder. ForSome (B.files bay.old) (λ files. ¬ HasCommitted folder files)) }
         ensures added { OnOk result ((raw : List ℕ) →
             IsStepOf self.header self.step (B.files bay.old) (shown L.contents self.leaves.items) raw →
             StepAdded self.header self.step (B.files bay.old) (B.files bay.new) raw) }
+        ensures some { OnOk result (TellAs (B.files bay.old) (shown L.contents self.leaves.items) →
+            ∥ SomeStepAdded self.header self.step None (B.files bay.old) (B.files bay.new) ∥₁) }
         ensures time { IfOk result (λ edition. ⟦<Edition<L> as Blocks>⟧.time edition ≡ self.step) }
         ensures shape { IfOk result (λ edition. ⟦<Edition<L> as Blocks>⟧.shape edition ≡ shape_of self.header) }
         ensures has { IfOk result (λ edition. HasPresent self.header (⟦<Edition<L> as Blocks>⟧.has edition)) }
         ensures blocks { IfOk result (λ edition. (raw : List ℕ) →
             IsStepOf self.header self.step (B.files bay.old) (shown L.contents self.leaves.items) raw →
             HasBlocksOf self.header raw (⟦<Edition<L> as Blocks>⟧.stored edition)) }
-        ensures holds { IfOk result (λ edition. HoldsAdded self.header self.step (B.files bay.old) (B.files bay.new)
+        ensures holds { IfOk result (λ edition. (raw : List ℕ) →
+            IsStepOf self.header self.step (B.files bay.old) (shown L.contents self.leaves.items) raw →
+            HoldsAdded self.header self.step (B.files bay.old) (B.files bay.new)
             (⟦<Edition<L> as Blocks>⟧.shape edition) (⟦<Edition<L> as Blocks>⟧.has edition)
             (⟦<Edition<L> as Blocks>⟧.stored edition) (shown L.contents edition.leaves.items)) }
         ensures cause { IfErr result (IsStoreFault (B.faults bay.old) (B.faults bay.new)) }

@@ -1,4 +1,4 @@
-ghost use Rattle.std.specs.Prelude.{◌≡◌, ◌<◌, ◌≤◌, ℕ, IfErr, IfOk, IfSome, List, OnOk, drop, map, vec_len};
+ghost use Rattle.std.specs.Prelude.{◌≡◌, ◌<◌, ◌≤◌, ◌^◌, ℕ, IfErr, IfOk, IfSome, List, OnOk, drop, map, vec_len};
 ghost use Rattle.std.specs.Option.{ForSome};
 ghost use Rattle.idx_outside.specs.Cause.{NeverFalls};
 ghost use Rattle.idx_outside.specs.Files.{HasStep as HasCommitted, LiesIn, shown};
@@ -18,8 +18,13 @@ use idx_outside::{Bay, Blocks, Gate, Source};
 use std::alloc::Global;
 use std::thread::Threads;
 
-/// So many bytes of files, and of samples on their way to them, are kept in memory at a time.
-const ROOM: u64 = 1 << 28;
+/// So many bytes of files, and of samples on their way to them, are kept in memory at a time, but for one file and one
+/// piece: 2^28.
+pub fn gather_room() -> u64
+    ensures { result ≡ 2 ^ 28 }
+{
+    1 << 28
+}
 
 /// Writes a step from a raw volume and makes it stand in the bay, in the folder that was last begun: exactly its files,
 /// byte for byte as the format defines them, with the samples of each block in hierarchical order. There is one rank for
@@ -97,7 +102,7 @@ where
     // The box has axes and points, so that some rank has a part of it.
     let _axes = header.axes();
     check_length(header, raws)?;
-    let opening = Opening::new(alloc, header, step, raws.len() as u32, ROOM)?;
+    let opening = Opening::new(alloc, header, step, raws.len() as u32, gather_room())?;
     let opening = seal_all(rt, alloc, opening, raws, bay, gate)?;
     opening.finish().commit(alloc, bay)
 }

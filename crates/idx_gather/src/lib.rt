@@ -11,6 +11,7 @@ mod docks;
 mod finishing;
 mod gather_fault;
 mod gathering;
+mod laws;
 mod length;
 mod opening;
 mod parcelled;
@@ -23,7 +24,8 @@ mod window;
 
 pub use docking::Docking;
 pub use gather_fault::GatherFault;
-pub use gathering::gather;
+pub use gathering::{gather, gather_room};
+pub use laws::{batches_fit_the_room, sealed_files_are_a_step, windows_fit_the_room};
 pub use opening::Opening;
 pub use parcelled::Parcelled;
 pub use sealed::Sealed;

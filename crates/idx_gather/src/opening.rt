@@ -1,12 +1,13 @@
 ghost use Rattle.std.specs.Prelude.{map};
-ghost use Rattle.idx_gather.specs.States.{IsOpening};
+ghost use Rattle.idx_outside.specs.Files.{AllNamed, shown};
+ghost use Rattle.idx_gather.specs.States.{AreFilesSoFar, IsOpening};
 
 use idx_header::Header;
 use idx_outside::{Bytes, Leaf};
 use idx_pieces::Piece;
 
-/// A step that is gathered: the files that are sealed so far, which are the first ones, and what it takes to make the
-/// others.
+/// A step that is gathered: the files that are sealed so far, which are the first ones of some volume, each once, and what
+/// it takes to make the others.
 #[derive(Drop)]
 pub struct Opening<L: Leaf> {
     pub(crate) header: Header,
@@ -17,4 +18,6 @@ pub struct Opening<L: Leaf> {
     pub(crate) files: Vec<u64>,
     pub(crate) leaves: Vec<(Bytes, L)>,
     ghost valid: { IsOpening header step ranks room pieces.items files.items (map (λ leaf. leaf.0) leaves.items) },
+    ghost so_far: { ∥ AreFilesSoFar header step files.items (shown L.contents leaves.items) ∥₁ },
+    ghost named: { AllNamed L.path leaves.items },
 }

@@ -6,6 +6,7 @@ ghost use Rattle.idx_gather.specs.Gather.{IsStoreFault, LeavesFailed};
 ghost use Rattle.idx_gather.specs.States.{AreFull};
 ghost use Rattle.idx_seal.specs.Files.{dock_file};
 
+use crate::docks::look_over;
 use crate::{Docking, GatherFault, Opening};
 use idx_outside::{Bay, Gate, Leaf};
 use idx_seal::seal_docks;
@@ -53,6 +54,7 @@ impl<L: Leaf> Docking<L> {
             done: _done,
             left: _left,
         } = self;
+        look_over(&docks);
         let sealed = seal_docks(
             rt,
             alloc,

@@ -1,4 +1,4 @@
-ghost use Rattle.std.specs.Prelude.{◌≡◌, ℕ, All, IfErr, IfOk, List, OnOk, Some, drop, length, map, vec_len};
+ghost use Rattle.std.specs.Prelude.{◌≡◌, ◌^◌, ℕ, All, IfErr, IfOk, List, OnOk, Some, drop, length, map, vec_len};
 ghost use Rattle.idx_outside.specs.Cause.{NeverFalls};
 ghost use Rattle.idx_outside.specs.Files.{StillAdmits, shown};
 ghost use Rattle.idx_outside.specs.Objects.{SameContents, contents_at};
@@ -15,7 +15,7 @@ use idx_outside::{Bay, Gate, Leaf, Source};
 use std::alloc::Global;
 use std::thread::Threads;
 
-/// Makes and seals all files that are left, window by window.
+/// Makes and seals all files that are left, window by window, within a room of 2^28 bytes.
 pub(crate) fn seal_all<V: Source + Send, B: Bay, G: Gate, R: Threads + Sync>(
     rt: &R,
     alloc: Global,
@@ -29,6 +29,7 @@ where
     B::Leaf: Send,
     requires ranks { vec_len raws.old ≡ opening.ranks }
     requires alike { HaveSame V.contents raws.old.items }
+    requires room { opening.room ≡ 2 ^ 28 }
     requires right { HasVolume opening.header (contents_at V.contents raws.old.items 0) }
     requires admits { (file : ℕ) → B.admits bay.old (file_name opening.header opening.step file) }
     requires first { AreFirstFiles opening.header opening.step (B.files bay.old)

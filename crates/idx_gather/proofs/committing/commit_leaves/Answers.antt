@@ -1,13 +1,15 @@
 use Rattle.std.proofs.Common.{ℕ, ◌<◌, List, length, sym, ap, subst, ◌∙◌, arith}
-use Rattle.idx_outside.specs.Files.{AllLieIn, HasStep, shown}
+use Rattle.std.proofs.Math.Logic.{∥∥₁_elim, ∥∥₁_map}
+use Rattle.std.specs.Coded.{le_prop}
+use Rattle.idx_outside.specs.Files.{AllLieIn, AllNamed, HasStep, shown}
 use Rattle.idx_layout.specs.declared.layout.Layout.TheVariants.{Hz}
 use Rattle.idx_layout.specs.Step.{step_files, volume_of_raw}
 use Rattle.idx_edition.specs.Tables.{TablesValue, has_in_tables, shape_in, stored_in}
 use Rattle.idx_edition.proofs.ReadsLemmas.{on_err}
-use Rattle.idx_gather.proofs.CommitLemmas.{files_added, same_shown, step_added, step_held, step_left, step_written}
+use Rattle.idx_gather.proofs.CommitLemmas.{files_added, same_shown, step_added, step_left, step_written}
 use Rattle.idx_gather.proofs.EditionLemmas.{HoldsAny, holds_added, is_volume}
-use Rattle.idx_gather.proofs.SomeFileLemmas.{some_leaf, some_step_file}
 use Rattle.idx_gather.proofs.StepLemmas.{files_lie, folder_exists}
+use Rattle.idx_gather.proofs.ToldLemmas.{lie_fact, lie_told, some_told, step_told, written_told}
 use Rattle.idx_gather.proofs.committing.commit_leaves.Goals as goal
 
 pub unreachable-requires : goal.unreachable-requires
@@ -15,24 +17,21 @@ unreachable-requires g c =
     folder_exists c.args.header.now c.args.step c.requires.folder.timed (sym c.in_ok-folder.ensures ∙ c.in_default.is)
 
 pub of_leaves-requires : goal.of_leaves-requires
-of_leaves-requires g c =
-    let raw = c.requires.volume.0 in
-    record {
-      written = (
-        volume_of_raw c.args.header.now raw,
-        step_written g.B.Leaf.Leaf.contents c.args.header.now c.args.step (g.B.Bay.files c.args.bay.now) c.args.leaves.items raw c.requires.volume.1,
-      );
-    }
+of_leaves-requires g c = record {
+  written = ∥∥₁_map c.requires.whole
+      (λ are. (are.volume, written_told c.args.header.now c.args.step (shown g.B.Leaf.Leaf.contents c.args.leaves.items) are));
+}
 
 pub commit-requires-clause-some : goal.commit-requires-clause-some
 commit-requires-clause-some g c =
-    let h = c.args.header.now in
-    let volume = volume_of_raw h c.requires.volume.0 in
     let some : 0 < length c.leaves.result.now.items =
     subst (λ leaves. 0 < length leaves) (sym (c.leaves.ensures ∙ c.in_ok-edition.ensures.leaves))
-    (some_leaf g.B.Leaf.Leaf.contents (g.B.Bay.files c.args.bay.now) c.args.leaves.items (step_files Hz h volume c.args.step)
-    c.requires.volume.1.same (some_step_file Hz h volume c.args.step c.in_ok-edition.ensures.valid)) in
+    (∥∥₁_elim c.requires.whole le_prop (some_told g.B.Leaf.Leaf.contents c.args.header.now c.args.step c.args.leaves.items c.in_ok-edition.ensures.valid)) in
     omega (arith, some, c.leaves.result.now.ok)
+
+pub commit-requires-clause-named : goal.commit-requires-clause-named
+commit-requires-clause-named g c =
+    subst (AllNamed g.B.Leaf.Leaf.path) (sym (c.leaves.ensures ∙ c.in_ok-edition.ensures.leaves)) c.requires.named
 
 pub commit-requires-clause-new : goal.commit-requires-clause-new
 commit-requires-clause-new g c = λ files known committed.
@@ -42,12 +41,12 @@ commit-requires-clause-new g c = λ files known committed.
 pub commit-requires-clause-within : goal.commit-requires-clause-within
 commit-requires-clause-within g c = λ files known.
     let h = c.args.header.now in
-    let raw = c.requires.volume.0 in
     let stands = sym c.in_ok-folder.ensures ∙ c.in-Some.is in
-    let held = step_held g.B.Leaf.Leaf.contents h c.args.step (g.B.Bay.files c.args.bay.now) c.args.leaves.items raw c.requires.volume.1 in
     subst (λ leaves. AllLieIn c.as_slice.result.now leaves) (sym (c.leaves.ensures ∙ c.in_ok-edition.ensures.leaves))
     (subst (λ (f : List ℕ). AllLieIn f c.args.leaves.items) (sym c.as_slice.ensures)
-    (held.lie c.in-Some.folder (files_lie Hz h (volume_of_raw h raw) c.args.step c.in-Some.folder stands)))
+    (∥∥₁_elim c.requires.whole (lie_fact c.in-Some.folder c.args.leaves.items)
+    (λ are. lie_told g.B.Leaf.Leaf.contents c.in-Some.folder c.args.leaves.items (step_files Hz h are.volume c.args.step) are.tell
+    (files_lie Hz h are.volume c.args.step c.in-Some.folder stands))))
 
 pub returns-in_err-commit-clause-whole : goal.returns-in_err-commit-clause-whole
 returns-in_err-commit-clause-whole g c =
@@ -67,14 +66,26 @@ returns-clause-blocks g c = λ raw is.
     c.in_ok-edition.ensures.stored (volume_of_raw c.args.header.now raw)
     (step_written g.B.Leaf.Leaf.contents c.args.header.now c.args.step (g.B.Bay.files c.args.bay.now) c.args.leaves.items raw is)
 
+pub returns-clause-some : goal.returns-clause-some
+returns-clause-some g c = λ tell. ∥∥₁_map c.requires.whole (λ are.
+    let one = step_told c.args.header.now c.args.step (g.B.Bay.files c.args.bay.now) (shown g.B.Leaf.Leaf.contents c.args.leaves.items) are tell in (
+      one.0,
+      (
+        one.1.whole,
+        tt,
+        step_added g.B.Leaf.Leaf.contents c.args.header.now c.args.step (g.B.Bay.files c.args.bay.now) c.args.leaves.items
+            c.in-Some.folder c.as_slice.result.now c.leaves.result.now.items (g.B.Bay.files c.commit.new.self)
+            (sym c.in_ok-folder.ensures ∙ c.in-Some.is) c.as_slice.ensures (c.leaves.ensures ∙ c.in_ok-edition.ensures.leaves) one.0 one.1 c.in_ok-commit.ensures.stands,
+      ),
+    ))
+
 pub returns-clause-holds : goal.returns-clause-holds
-returns-clause-holds g c =
+returns-clause-holds g c = λ raw is.
     let h = c.args.header.now in
     let step = c.args.step in
-    let raw = c.requires.volume.0 in
-    let volume = volume_of_raw h raw in
     let contents = g.B.Leaf.Leaf.contents in
     let old = g.B.Bay.files c.args.bay.now in
+    let volume = volume_of_raw h raw in
     let new = g.B.Bay.files c.commit.new.self in
     let folder = c.in-Some.folder in
     let edition = c.in_ok-edition.edition in
@@ -82,11 +93,11 @@ returns-clause-holds g c =
     let tables : TablesValue = edition.tables in
     let held : HoldsAny h step volume (shape_in tables) (has_in_tables tables) (stored_in tables leaves) leaves = record {
       any = λ files has same.
-          c.in_ok-edition.ensures.holds volume files (is_volume h raw c.requires.volume.1.whole) has
+          c.in_ok-edition.ensures.holds volume files (is_volume h raw is.whole) has
           (ap (shown contents) (sym c.in_ok-edition.ensures.leaves) ∙ same);
     } in
     holds_added h step c.in_ok-edition.ensures.valid c.requires.folder.has volume folder (shape_in tables) (has_in_tables tables) (stored_in tables leaves) leaves held
     old new
-    (same_shown contents h step old c.args.leaves.items raw c.requires.volume.1 edition.leaves.items c.in_ok-edition.ensures.leaves)
+    (same_shown contents h step old c.args.leaves.items raw is edition.leaves.items c.in_ok-edition.ensures.leaves)
     (files_added contents h step old c.args.leaves.items folder c.as_slice.result.now c.leaves.result.now.items new
-    (sym c.in_ok-folder.ensures ∙ c.in-Some.is) c.as_slice.ensures (c.leaves.ensures ∙ c.in_ok-edition.ensures.leaves) raw c.requires.volume.1 c.in_ok-commit.ensures.stands)
+    (sym c.in_ok-folder.ensures ∙ c.in-Some.is) c.as_slice.ensures (c.leaves.ensures ∙ c.in_ok-edition.ensures.leaves) raw is c.in_ok-commit.ensures.stands)

@@ -10,7 +10,7 @@ use Rattle.idx_gather.specs.Gather.{HasPresent, HasVolume, IsCaused}
 use Rattle.idx_gather.specs.States.{AreFirstFiles}
 use Rattle.idx_gather.proofs.BatchLemmas.{some_rank}
 use Rattle.idx_gather.proofs.FillLemmas.{alike_still, first_same}
-use Rattle.idx_gather.proofs.GatherLemmas.{added_all, admits_files, blocks_all, has_not_lacks, left_all, none_yet, sealed_step, unfailed}
+use Rattle.idx_gather.proofs.GatherLemmas.{added_all, admits_files, blocks_all, has_not_lacks, holds_all, left_all, none_yet, sealed_step, unfailed}
 use Rattle.idx_gather.proofs.SealAllLemmas.{idle_again, on_fault}
 use Rattle.idx_gather.proofs.gathering.gather.Goals as goal
 
@@ -61,17 +61,6 @@ returns-in_err-opening-2-clause-idle g c =
     c.in_ok-opening.ensures.header c.check_length.ensures.number c.seal_all.ensures.idle
     (c.check_length.ensures.idle (rank_count c.args.header.now.box (vec_len c.args.raws.now)) (some_rank c.args.header.now (vec_len c.args.raws.now) c.axes-axes.ensures.valid c.requires.some))
 
-pub commit-requires-clause-volume : goal.commit-requires-clause-volume
-commit-requires-clause-volume g c =
-    let o = c.in_ok-opening in
-    let d = c.in_ok-opening-2 in
-    let some = sealed_step g.B.Leaf.Leaf.contents c.args.header.now c.finish.result.header o.opening.header c.finish.result.step o.opening.step (g.B.Bay.files c.seal_all.new.bay) (g.B.Bay.files c.args.bay.now)
-    (contents_at g.V.Source.contents c.args.raws.now.items 0) (contents_at g.V.Source.contents c.check_length.new.raws.items 0) o.opening.files.items c.finish.result.leaves.items d.opening.leaves.items
-    (c.finish.ensures.header ∙ d.ensures.same_header) o.ensures.header (c.finish.ensures.step ∙ d.ensures.same_step) c.seal_all.ensures.files
-    (first_same g.V.Source.contents c.args.raws.now.items c.check_length.new.raws.items c.check_length.ensures.same) c.finish.ensures.leaves
-    o.opening.valid.files_are (d.ensures.sealed ∙ ap (λ fs. length fs.items) d.ensures.same_files) c.in_ok-check_length.ensures.right d.ensures.files_made in
-    (some.raw, some.is)
-
 pub commit-requires-clause-new : goal.commit-requires-clause-new
 commit-requires-clause-new g c = λ folder is files there.
     let o = c.in_ok-opening in
@@ -113,6 +102,20 @@ returns-clause-volume g c =
     o.opening.valid.files_are (d.ensures.sealed ∙ ap (λ fs. length fs.items) d.ensures.same_files) c.in_ok-check_length.ensures.right d.ensures.files_made in
     blocks_all c.args.header.now c.finish.result.header c.args.step c.finish.result.step (g.B.Bay.files c.args.bay.now) (g.B.Bay.files c.seal_all.new.bay) (g.B.Bay.files c.commit.new.bay)
     (contents_at g.V.Source.contents c.args.raws.now.items 0) (shown g.B.Leaf.Leaf.contents c.finish.result.leaves.items) header step c.seal_all.ensures.files some c.commit.result _ c.commit.ensures.blocks
+
+pub returns-clause-holds : goal.returns-clause-holds
+returns-clause-holds g c =
+    let o = c.in_ok-opening in
+    let d = c.in_ok-opening-2 in
+    let header : c.finish.result.header ≡ c.args.header.now = c.finish.ensures.header ∙ d.ensures.same_header ∙ o.ensures.header in
+    let step : c.finish.result.step ≡ c.args.step = c.finish.ensures.step ∙ d.ensures.same_step ∙ o.ensures.step in
+    let some = sealed_step g.B.Leaf.Leaf.contents c.args.header.now c.finish.result.header o.opening.header c.finish.result.step o.opening.step (g.B.Bay.files c.seal_all.new.bay) (g.B.Bay.files c.args.bay.now)
+    (contents_at g.V.Source.contents c.args.raws.now.items 0) (contents_at g.V.Source.contents c.check_length.new.raws.items 0) o.opening.files.items c.finish.result.leaves.items d.opening.leaves.items
+    (c.finish.ensures.header ∙ d.ensures.same_header) o.ensures.header (c.finish.ensures.step ∙ d.ensures.same_step) c.seal_all.ensures.files
+    (first_same g.V.Source.contents c.args.raws.now.items c.check_length.new.raws.items c.check_length.ensures.same) c.finish.ensures.leaves
+    o.opening.valid.files_are (d.ensures.sealed ∙ ap (λ fs. length fs.items) d.ensures.same_files) c.in_ok-check_length.ensures.right d.ensures.files_made in
+    holds_all c.args.header.now c.finish.result.header c.args.step c.finish.result.step (g.B.Bay.files c.args.bay.now) (g.B.Bay.files c.seal_all.new.bay) (g.B.Bay.files c.commit.new.bay)
+    (contents_at g.V.Source.contents c.args.raws.now.items 0) (shown g.B.Leaf.Leaf.contents c.finish.result.leaves.items) header step c.seal_all.ensures.files some c.commit.result _ _ _ _ c.commit.ensures.holds
 
 pub returns-clause-leaves : goal.returns-clause-leaves
 returns-clause-leaves g c =

@@ -1,8 +1,11 @@
 use Rattle.std.proofs.Common.{◌≡◌, ◌≤◌, [], length, map, take, refl, sym, ap, subst, ◌∙◌, arith}
+use Rattle.std.proofs.lemmas.List.Elements.{All-nil}
 use Rattle.idx_header.specs.Header.{HeaderValue}
 use Rattle.idx_header.specs.Names.{file_name}
 use Rattle.idx_pieces.specs.Pieces.{pieces_of}
-use Rattle.idx_gather.specs.States.{IsOpening}
+use Rattle.idx_outside.specs.Files.{AllNamed, IsNamed, shown}
+use Rattle.idx_gather.specs.States.{AreFilesSoFar, IsOpening}
+use Rattle.idx_gather.proofs.ToldLemmas.{none_so_far}
 use Rattle.idx_gather.proofs.starting.open.Goals as goal
 
 pub invariant_of-result : goal.invariant_of-result
@@ -21,4 +24,7 @@ invariant_of-result g c =
             few = subst (λ xs. length xs ≤ length c.in_ok-all_files.field-0.items) (sym none) (omega arith);
             paths_are = subst (λ xs. xs ≡ map (file_name h c.args.step) (take (length xs) c.in_ok-all_files.field-0.items)) (sym none) refl;
           });
+      so_far = ∣ subst (λ leaves. AreFilesSoFar c.in_ok-copy.field-0 c.args.step c.in_ok-all_files.field-0.items (shown g.L.Leaf.contents leaves)) (sym c.new.ensures.items)
+          (none_so_far c.in_ok-copy.field-0 c.args.step c.in_ok-all_files.field-0.items) ∣₁;
+      named = subst (AllNamed g.L.Leaf.path) (sym c.new.ensures.items) (All-nil (IsNamed g.L.Leaf.path));
     }
