@@ -1,3 +1,2 @@
 pub mod ReadyLemmas
 pub mod PartLemmas
-pub mod StateLemmas
