@@ -1,10 +1,10 @@
 -- A row of loads, and what workers made of it.
-use Rattle.std.proofs.Common.{◌≡◌, ℕ, zero, suc, ◌+◌, ◌<◌, List, [], ◌∷◌, ◌++◌, length, map, refl, sym, ap, ◌∙◌, subst, arith, Some, Ok, append_assoc}
+use Rattle.std.proofs.Common.{◌≡◌, ℕ, zero, suc, ◌+◌, ◌<◌, ◌≤◌, List, [], ◌∷◌, ◌++◌, length, take, drop, map, refl, sym, ap, ◌∙◌, subst, arith, None, Some, Ok, append_assoc}
 use Rattle.std.specs.Prelude.{All, slice_index_or, IfOk}
 use Rattle.std.specs.List.{AllZip, range_with_len}
 use Rattle.std.specs.Global.{Vec}
-use Rattle.std.proofs.lemmas.List.{length-map, map-append}
-use Rattle.std.proofs.lemmas.List.Elements.{All-cons, All-head, All-nil, All-tail}
+use Rattle.std.proofs.lemmas.List.{drop_all, drop-append-le, get_or-take, length-append, length-map, length-take-le, map-append, take_all, take-append-drop, take-append-le}
+use Rattle.std.proofs.lemmas.List.Elements.{All-append, All-cons, All-head, All-nil, All-push, All-tail, All-weaker}
 use Rattle.idx_geom.specs.Region.{HoldsAll}
 use Rattle.idx_geom.proofs.RegionSteps.{HasExactly-common}
 use Rattle.idx_header.specs.Header.{HeaderValue, IsHeader}
@@ -16,7 +16,7 @@ use Rattle.idx_ranks.specs.Loads.{IsLoad}
 use Rattle.idx_ranks.specs.declared.load.Load.{Load}
 use Rattle.idx_aggregate.specs.Docks.{AreReady, pieces_in}
 use Rattle.idx_aggregate.specs.Shipping.{AreMade, AreShipping, CanTake, with_shipments}
-use Rattle.idx_aggregate.specs.Jobs.{AreDelivering, AreTaken, IsDone, IsToShip, Ships}
+use Rattle.idx_aggregate.specs.Jobs.{AreDelivering, AreJoined, AreTaken, IsDone, IsToShip, Ships}
 use Rattle.idx_aggregate.specs.declared.job.Job.{Job}
 use Rattle.idx_aggregate.proofs.AwaitedLemmas.{All-front}
 use Rattle.idx_aggregate.proofs.GainLemmas.{shipping_none}
@@ -53,12 +53,58 @@ jobs_ship h [] (job ∷ jobs) same valid = let wrong : job.load ∷ map (λ (job
 jobs_ship h (load ∷ row) (job ∷ jobs) same valid =
     let first : job.load ≡ Some load = cc in
     let rest : map (λ (job : Job). job.load) jobs ≡ map Some row = cc in
-    All-cons (IsToShip h) job jobs (record { load = load; is = first; valid = All-head (IsLoad h) load row valid })
+    All-cons (IsToShip h) job jobs (record { valid = λ x some. let same : load ≡ x = cc in subst (IsLoad h) same (All-head (IsLoad h) load row valid) })
     (jobs_ship h row jobs rest (All-tail (IsLoad h) load row valid))
 
 pub row_ships : (h : HeaderValue) (loads left : List Load) (jobs : List Job) → All (IsLoad h) loads → AreTaken loads left jobs → All (IsToShip h) jobs
 row_ships h loads left jobs valid taken =
     jobs_ship h taken.row jobs taken.each (All-front (IsLoad h) taken.row left (subst (All (IsLoad h)) (sym taken.is) valid))
+
+-- ---- jobs without a load behind them
+
+-- one more
+pub joined_next : (jobs all new : List Job) (job : Job) → job.load ≡ None → new ≡ all ++ job ∷ [] → AreJoined jobs all → AreJoined jobs new
+joined_next jobs all new job none pushed joined =
+    let n : ℕ = length jobs in
+    let most : n ≤ length all =
+    omega (arith, ap length joined.first, ap length (take-append-drop n all), length-append (take n all) (drop n all)) in
+    record {
+      first = ap (take n) pushed ∙ take-append-le n all (job ∷ []) most ∙ joined.first;
+      idle = subst (All (λ (job : Job). job.load ≡ None)) (sym (ap (drop n) pushed ∙ drop-append-le n all (job ∷ []) most))
+          (All-push (λ (job : Job). job.load ≡ None) (drop n all) job joined.idle none);
+    }
+
+pub joined_none : (jobs : List Job) → AreJoined jobs jobs
+joined_none jobs = record {
+  first = take_all (length jobs) jobs (omega arith);
+  idle = subst (All (λ (job : Job). job.load ≡ None)) (sym (drop_all (length jobs) jobs (omega arith))) (All-nil (λ (job : Job). job.load ≡ None));
+}
+
+-- they can be run
+pub joined_ship : (h : HeaderValue) (jobs all : List Job) → All (IsToShip h) jobs → AreJoined jobs all → All (IsToShip h) all
+joined_ship h jobs all ship joined =
+    let n : ℕ = length jobs in
+    let none : (job : Job) → job.load ≡ None → IsToShip h job = λ job is. record { valid = λ x some. let wrong : None ≡ Some x = sym is ∙ some in absurd (cc) } in
+    subst (All (IsToShip h)) (take-append-drop n all)
+    (All-append (IsToShip h) (take n all) (drop n all) (subst (All (IsToShip h)) (sym joined.first) ship)
+    (All-weaker (λ (job : Job). job.load ≡ None) (IsToShip h) none (drop n all) joined.idle))
+
+-- and what was made of the others stands before them
+pub joined_made : (h : HeaderValue) (jobs all ran made : List Job) (count : ℕ) → AreJoined jobs all → count ≡ length jobs → length ran ≡ length all → made ≡ take count ran →
+    ((i : ℕ) (d : Job) → i < length all → Ships h (slice_index_or all i d) (slice_index_or ran i d)) →
+    (length made ≡ length jobs) × ((i : ℕ) (d : Job) → i < length jobs → Ships h (slice_index_or jobs i d) (slice_index_or made i d))
+joined_made h jobs all ran made count joined is many cut each =
+    let n : ℕ = length jobs in
+    let most : n ≤ length all =
+    omega (arith, ap length joined.first, ap length (take-append-drop n all), length-append (take n all) (drop n all)) in
+    let fits : count ≤ length ran = omega (arith, is, many, most) in
+    let long : length made ≡ n = ap length cut ∙ length-take-le count ran fits ∙ is in (
+      long,
+      λ i d within.
+          let old : slice_index_or jobs i d ≡ slice_index_or all i d = ap (λ xs. slice_index_or xs i d) (sym joined.first) ∙ get_or-take n all i d within in
+          let new : slice_index_or made i d ≡ slice_index_or ran i d = ap (λ xs. slice_index_or xs i d) cut ∙ get_or-take count ran i d (omega (arith, is, within)) in
+          subst (λ job. Ships h job (slice_index_or made i d)) (sym old) (subst (Ships h (slice_index_or all i d)) (sym new) (each i d (omega (arith, most, within)))),
+    )
 
 -- ---- a row is delivered
 

@@ -1,6 +1,7 @@
 -- What workers make of loads.
-use Rattle.std.specs.Prelude.{◌≡◌, List, ◌++◌, map, Some, IfOk}
+use Rattle.std.specs.Prelude.{◌≡◌, List, ◌++◌, All, drop, length, map, take, None, Some, IfOk}
 use Rattle.std.specs.List.{AllZip}
+use Rattle.std.specs.Option.{ForSome}
 use Rattle.idx_header.specs.Header.{HeaderValue}
 use Rattle.idx_dock.specs.Dock.{DockValue}
 use Rattle.idx_ranks.specs.Loads.{IsLoad}
@@ -8,11 +9,9 @@ use Rattle.idx_ranks.specs.declared.load.Load.{Load}
 use Rattle.idx_aggregate.specs.Shipping.{AreMade, AreShipping}
 use Rattle.idx_aggregate.specs.declared.job.Job.{Job}
 
--- a worker is to ship a load
+-- a worker is to ship a load, or has none
 pub record IsToShip (h : HeaderValue) (job : Job) : Type 0 where
-  pub load : Load
-  pub is : job.load ≡ Some load
-  pub valid : IsLoad h load
+  pub valid : ForSome job.load (IsLoad h)
 
 -- what a worker made of a load, if there was memory, are its shipments
 abbrev pub IsDone : HeaderValue → Load → Job → Type 0
@@ -21,6 +20,11 @@ IsDone h load job = IfOk job.made (λ made. AreMade h load made.items)
 -- what a worker makes of a job
 pub record Ships (h : HeaderValue) (old new : Job) : Type 0 where
   pub done : (load : Load) → old.load ≡ Some load → IsDone h load new
+
+-- jobs, and behind them some without a load
+pub record AreJoined (jobs all : List Job) : Type 0 where
+  pub first : take (length jobs) all ≡ jobs
+  pub idle : All (λ job. job.load ≡ None) (drop (length jobs) all)
 
 -- jobs for the first of some loads, and the loads behind them
 pub record AreTaken (loads left : List Load) (jobs : List Job) : Type 0 where

@@ -4,7 +4,7 @@ ghost use Rattle.std.specs.VecDeque.{deque_len};
 ghost use Rattle.idx_ranks.specs.Loads.{IsLoad};
 ghost use Rattle.idx_aggregate.specs.Docks.{AreReady, pieces_in};
 ghost use Rattle.idx_aggregate.specs.Shipping.{AreShipping};
-ghost use Rattle.idx_aggregate.specs.Jobs.{AreTaken, IsToShip, Ships};
+ghost use Rattle.idx_aggregate.specs.Jobs.{AreJoined, AreTaken, IsToShip, Ships};
 ghost use Rattle.idx_aggregate.specs.declared.job.Job.{Job as AJob};
 
 use crate::delivery::deliver_all;
@@ -37,9 +37,12 @@ pub(crate) fn ship_row<G: Gate, R: Threads + Sync>(
     ensures fewer { OnOk result (0 < deque_len loads.old → deque_len loads.new < deque_len loads.old) }
 {
     let _valid = header.axes();
-    let left = loads.len();
+    let last = loads.len() <= workers as usize;
     let mut jobs = take_row(alloc, loads, workers)?;
-    run_row(rt, alloc, header, &mut jobs, left, workers, gate);
+    let count = jobs.len();
+    add_idle(&mut jobs, workers)?;
+    run_row(rt, alloc, header, &mut jobs, last, workers, gate);
+    jobs.truncate(count);
     for job in jobs {
         let Job { load: _load, made } = job;
         deliver_all(docks, made?);
@@ -55,7 +58,7 @@ fn take_row(alloc: Global, loads: &mut VecDeque<Load>, workers: u32) -> Result<V
     ensures some { IfOk result (λ jobs. 1 ≤ workers → 0 < deque_len loads.old → 0 < vec_len jobs) }
 {
     let count = loads.len().min(workers as usize);
-    let mut jobs = Vec::with_capacity(alloc, count)?;
+    let mut jobs = Vec::with_capacity(alloc, workers as usize)?;
     for taken in 0..count {
         let load = loads.pop_front().unwrap();
         jobs.push(Job {
@@ -66,13 +69,28 @@ fn take_row(alloc: Global, loads: &mut VecDeque<Load>, workers: u32) -> Result<V
     Ok(jobs)
 }
 
-/// Runs jobs, each in a thread of its own where one can be had. So many loads were left, those of the jobs among them.
+/// Adds jobs without a load, so that each worker has one.
+fn add_idle(jobs: &mut Vec<Job>, workers: u32) -> Result<(), NoMemory>
+    ensures joined { OnOk result (AreJoined jobs.old.items jobs.new.items) }
+    ensures few { OnOk result (vec_len jobs.old ≤ workers → vec_len jobs.new ≤ workers) }
+{
+    'idle: while jobs.len() < workers as usize {
+        jobs.push(Job {
+            load: None,
+            made: Err(NoMemory),
+        })?;
+    }
+    Ok(())
+}
+
+/// Runs jobs, each in a thread of its own where one can be had. In the last row each worker passes the gate behind its
+/// job.
 fn run_row<G: Gate, R: Threads + Sync>(
     rt: &R,
     alloc: Global,
     header: &Header,
     jobs: &mut Vec<Job>,
-    left: usize,
+    last: bool,
     workers: u32,
     gate: &G,
 )
@@ -92,7 +110,7 @@ fn run_row<G: Gate, R: Threads + Sync>(
             ensures { Ships header.entry.now job.old job.new }
         {
             job.run(alloc, header);
-            if i + workers as usize >= left {
+            if last {
                 gate.pass(GatePlace::Shipped, i as u32);
             }
         },

@@ -14,8 +14,9 @@ use std::thread::Threads;
 /// Assembles the pieces of loads, puts them into hierarchical order and hands their samples to the docks of the files,
 /// which come back. Load j, counted from 0, is put in order by worker j mod `workers`, `workers` loads at a time. After
 /// each of these rows the calling thread hands on what they made, in the order of the loads. Samples for files without
-/// a dock are dropped, and no sample is copied on its way into a dock. A worker passes the gate when the last of its
-/// loads is in order. `NoMemory` where a worker, or the list of a row, found no memory.
+/// a dock are dropped, and no sample is copied on its way into a dock. Each worker passes the gate as `Shipped` in the
+/// last row, when its load is in order or at once where it has none. `NoMemory` where a worker, or the list of a row,
+/// found no memory.
 pub fn ship_loads<G: Gate, R: Threads + Sync>(
     rt: &R,
     alloc: Global,
