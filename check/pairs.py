@@ -1,13 +1,13 @@
 #!/usr/bin/env python3
 """Starts pairs of `convert` at the same time over real folders, and looks at what stands afterwards.
 
-    check/pairs.py PROGRAM [--pairs 200]
+    check/pairs.py PROGRAM [--pairs 200] [--kind "other steps, no header yet"]
 
 Each pair writes into a folder of its own. Some write the same step out of two volumes, some write other steps under one
-header, and some the same step under other headers. However a pair went: each revision that stands is whole and of one
-run, a run that ends with 0 has left its files, as a revision of its own, and its header, and the other says why. Runs
-of other steps under a header that stands both end with 0, and runs under other headers never do. The last line is
-`N passed, M failed`.
+header that stands, is empty or is not there yet, and some the same step under other headers. However a pair went: each
+revision that stands is whole and of one run, a run that ends with 0 has left its files, as a revision of its own, and its
+header, and the other says why. Runs of other steps under one header both end with 0, and runs under other headers never
+do. The last line is `N passed, M failed`.
 """
 import argparse
 import subprocess
@@ -20,7 +20,8 @@ BOX = f"0 {SIDE - 1} 0 {SIDE - 1} 0 {SIDE - 1}"
 MASK = "V" + "012" * 6
 FIELD = "a uint8"
 TIMES = "0 99 time%04d/"
-KINDS = ["same step", "same step, no header yet", "other steps", "other steps, no header yet", "other headers"]
+KINDS = ["same step", "same step, no header yet", "other steps", "other steps, no header yet", "other steps, empty header",
+         "other headers"]
 WHY = ("another run is writing this step", "something stands there already")
 OTHER_HEADER = 6
 STORE_FAULT = 5
@@ -93,11 +94,13 @@ def check_pair(program, top, raws, wanted, kind):
     blocks = (2, 4) if kind == "other headers" else (2, 2)
     if kind in ("same step", "other steps"):
         dataset.write_bytes(wanted.header[2])
+    if kind.endswith("empty header"):
+        dataset.write_bytes(b"")
     names = ("a", "b")
     ends = run_both(*(words(program, dataset, raws[names[n]], times[n], blocks[n]) for n in (0, 1)))
     good = [n for n in (0, 1) if ends[n][0] == 0]
     wrong = [found for n in (0, 1) if n not in good for found in [refusal(*ends[n], kind)] if found]
-    if kind == "other steps" and len(good) != 2:
+    if kind.startswith("other steps") and len(good) != 2:
         wrong.append(f"other steps ended with {ends[0][0]} and {ends[1][0]}")
     if kind == "other headers" and len(good) == 2:
         wrong.append("both ended with 0")
@@ -128,6 +131,7 @@ def main():
     parser = argparse.ArgumentParser(description=__doc__.split("\n")[0])
     parser.add_argument("program", type=Path)
     parser.add_argument("--pairs", type=int, default=200)
+    parser.add_argument("--kind", choices=KINDS)
     asked = parser.parse_args()
     program = str(asked.program.resolve())
     passed = failed = 0
@@ -139,7 +143,7 @@ def main():
             raw.write_bytes(bytes((at * 7 + (name == "b") * 3 + at // 251) % 251 for at in range(SIDE ** 3)))
         wanted = Wanted(program, top, raws)
         for number in range(asked.pairs):
-            kind = KINDS[number % len(KINDS)]
+            kind = asked.kind or KINDS[number % len(KINDS)]
             ends, wrong = check_pair(program, top / f"pair{number}", raws, wanted, kind)
             statuses = tuple(sorted(end[0] for end in ends))
             count[kind, statuses] = count.get((kind, statuses), 0) + 1
