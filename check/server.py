@@ -229,6 +229,7 @@ REASONS = {200: b"OK", 400: b"Bad Request", 404: b"Not Found", 405: b"Method Not
            431: b"Request Header Fields Too Large", 500: b"Internal Server Error", 501: b"Not Implemented",
            503: b"Service Unavailable"}
 MOST_REPLIES = 65_536
+MOST_READ = 2**23
 Fields = list[tuple[bytes, bytes]]
 
 
@@ -360,6 +361,7 @@ def replies(site: Site, sent: bytes) -> tuple[list[list[bytes]], bool]:
     """
     made: list[bytes] = []
     start = 0
+    sent = sent[:MOST_READ]
     while True:
         found = next_head(sent[start:start + LONGEST_HEAD])
         head = found[0]
