@@ -49,7 +49,8 @@ where
 
     // Every link that was handed out was served out of the steps that stand, and came back.
     ensures hosted { IfOk result (Hosted
-        (tells (link_tells D.Link.incoming D.Link.written D.Link.faults) D.told D.faults R.faults R.reads)
+        (tells (link_tells D.Link.incoming D.Link.written D.Link.readings D.Link.faults)
+        D.told D.faults R.faults R.reads)
         name.now (B.header bay.old) (B.files bay.old) workers
         doors.old.items doors.new.items readers.old.items readers.new.items) }
 
@@ -108,7 +109,8 @@ where
     requires a_door { workers ≤ vec_len doors.old }
     requires a_reader { workers ≤ vec_len readers.old }
     ensures served { IfOk result (AreServedOut
-        (tells (link_tells D.Link.incoming D.Link.written D.Link.faults) D.told D.faults R.faults R.reads)
+        (tells (link_tells D.Link.incoming D.Link.written D.Link.readings D.Link.faults)
+        D.told D.faults R.faults R.reads)
         site workers doors.old.items doors.new.items readers.old.items readers.new.items hall.board hall.board) }
     ensures only { IfErr result (λ fault. fault ≡ HostFault.NoMemory) }
     ensures doors { OnErr result (doors.new.items ≡ doors.old.items) }
