@@ -63,7 +63,8 @@ where
     requires folder { HasFolder (at_revision revision site.now.header) time }
     requires new { IsNew B.files B.admits (at_revision revision site.now.header) time bay.old }
     ensures served { AreServedOut
-        (tells (link_tells D.Link.incoming D.Link.written D.Link.faults) D.told D.faults R.faults R.reads)
+        (tells (link_tells D.Link.incoming D.Link.written D.Link.readings D.Link.faults)
+        D.told D.faults R.faults R.reads)
         site.now workers doors.old.items doors.new.items readers.old.items readers.new.items
         writer.seen.posts result.0.seen.posts result.1.summary }
     ensures written { IsWritten V.contents V.faults B.header B.files B.begun B.failed B.faults site.now time revision
@@ -118,7 +119,8 @@ where
     requires servers { CanServe lock.now (shape_of site.now.header) (vec_len readers.old) serving.old }
     requires writer { CanWrite V.contents B.files B.admits lock.now site.now writing.old bay.old }
     ensures servers { HasServed
-        (tells (link_tells D.Link.incoming D.Link.written D.Link.faults) D.told D.faults R.faults R.reads)
+        (tells (link_tells D.Link.incoming D.Link.written D.Link.readings D.Link.faults)
+        D.told D.faults R.faults R.reads)
         site.now serving.old serving.new readers.old.items readers.new.items result.0 }
     ensures writer { HasWritten V.contents V.faults B.header B.files B.begun B.failed B.faults
         site.now writing.old writing.new bay.old bay.new result.1 }
@@ -131,7 +133,8 @@ where
         )
             requires { CanServe lock.now (shape_of site.now.header) (vec_len readers.old) side.old }
             ensures { HasServed
-                (tells (link_tells D.Link.incoming D.Link.written D.Link.faults) D.told D.faults R.faults R.reads)
+                (tells (link_tells D.Link.incoming D.Link.written D.Link.readings D.Link.faults)
+                D.told D.faults R.faults R.reads)
                 site.entry.now side.old side.new readers.old.items readers.new.items result }
         { side.run(rt, alloc, site, lock, gate, readers) },
         serving,

@@ -62,7 +62,8 @@ where
 
     // Every link that was handed out was served, and the step was gathered and published beside, or why not.
     ensures live { IfOk result (λ live. Under (B.header bay.old) (λ h. IsLive
-        (tells (link_tells D.Link.incoming D.Link.written D.Link.faults) D.told D.faults R.faults R.reads)
+        (tells (link_tells D.Link.incoming D.Link.written D.Link.readings D.Link.faults)
+        D.told D.faults R.faults R.reads)
         h name.now time (known_of V.contents V.asked V.faults raws.old.items raws.new.items
         B.header B.files B.begun B.changes B.failed B.faults bay.old bay.new) workers
         raws.old.items raws.new.items doors.old.items doors.new.items readers.old.items readers.new.items live)) }

@@ -120,7 +120,8 @@ impl<L: Leaf + Send + Sync, D: Door + Send> Serving<Hall<Edition<L>>, D> {
         D::Link: Send,
         requires { CanServe lock.now (shape_of site.now.header) (vec_len readers.old) self.old }
         ensures { HasServed
-            (tells (link_tells D.Link.incoming D.Link.written D.Link.faults) D.told D.faults R.faults R.reads)
+            (tells (link_tells D.Link.incoming D.Link.written D.Link.readings D.Link.faults)
+            D.told D.faults R.faults R.reads)
             site.now self.old self.new readers.old.items readers.new.items result }
     {
         let seat = self.place.take().unwrap();
