@@ -1,5 +1,6 @@
 -- What is seen of the objects of a run: each object as it was before and as it is after, with the ghost members of its trait.
 use Rattle.std.specs.Prelude.{◌≡◌, ℕ, List, Option, map}
+use Rattle.idx_outside.specs.Input.{Reading}
 use Rattle.idx_outside.specs.Doors.{DoorTold}
 use Rattle.idx_outside.specs.Objects.{contents_at, faults_at}
 use Rattle.idx_outside.specs.declared.bay_call.BayCall.{BayCall}
@@ -162,6 +163,6 @@ readers_seen faults reads old new = record { faults = faults; reads = reads; old
 abbrev pub sink_seen : {K : Type 0} → (K → Option (List ℕ)) → (K → ℕ) → K → K → SinkSeen K
 sink_seen contents faults old new = record { contents = contents; faults = faults; old = old; new = new }
 
-abbrev pub doors_seen : {D L : Type 0} → (D → Option (DoorTold L)) → (D → ℕ) → (L → Option (List ℕ)) → (L → Option (List ℕ)) → (L → ℕ) → List D → List D → DoorsSeen D L
-doors_seen told faults incoming written link_faults old new =
-    record { told = told; faults = faults; links = link_tells incoming written link_faults; old = old; new = new }
+abbrev pub doors_seen : {D L : Type 0} → (D → Option (DoorTold L)) → (D → ℕ) → (L → Option (List ℕ)) → (L → Option (List ℕ)) → (L → Option (List Reading)) → (L → ℕ) → List D → List D → DoorsSeen D L
+doors_seen told faults incoming written readings link_faults old new =
+    record { told = told; faults = faults; links = link_tells incoming written readings link_faults; old = old; new = new }

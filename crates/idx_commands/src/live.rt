@@ -58,7 +58,8 @@ where
         (bay_seen B.header B.files B.begun B.changes B.failed B.faults bay.old bay.new)
         (readers_seen R.faults R.reads readers.old.items readers.new.items)
         (sink_seen K.contents K.faults out.old out.new)
-        (doors_seen D.told D.faults D.Link.incoming D.Link.written D.Link.faults doors.old.items doors.new.items)
+        (doors_seen D.told D.faults D.Link.incoming D.Link.written D.Link.readings D.Link.faults
+        doors.old.items doors.new.items)
         result }
 {
     let used = raws.len().min(MOST_RAWS);
@@ -107,7 +108,8 @@ where
         (bay_seen B.header B.files B.begun B.changes B.failed B.faults bay.old bay.new)
         (readers_seen R.faults R.reads readers.old.items readers.new.items)
         (sink_seen K.contents K.faults out.old out.new)
-        (doors_seen D.told D.faults D.Link.incoming D.Link.written D.Link.faults doors.old.items doors.new.items)
+        (doors_seen D.told D.faults D.Link.incoming D.Link.written D.Link.readings D.Link.faults
+        doors.old.items doors.new.items)
         result }
     ensures sink_answered { K.faults out.old < K.faults out.new → result ≡ Cause.SinkFault }
     ensures same { SameContents V.contents raws.old.items raws.new.items }

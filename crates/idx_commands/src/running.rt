@@ -89,7 +89,8 @@ where
         (bay_seen B.header B.files B.begun B.changes B.failed B.faults bay.old bay.new)
         (readers_seen R.faults R.reads readers.old.items readers.new.items)
         (sink_seen K.contents K.faults out.old out.new)
-        (doors_seen D.told D.faults D.Link.incoming D.Link.written D.Link.faults doors.old.items doors.new.items)
+        (doors_seen D.told D.faults D.Link.incoming D.Link.written D.Link.readings D.Link.faults
+        doors.old.items doors.new.items)
         result.cause }
 
     // Usage comes exactly where the words are not in the grammar, and then nothing was asked of any object. Its place is
@@ -102,7 +103,8 @@ where
         (bay_seen B.header B.files B.begun B.changes B.failed B.faults bay.old bay.new)
         (readers_seen R.faults R.reads readers.old.items readers.new.items)
         (sink_seen K.contents K.faults out.old out.new)
-        (doors_seen D.told D.faults D.Link.incoming D.Link.written D.Link.faults doors.old.items doors.new.items)) }
+        (doors_seen D.told D.faults D.Link.incoming D.Link.written D.Link.readings D.Link.faults
+        doors.old.items doors.new.items)) }
     ensures given { result.status ≢ 1 → GiveCommand (map string_bytes words.now) }
 
     // Each fault was counted, and each that was counted is answered; and what a run does not use stays as it was.
@@ -111,13 +113,15 @@ where
         (bay_seen B.header B.files B.begun B.changes B.failed B.faults bay.old bay.new)
         (readers_seen R.faults R.reads readers.old.items readers.new.items)
         (sink_seen K.contents K.faults out.old out.new)
-        (doors_seen D.told D.faults D.Link.incoming D.Link.written D.Link.faults doors.old.items doors.new.items)) result.cause }
+        (doors_seen D.told D.faults D.Link.incoming D.Link.written D.Link.readings D.Link.faults
+        doors.old.items doors.new.items)) result.cause }
     ensures rest { LeavesRest (map string_bytes words.now) (run_seen
         (raws_seen V.contents V.faults V.asked raws.old.items raws.new.items)
         (bay_seen B.header B.files B.begun B.changes B.failed B.faults bay.old bay.new)
         (readers_seen R.faults R.reads readers.old.items readers.new.items)
         (sink_seen K.contents K.faults out.old out.new)
-        (doors_seen D.told D.faults D.Link.incoming D.Link.written D.Link.faults doors.old.items doors.new.items)) }
+        (doors_seen D.told D.faults D.Link.incoming D.Link.written D.Link.readings D.Link.faults
+        doors.old.items doors.new.items)) }
 {
     match read_words(words) {
         Ok(command) => run_command(rt, alloc, words, &command, raws, bay, readers, out, doors),
@@ -159,7 +163,8 @@ where
         (bay_seen B.header B.files B.begun B.changes B.failed B.faults bay.old bay.new)
         (readers_seen R.faults R.reads readers.old.items readers.new.items)
         (sink_seen K.contents K.faults out.old out.new)
-        (doors_seen D.told D.faults D.Link.incoming D.Link.written D.Link.faults doors.old.items doors.new.items)) command.now result.cause }
+        (doors_seen D.told D.faults D.Link.incoming D.Link.written D.Link.readings D.Link.faults
+        doors.old.items doors.new.items)) command.now result.cause }
 {
     match command {
         Command::Cut(_) => run_cut(alloc, words, raws, out),

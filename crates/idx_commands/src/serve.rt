@@ -63,7 +63,8 @@ where
         (bay_seen B.header B.files B.begun B.changes B.failed B.faults bay.old bay.new)
         (readers_seen R.faults R.reads readers.old.items readers.new.items)
         (sink_seen K.contents K.faults out.old out.new)
-        (doors_seen D.told D.faults D.Link.incoming D.Link.written D.Link.faults doors.old.items doors.new.items)
+        (doors_seen D.told D.faults D.Link.incoming D.Link.written D.Link.readings D.Link.faults
+        doors.old.items doors.new.items)
         result.cause }
 
     // Usage comes exactly where the words are not in the grammar, and then nothing was asked of any object.
@@ -119,7 +120,8 @@ where
         (bay_seen B.header B.files B.begun B.changes B.failed B.faults bay.old bay.new)
         (readers_seen R.faults R.reads readers.old.items readers.new.items)
         (sink_seen K.contents K.faults out.old out.new)
-        (doors_seen D.told D.faults D.Link.incoming D.Link.written D.Link.faults doors.old.items doors.new.items)
+        (doors_seen D.told D.faults D.Link.incoming D.Link.written D.Link.readings D.Link.faults
+        doors.old.items doors.new.items)
         result }
 {
     match &words.ingest {
@@ -154,7 +156,8 @@ where
     ensures { ServeEnds words.now (bay_seen B.header B.files B.begun B.changes B.failed B.faults bay.old bay.new)
         (readers_seen R.faults R.reads readers.old.items readers.new.items)
         (sink_seen K.contents K.faults out.old out.new)
-        (doors_seen D.told D.faults D.Link.incoming D.Link.written D.Link.faults doors.old.items doors.new.items)
+        (doors_seen D.told D.faults D.Link.incoming D.Link.written D.Link.readings D.Link.faults
+        doors.old.items doors.new.items)
         result }
 {
     serve(rt, alloc, words, bay, readers, out, doors)
@@ -192,7 +195,8 @@ where
         (bay_seen B.header B.files B.begun B.changes B.failed B.faults bay.old bay.new)
         (readers_seen R.faults R.reads readers.old.items readers.new.items)
         (sink_seen K.contents K.faults out.old out.new)
-        (doors_seen D.told D.faults D.Link.incoming D.Link.written D.Link.faults doors.old.items doors.new.items) result }
+        (doors_seen D.told D.faults D.Link.incoming D.Link.written D.Link.readings D.Link.faults
+        doors.old.items doors.new.items) result }
     ensures unfailed { status_of result ≢ 5 → B.failed bay.new ≡ B.failed bay.old }
     ensures bay_answered { B.faults bay.old < B.faults bay.new → result ≡ Cause.StoreFault }
     ensures sink_answered { K.faults out.old < K.faults out.new → result ≡ Cause.SinkFault }

@@ -16,7 +16,7 @@ returns-in-Ok-clause-means g c =
     let bay = bay_seen g.B.Bay.header g.B.Bay.files g.B.Bay.begun g.B.Bay.changes g.B.Bay.failed g.B.Bay.faults c.args.bay.now c.host_live.new.bay in
     let readers = readers_seen g.R.Reader.faults g.R.Reader.reads c.args.readers.now.items c.host_live.new.readers.items in
     let sink = sink_seen g.K.Sink.contents g.K.Sink.faults c.args.out.now c.conclude.new.out in
-    let doors = doors_seen g.D.Door.told g.D.Door.faults g.D.Link.Link.incoming g.D.Link.Link.written g.D.Link.Link.faults c.args.doors.now.items c.host_live.new.doors.items in
+    let doors = doors_seen g.D.Door.told g.D.Door.faults g.D.Link.Link.incoming g.D.Link.Link.written g.D.Link.Link.readings g.D.Link.Link.faults c.args.doors.now.items c.host_live.new.doors.items in
     let d : c.len.result ≡ length c.args.doors.now.items = search rules in
     let r : c.len-2.result ≡ length c.args.readers.now.items = search rules in
     let many : c.workers_for-workers.result ≡ min c.args.words.now.workers (min (length c.args.doors.now.items) (length c.args.readers.now.items)) =
@@ -41,7 +41,7 @@ returns-in-Err-clause-means g c =
     let bay = bay_seen g.B.Bay.header g.B.Bay.files g.B.Bay.begun g.B.Bay.changes g.B.Bay.failed g.B.Bay.faults c.args.bay.now c.host_live.new.bay in
     let readers = readers_seen g.R.Reader.faults g.R.Reader.reads c.args.readers.now.items c.host_live.new.readers.items in
     let sink = sink_seen g.K.Sink.contents g.K.Sink.faults c.args.out.now c.args.out.now in
-    let doors = doors_seen g.D.Door.told g.D.Door.faults g.D.Link.Link.incoming g.D.Link.Link.written g.D.Link.Link.faults c.args.doors.now.items c.host_live.new.doors.items in
+    let doors = doors_seen g.D.Door.told g.D.Door.faults g.D.Link.Link.incoming g.D.Link.Link.written g.D.Link.Link.readings g.D.Link.Link.faults c.args.doors.now.items c.host_live.new.doors.items in
     let said = c.in-Err.ensures in
     let caused = subst (λ step. IsCause step (known raws bay) (reader_before readers) (reader_after readers) c.in-Err.fault) (ap (λ (i : IngestValue). i.step) c.ingest.view_is) said.cause in
     inl (

@@ -12,7 +12,7 @@ returns-in_default g c =
     let bay = bay_seen g.B.Bay.header g.B.Bay.files g.B.Bay.begun g.B.Bay.changes g.B.Bay.failed g.B.Bay.faults c.args.bay.now c.args.bay.now in
     let readers = readers_seen g.R.Reader.faults g.R.Reader.reads c.args.readers.now.items c.args.readers.now.items in
     let sink = sink_seen g.K.Sink.contents g.K.Sink.faults c.args.out.now c.args.out.now in
-    let doors = doors_seen g.D.Door.told g.D.Door.faults g.D.Link.Link.incoming g.D.Link.Link.written g.D.Link.Link.faults c.args.doors.now.items c.args.doors.now.items in
+    let doors = doors_seen g.D.Door.told g.D.Door.faults g.D.Link.Link.incoming g.D.Link.Link.written g.D.Link.Link.readings g.D.Link.Link.faults c.args.doors.now.items c.args.doors.now.items in
     let a_raw : 0 < length c.args.raws.now.items = search rules in
     let a_reader : 0 < length c.args.readers.now.items = search rules in
     let a_door : 0 < length c.args.doors.now.items = search rules in
@@ -40,7 +40,7 @@ returns g c =
     let bay = bay_seen g.B.Bay.header g.B.Bay.files g.B.Bay.begun g.B.Bay.changes g.B.Bay.failed g.B.Bay.faults c.args.bay.now c.serve_beside-cause.new.bay in
     let readers = readers_seen g.R.Reader.faults g.R.Reader.reads c.args.readers.now.items c.serve_beside-cause.new.readers.items in
     let sink = sink_seen g.K.Sink.contents g.K.Sink.faults c.args.out.now c.serve_beside-cause.new.out in
-    let doors = doors_seen g.D.Door.told g.D.Door.faults g.D.Link.Link.incoming g.D.Link.Link.written g.D.Link.Link.faults c.args.doors.now.items c.serve_beside-cause.new.doors.items in
+    let doors = doors_seen g.D.Door.told g.D.Door.faults g.D.Link.Link.incoming g.D.Link.Link.written g.D.Link.Link.readings g.D.Link.Link.faults c.args.doors.now.items c.serve_beside-cause.new.doors.items in
     let uses : Uses raws first after rest = record { was = was; is = is; number = as_many g.V.Source.contents first after said.same; many = many } in
     live_ends c.args.words.now c.args.ingest.now raws bay readers sink doors first after rest uses some a_reader a_door c.requires.sound.some_workers
     c.serve_beside-cause.result said.means said.sink_answered said.same said.raw_count said.header said.bay_count said.sink_count
