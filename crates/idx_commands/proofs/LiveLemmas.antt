@@ -18,12 +18,13 @@ use Rattle.idx_convert.proofs.FirstLemmas.{Parted, contents_first, idle_all, non
 use Rattle.idx_convert.proofs.StageLemmas.{none_higher}
 use Rattle.idx_extract.specs.Extract.{Under}
 use Rattle.idx_serve.specs.declared.door.ServeEnd.TheVariants as ends
+use Rattle.idx_workers.specs.Workers.{Tells}
 use Rattle.idx_ingest.specs.declared.ingest_end.IngestEnd.{IngestEnd}
 use Rattle.idx_ingest.specs.declared.ingest_end.IngestEnd.TheVariants as ingests
 use Rattle.idx_ingest.specs.Ingested.{IsIngested, Known as IngestKnown, known as known_of_ingest}
 use Rattle.idx_hall.specs.Posts.{Post}
 use Rattle.idx_board.specs.Standing.{first_bad_row}
-use Rattle.idx_live.specs.Live.{IsBayFault, IsCause, IsReaderFault, IsReady, MayWrite, OnlyLoads, OnlyLooks, OnlyMeasures}
+use Rattle.idx_live.specs.Live.{IsBayFault, IsCause, IsLive, IsReaderFault, IsReady, MayWrite, OnlyLoads, OnlyLooks, OnlyMeasures}
 use Rattle.idx_live.specs.declared.live_end.Live.{Live}
 use Rattle.idx_live.specs.declared.live_fault.LiveFault.{LiveFault}
 use Rattle.idx_live.specs.declared.live_fault.LiveFault.TheVariants as faults
@@ -67,6 +68,12 @@ one_part (Some x) P Q both = both.0
 other_part : {X : Type 0} (o : Option X) (P Q : X → Type 0) → IsSomeAnd o (λ x. P x × Q x) → IsSomeAnd o Q
 other_part None P Q both = both
 other_part (Some x) P Q both = both.1
+
+-- want of memory is not a refusal of the step
+pub no_starved_refusal : {V L D R : Type 0} {tell : Tells L D R} {h : HeaderValue} {name : List ℕ} {time : ℕ} {k : Known} {workers : ℕ} {raws_old raws_new : List V} {doors_old doors_new : List D}
+    {readers_old readers_new : List R} {live : Live} → IsLive tell h name time k workers raws_old raws_new doors_old doors_new readers_old readers_new live → live.ingested ≢ ingests.Refused gathers.NoMemory
+no_starved_refusal {time = time} {k = k} is refused =
+    (subst (λ end. IsIngested is.written time (known_of_ingest k.raw k.raw_before k.raw_after k.files k.files_after k.bay_before k.bay_after) is.posts is.last end) refused is.ingested).3 refl
 
 module _ {V B R K D L : Type 0} (v : ServeValue) (i : IngestValue) (raws : RawsSeen V) (bay : BaySeen B) (readers : ReadersSeen R) (sink : SinkSeen K) (doors : DoorsSeen D L) where
   abbrev header : Option (List ℕ)

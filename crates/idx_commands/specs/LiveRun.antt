@@ -63,12 +63,6 @@ seen_of raws old new = record { contents = raws.contents; faults = raws.faults; 
 abbrev pub IsPublished : IngestEnd → Type 0
 IsPublished end = (post : ℕ) × (end ≡ ingests.Published post)
 
--- there was no memory for gathering or for publishing
-abbrev pub IsStarved : IngestEnd → Type 0
-IsStarved ingests.NoMemory = Unit {0}
-IsStarved (ingests.Refused gathers.NoMemory) = Unit {0}
-IsStarved end = ⊥
-
 -- no worker of the server met want of memory
 abbrev pub IsFed : Live → Type 0
 IsFed live = live.summary.end ≢ ends.NoMemory
@@ -91,7 +85,7 @@ Concludes sink l causes.RawFault =
 Concludes sink l causes.StoreFault =
     ((count : ℕ) × (l.ingested ≡ ingests.Refused (gathers.StoreFault count))) × IsFed l × (sink.new ≡ sink.old)
 Concludes sink l causes.NoMemory =
-    (IsStarved l.ingested ⊎ ((l.summary.end ≡ ends.NoMemory) ⊎ (IsPublished l.ingested × (l.summary.end ≡ ends.Done))))
+    ((l.ingested ≡ ingests.NoMemory) ⊎ ((l.summary.end ≡ ends.NoMemory) ⊎ (IsPublished l.ingested × (l.summary.end ≡ ends.Done))))
     × (sink.new ≡ sink.old)
 Concludes sink l _ = ⊥
 

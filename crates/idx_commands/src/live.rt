@@ -138,8 +138,9 @@ where
 }
 
 /// Writes how many links and heads there were, where the step was published, each door handed out all its links and there
-/// was memory for each head.
+/// was memory for each head. Want of memory is no refusal of the step.
 fn conclude<K: Sink>(alloc: Global, live: &Live, out: &mut K) -> Cause
+    requires { live.now.ingested ≢ IngestEnd.Refused GatherFault.NoMemory }
     ensures says { Concludes (sink_seen K.contents K.faults out.old out.new) live.now result }
     ensures answered { K.faults out.old < K.faults out.new → result ≡ Cause.SinkFault }
     ensures count { NeverFalls (K.faults out.old) (K.faults out.new) }
@@ -152,7 +153,7 @@ fn conclude<K: Sink>(alloc: Global, live: &Live, out: &mut K) -> Cause
                 GatherFault::RawWrongSize { want, found } => Cause::RawWrongSize { want, found },
                 GatherFault::RawFault { .. } => Cause::RawFault,
                 GatherFault::StoreFault { .. } => Cause::StoreFault,
-                GatherFault::NoMemory => Cause::NoMemory,
+                GatherFault::NoMemory => unreachable!(),
             },
         },
         IngestEnd::Published { .. } => match live.summary.end {

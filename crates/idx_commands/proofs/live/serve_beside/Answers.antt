@@ -7,8 +7,11 @@ use Rattle.idx_commands.specs.SiteName.{site_name}
 use Rattle.idx_commands.specs.Seen.{bay_seen, doors_seen, raws_seen, reader_after, reader_before, readers_seen, sink_seen}
 use Rattle.idx_commands.specs.ServeRun.{tells_of}
 use Rattle.idx_commands.specs.LiveRun.{cause_of_live}
-use Rattle.idx_commands.proofs.LiveLemmas.{stops_of}
+use Rattle.idx_commands.proofs.LiveLemmas.{no_starved_refusal, stops_of}
 use Rattle.idx_commands.proofs.live.serve_beside.Goals as goal
+
+pub conclude-requires : goal.conclude-requires
+conclude-requires g c = no_starved_refusal c.in-Ok.ensures.live.1.1
 
 pub returns-in-Ok-clause-means : goal.returns-in-Ok-clause-means
 returns-in-Ok-clause-means g c =
