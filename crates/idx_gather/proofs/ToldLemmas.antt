@@ -116,11 +116,13 @@ written_told h step leaves are = record {
 pub step_told : (h : HeaderValue) (step : ℕ) (known : Option (List MemFile)) (sealed : List (List ℕ × Option (List ℕ))) → AreAllFiles h step sealed → TellAs known sealed →
     (raw : List ℕ) × IsStepOf h step known sealed raw
 step_told h step known sealed are tell =
-    let some = raw_is h are.volume are.is in
-    (some.0, record {
-      whole = some.1.0;
-      same = known_told known sealed (step_files Hz h are.volume step) tell are.tell ∙ ap (λ v. known_files known (step_files Hz h v step)) (sym some.1.1);
-    })
+    let some = raw_is h are.volume are.is in (
+      some.0,
+      record {
+        whole = some.1.0;
+        same = known_told known sealed (step_files Hz h are.volume step) tell are.tell ∙ ap (λ v. known_files known (step_files Hz h v step)) (sym some.1.1);
+      },
+    )
 
 -- there is one
 pub some_told : {L : Type 0} (contents : L → Option (List ℕ)) (h : HeaderValue) (step : ℕ) (leaves : List (List ℕ × L)) → IsHeader h → AreAllFiles h step (shown contents leaves) → 0 < length leaves

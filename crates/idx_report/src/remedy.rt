@@ -34,11 +34,10 @@ pub(crate) fn print_remedy<W: Write>(
 /// Prints how many digits the template needs.
 fn print_digits<W: Write>(err: &mut W, needed: Option<u32>) -> io::Result<()> {
     match needed {
-        Some(digits) =>
-            writeln!(
-                err,
-                "  its marks need {digits} hexadecimal digits together, as ./%0{digits}x.bin has them"
-            ),
+        Some(digits) => writeln!(
+            err,
+            "  its marks need {digits} hexadecimal digits together, as ./%0{digits}x.bin has them"
+        ),
         None => Ok(()),
     }
 }
@@ -74,7 +73,9 @@ fn digits_needed(alloc: Global, words: &[String]) -> Option<u32> {
     let bits = read_number(asked.bits)?;
     let per_file = read_number(asked.per_file)?;
     let digits = (mask.len() as u64).checked_sub(1)?.checked_sub(bits)?;
-    let last = 1u64.checked_shl(u32::try_from(digits).ok()?)?.checked_sub(1)?;
+    let last = 1u64
+        .checked_shl(u32::try_from(digits).ok()?)?
+        .checked_sub(1)?;
     let first_of_last = last - last.checked_rem(per_file)?;
     Some(hexadecimal_digits(first_of_last))
 }
