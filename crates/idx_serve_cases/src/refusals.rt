@@ -142,7 +142,7 @@ fn bad_parameters_are_told(rt: HostRuntime) -> Result<(), Fail> {
 }
 
 /// Questions that cannot be asked of the dataset.
-static BAD_QUESTIONS: [Case; 6] = [
+static BAD_QUESTIONS: [Case; 8] = [
     (
         b"/mod_visus?action=boxquery&dataset=v&field=b",
         b"400 Bad Request",
@@ -169,6 +169,18 @@ static BAD_QUESTIONS: [Case; 6] = [
     ),
     (
         b"/mod_visus?action=boxquery&dataset=v&box=0+3+0+3&fromh=3&toh=2",
+        b"400 Bad Request",
+        b"10",
+        b"BadLevels",
+    ),
+    (
+        b"/mod_visus?action=boxquery&dataset=v&box=0+3+0+3&fromh=4294967296",
+        b"400 Bad Request",
+        b"10",
+        b"BadLevels",
+    ),
+    (
+        b"/mod_visus?action=boxquery&dataset=v&box=0+3+0+3&toh=4294967296",
         b"400 Bad Request",
         b"10",
         b"BadLevels",
