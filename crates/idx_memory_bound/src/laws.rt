@@ -1,0 +1,23 @@
+//! What holds of the definitions, each the contract of a function that does nothing.
+ghost use Rattle.std.specs.Prelude.{◌≡◌, ℕ, All, List};
+ghost use Rattle.idx_header.specs.Header.{HeaderValue, IsHeader};
+ghost use Rattle.idx_pieces.specs.Pieces.{IsPiece};
+ghost use Rattle.idx_pieces.specs.Samples.{region_bytes};
+ghost use Rattle.idx_pieces.specs.declared.piece.Piece.{Piece};
+ghost use Rattle.idx_ranks.specs.Loads.{IsLoad};
+ghost use Rattle.idx_ranks.specs.declared.load.Load.{Load};
+ghost use Rattle.idx_gather.specs.States.{AreLoads};
+ghost use Rattle.idx_gather.specs.Windows.{FitOrIsOne};
+ghost use Rattle.idx_memory_bound.specs.Bytes.{load_bytes};
+
+/// The parcels of a piece have together exactly as many bytes as the samples of the piece.
+pub fn parcels_take_as_their_piece()
+    ensures { (h : HeaderValue) (load : Load) → IsHeader h → IsLoad h load →
+        load_bytes load ≡ region_bytes h load.piece.region }
+{}
+
+/// The parcels of a batch of pieces have together no more bytes than the room, or it is a batch of one piece.
+pub fn batches_fit_into_the_room()
+    ensures { (h : HeaderValue) (room : ℕ) (loads : List Load) (left : List Piece) → IsHeader h →
+        All (λ load. IsPiece h load.piece) loads → AreLoads h room loads left → FitOrIsOne load_bytes room loads }
+{}
