@@ -1,12 +1,14 @@
 //! What holds of the definitions, each the contract of a function that does nothing.
-ghost use Rattle.std.specs.Prelude.{◌≡◌, ℕ, All, List};
+ghost use Rattle.std.specs.Prelude.{◌≡◌, ℕ, ◌++◌, All, List, drop, length};
 ghost use Rattle.idx_header.specs.Header.{HeaderValue, IsHeader};
 ghost use Rattle.idx_pieces.specs.Pieces.{IsPiece};
 ghost use Rattle.idx_pieces.specs.Samples.{region_bytes};
 ghost use Rattle.idx_pieces.specs.declared.piece.Piece.{Piece};
+ghost use Rattle.idx_dock.specs.Dock.{DockValue};
 ghost use Rattle.idx_ranks.specs.Loads.{IsLoad};
 ghost use Rattle.idx_ranks.specs.declared.load.Load.{Load};
-ghost use Rattle.idx_gather.specs.States.{AreLoads};
+ghost use Rattle.idx_aggregate.specs.Docks.{pieces_in};
+ghost use Rattle.idx_gather.specs.States.{AreDocks, AreLoads, IsOpening};
 ghost use Rattle.idx_gather.specs.Windows.{FitOrIsOne};
 ghost use Rattle.idx_memory_bound.specs.Bytes.{load_bytes};
 
@@ -20,4 +22,14 @@ pub fn parcels_take_as_their_piece()
 pub fn batches_fit_into_the_room()
     ensures { (h : HeaderValue) (room : ℕ) (loads : List Load) (left : List Piece) → IsHeader h →
         All (λ load. IsPiece h load.piece) loads → AreLoads h room loads left → FitOrIsOne load_bytes room loads }
+{}
+
+/// While a step is gathered (`Parcelled`), what was read of its next pieces has no more bytes than the room, or is of
+/// one piece.
+pub fn parcelled_pieces_fit_into_the_room()
+    ensures { (h : HeaderValue) (step ranks room done : ℕ) (pieces left : List Piece) (files : List ℕ)
+        (paths : List (List ℕ)) (docks : List DockValue) (loads : List Load) → IsHeader h →
+        IsOpening h step ranks room pieces files paths →
+        AreDocks h room pieces (drop (length paths) files) done (pieces_in loads ++ left) docks →
+        AreLoads h room loads left → FitOrIsOne load_bytes room loads }
 {}
