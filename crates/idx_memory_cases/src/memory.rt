@@ -67,6 +67,7 @@ fn sinks_take_what_is_written(rt: HostRuntime) -> Result<(), Fail> {
 fn write_file<B: Bay>(bay: &mut B, path: &[u8], bytes: &[u8]) -> Result<B::Leaf, BayFault>
     requires { B.admits bay.old path.now }
     ensures leaf { IfOk result (λ leaf. B.Leaf.contents leaf ≡ known_with (B.files bay.old) bytes.now) }
+    ensures named { IfOk result (λ leaf. ForSome (B.Leaf.path leaf) (λ told. told ≡ path.now)) }
     ensures files { B.files bay.new ≡ B.files bay.old }
 {
     let mut draft = bay.create(path)?;
