@@ -9,6 +9,7 @@ use crate::remedy::print_remedy;
 use crate::shown::Shown;
 use idx_commands::{Cause, Done, MAX_ANSWER, MAX_FILE, MAX_VOLUME};
 use idx_header::{Header, HeaderKind};
+use idx_outside::Bytes;
 use idx_real::Fault;
 use idx_table::TableKind;
 use idx_words::{Command, read_words};
@@ -19,19 +20,21 @@ use std::{fmt, io};
 
 /// Prints how a run ended, nothing where all was written, and gives the exit status. Behind the line of the cause stand
 /// lines that help: of a fault its place and the system's reason, of wrong words what is expected, of a refused header
-/// its place and what is wrong. A message that cannot be printed changes nothing of how the run ended.
+/// its place, what is wrong and what would do. `header` is the text of the header that stands, empty where it is not
+/// known. A message that cannot be printed changes nothing of how the run ended.
 pub fn report<W: Write>(
     alloc: Global,
     err: &mut W,
     done: Done,
     words: &[String],
+    header: &[u8],
     fault: Option<Fault<'_>>,
 ) -> ExitCode
     ensures status { exit_status result ≡ done.status }
     ensures silent { done.cause ≡ Cause.Done → Keeps (W.contents err.old) (W.contents err.new) }
 {
     if !done.cause.is_done() {
-        let _ = print_all(alloc, err, done.cause, words, fault);
+        let _ = print_all(alloc, err, done.cause, words, header, fault);
     }
     done.exit_code()
 }
@@ -41,10 +44,11 @@ fn print_all<W: Write>(
     err: &mut W,
     cause: Cause,
     words: &[String],
+    header: &[u8],
     fault: Option<Fault<'_>>,
 ) -> io::Result<()> {
     print_cause(err, cause)?;
-    print_help(alloc, err, cause, words)?;
+    print_help(alloc, err, cause, words, header)?;
     match fault {
         Some(fault) => writeln!(err, "  {}: {}", Shown(fault.path), fault.reason),
         None => Ok(()),
@@ -71,10 +75,11 @@ fn print_help<W: Write>(
     err: &mut W,
     cause: Cause,
     words: &[String],
+    header: &[u8],
 ) -> io::Result<()> {
     match cause {
         Cause::Usage { .. } => print_usage(err, words),
-        Cause::Header { line, kind } => print_header(alloc, err, words, line, kind),
+        Cause::Header { line, kind } => print_header(alloc, err, words, header, line, kind),
         Cause::TooLarge { .. } => print_too_large(err, words),
         Cause::BadTable { file, kind, .. } => print_bad_table(err, words, file, kind),
         _ => match help_of(cause) {
@@ -176,40 +181,40 @@ fn is_command(words: &[String], command: &str) -> bool {
     }
 }
 
-/// Prints which header is refused, the one that stands or the one that the words ask for, and what is wrong with it.
+/// Prints which header is refused, the one that stands or the one that the words ask for, what is wrong with it, and what
+/// would do.
 fn print_header<W: Write>(
     alloc: Global,
     err: &mut W,
     words: &[String],
+    header: &[u8],
     line: u64,
     kind: HeaderKind,
 ) -> io::Result<()> {
-    if asks_for_fault(alloc, words) {
-        let word = word_of_line(line, kind);
-        writeln!(
-            err,
-            "  the header of these words, {word}: {}",
-            plain_words(kind)
-        )?;
-        print_remedy(alloc, err, words, line, kind)
-    } else {
-        writeln!(
-            err,
-            "  {}: {}",
-            Shown(dataset_path(words)),
-            plain_words(kind)
-        )
+    match refused_text(alloc, words) {
+        Some(text) => {
+            let word = word_of_line(line, kind);
+            let wrong = plain_words(kind);
+            writeln!(err, "  the header of these words, {word}: {wrong}")?;
+            print_remedy(alloc, err, text.as_slice(), line, kind)
+        }
+        None => {
+            let wrong = plain_words(kind);
+            writeln!(err, "  {}: {wrong}", Shown(dataset_path(words)))?;
+            print_remedy(alloc, err, header, line, kind)
+        }
     }
 }
 
-/// Whether the words ask for a header that is refused.
-fn asks_for_fault(alloc: Global, words: &[String]) -> bool {
+/// The text of the header that the words ask for, where it is refused.
+fn refused_text(alloc: Global, words: &[String]) -> Option<Bytes> {
     match read_words(words) {
-        Ok(Command::Convert(asked)) => match asked.header_text(alloc) {
-            Ok(text) => Header::read(alloc, text.as_slice()).is_err(),
-            Err(_) => false,
-        },
-        _ => false,
+        Ok(Command::Convert(asked)) => {
+            let text = asked.header_text(alloc).ok()?;
+            let refused = Header::read(alloc, text.as_slice()).is_err();
+            if refused { Some(text) } else { None }
+        }
+        _ => None,
     }
 }
 

@@ -1,32 +1,29 @@
-//! What would do in the place of a word of `convert` that is too small or over a limit.
+//! What would do in the place of a value of a header that is too small or over a limit.
 use crate::shown::Shown;
-use idx_header::HeaderKind;
+use idx_header::{HeaderKind, mask_text};
+use idx_hz::guess;
 use idx_outside::Bytes;
-use idx_text::read_number;
-use idx_words::{Command, ConvertWords, read_words};
+use idx_text::{Document, read_box, read_number};
 use std::alloc::Global;
 use std::io::{self, Write};
 use std::str;
 
-/// The line, counted from 0, of the header of the words of `convert` on which their mask stands.
-const BITS_LINE: usize = 7;
-
-/// Prints what would do in the place of the word that stands under the key on this line of the header that the words of
-/// `convert` ask for; nothing where that is not known.
+/// Prints what would do in the place of the value of the key on this line of a header text; nothing where that is not
+/// known.
 pub(crate) fn print_remedy<W: Write>(
     alloc: Global,
     err: &mut W,
-    words: &[String],
+    text: &[u8],
     line: u64,
     kind: HeaderKind,
 ) -> io::Result<()> {
+    let Ok(document) = Document::read(alloc, text) else {
+        return Ok(());
+    };
     match kind {
-        HeaderKind::TemplateTooSmall => print_digits(err, digits_needed(alloc, words)),
-        HeaderKind::BoxOutsideMask => print_mask(err, guessed_mask(alloc, words)),
-        HeaderKind::OverLimit => match limits_of(line) {
-            Some(limits) => writeln!(err, "  {limits}"),
-            None => Ok(()),
-        },
+        HeaderKind::TemplateTooSmall => print_digits(err, digits_needed(&document)),
+        HeaderKind::BoxOutsideMask => print_mask(err, guessed_mask(alloc, &document)),
+        HeaderKind::OverLimit => print_limits(err, limits_of(key_on(&document, line))),
         _ => Ok(()),
     }
 }
@@ -34,10 +31,12 @@ pub(crate) fn print_remedy<W: Write>(
 /// Prints how many digits the template needs.
 fn print_digits<W: Write>(err: &mut W, needed: Option<u32>) -> io::Result<()> {
     match needed {
-        Some(digits) => writeln!(
-            err,
-            "  its marks need {digits} hexadecimal digits together, as ./%0{digits}x.bin has them"
-        ),
+        Some(digits) => {
+            writeln!(
+                err,
+                "  its marks need {digits} hexadecimal digits together, as ./%0{digits}x.bin has them"
+            )
+        }
         None => Ok(()),
     }
 }
@@ -48,36 +47,64 @@ fn print_mask<W: Write>(err: &mut W, mask: Option<Bytes>) -> io::Result<()> {
         return Ok(());
     };
     match str::from_utf8(mask.as_slice()) {
-        Ok(mask) => writeln!(err, "  MASK auto would be {}", Shown(mask)),
+        Ok(mask) => writeln!(err, "  the bits {} have room for this box", Shown(mask)),
         Err(_) => Ok(()),
     }
 }
 
-/// The limits of the word under the key on this line of the header that the words of `convert` ask for.
-fn limits_of(line: u64) -> Option<&'static str> {
-    match line {
-        5 => Some("FIELDS has at most 64 fields, and a sample of a field at most 64 bytes"),
-        9 => Some(
-            "BITS is 1 to 20, no more than MASK has digits and at most 24 less; a block has at most 2^24 bytes",
+/// Prints the limits of a value.
+fn print_limits<W: Write>(err: &mut W, limits: Option<&'static str>) -> io::Result<()> {
+    match limits {
+        Some(limits) => writeln!(err, "  {limits}"),
+        None => Ok(()),
+    }
+}
+
+/// The limits of the value of a key.
+fn limits_of(key: &[u8]) -> Option<&'static str> {
+    match key {
+        b"fields" => Some("there are at most 64 fields, and a sample of one has at most 64 bytes"),
+        b"bitsperblock" => Some(
+            "it is 1 to 20, no more than the bits have digits and at most 24 less; a block has at most 2^24 bytes",
         ),
-        11 => Some("PERFILE is 1 to 65536, and the table of a file has at most 2^24 bytes"),
-        15 => Some("TIME has at most 4096 steps"),
+        b"blocksperfile" => Some(
+            "it is 1 to 65536, and the table of a file has at most 2^24 bytes",
+        ),
+        b"time" => Some("there are at most 4096 steps"),
         _ => None,
     }
 }
 
-/// How many hexadecimal digits the number of the last file has that the words of `convert` ask for.
-fn digits_needed(alloc: Global, words: &[String]) -> Option<u32> {
-    let asked = asked_for(words)?;
-    let mask = mask_line(alloc, &asked)?;
-    let bits = read_number(asked.bits)?;
-    let per_file = read_number(asked.per_file)?;
+/// The key on this line; none where no key stands there.
+fn key_on(document: &Document, line: u64) -> &[u8] {
+    for section in &document.sections {
+        if section.line == line {
+            return section.key.as_slice();
+        }
+    }
+    b""
+}
+
+/// The value of the first such key.
+fn value_of<'d>(document: &'d Document, key: &[u8]) -> Option<&'d [u8]> {
+    for section in &document.sections {
+        if section.key.as_slice() == key {
+            return Some(section.value.as_slice());
+        }
+    }
+    None
+}
+
+/// How many hexadecimal digits the number of the last file of a header has.
+fn digits_needed(document: &Document) -> Option<u32> {
+    let mask = value_of(document, b"bits")?;
+    let bits = read_number(value_of(document, b"bitsperblock")?)?;
+    let per_file = read_number(value_of(document, b"blocksperfile")?)?;
     let digits = (mask.len() as u64).checked_sub(1)?.checked_sub(bits)?;
     let last = 1u64
         .checked_shl(u32::try_from(digits).ok()?)?
         .checked_sub(1)?;
-    let first_of_last = last - last.checked_rem(per_file)?;
-    Some(hexadecimal_digits(first_of_last))
+    Some(hexadecimal_digits(last - last.checked_rem(per_file)?))
 }
 
 /// How many hexadecimal digits a number has.
@@ -86,28 +113,9 @@ fn hexadecimal_digits(number: u64) -> u32 {
     bits.div_ceil(4).max(1)
 }
 
-/// The mask that is guessed of the box of the words of `convert`; `None` where none is.
-fn guessed_mask(alloc: Global, words: &[String]) -> Option<Bytes> {
-    let asked = asked_for(words)?;
-    let guessing = ConvertWords {
-        mask: b"auto",
-        ..asked
-    };
-    let mask = mask_line(alloc, &guessing)?;
-    if mask.len() > 1 { Some(mask) } else { None }
-}
-
-/// The values of the words where they are right words of `convert`.
-fn asked_for(words: &[String]) -> Option<ConvertWords<'_>> {
-    match read_words(words) {
-        Ok(Command::Convert(asked)) => Some(asked),
-        _ => None,
-    }
-}
-
-/// The mask's text in the header that the words ask for.
-fn mask_line(alloc: Global, asked: &ConvertWords<'_>) -> Option<Bytes> {
-    let text = asked.header_text(alloc).ok()?;
-    let line = text.as_slice().split(|b| *b == b'\n').nth(BITS_LINE)?;
-    Bytes::from_slice(alloc, line).ok()
+/// The mask that is guessed of the box of a header; `None` where none is.
+fn guessed_mask(alloc: Global, document: &Document) -> Option<Bytes> {
+    let region = read_box(value_of(document, b"box")?)?;
+    let mask = guess(&region)?;
+    mask_text(alloc, &mask).ok()
 }

@@ -27,9 +27,20 @@ fn printed(
     cause: Cause,
     fault: Option<Fault<'_>>,
 ) -> Result<Vec<u8>, AllocError> {
+    printed_of(alloc, line, cause, b"", fault)
+}
+
+/// The same, where this header stands.
+fn printed_of(
+    alloc: Global,
+    line: &str,
+    cause: Cause,
+    header: &[u8],
+    fault: Option<Fault<'_>>,
+) -> Result<Vec<u8>, AllocError> {
     let words = words_in(alloc, line)?;
     let mut err = Vec::new(alloc);
-    let _ = report(alloc, &mut err, Done::of(cause), &words, fault);
+    let _ = report(alloc, &mut err, Done::of(cause), &words, header, fault);
     Ok(err)
 }
 
@@ -150,7 +161,7 @@ fn a_message_says_what_would_do(rt: HostRuntime) -> Result<(), Fail> {
             HeaderKind::BoxOutsideMask,
             "idxtool: header line 3 BoxOutsideMask\n  the header of these words, BOX: \
              an upper end of the box has more binary digits than the bits give its axis\n  \
-             MASK auto would be V00101\n",
+             the bits V00101 have room for this box\n",
         ),
         (
             "convert|v.idx|r.raw|0 3 0 3|a uint8|V0101|2|2|./%01x.bin|0 4096 time%04d/|0",
@@ -158,13 +169,32 @@ fn a_message_says_what_would_do(rt: HostRuntime) -> Result<(), Fail> {
             HeaderKind::OverLimit,
             "idxtool: header line 15 OverLimit\n  the header of these words, TIME: \
              a value is over a limit, or the text has more than 65536 bytes\n  \
-             TIME has at most 4096 steps\n",
+             there are at most 4096 steps\n",
         ),
     ] {
         let cause = Cause::Header { line: place, kind };
         let shown = printed(rt.alloc(), line, cause, None)?;
         assert!(rt; shown.as_slice() == want.as_bytes());
     }
+    Ok(())
+}
+
+/// A header whose template has no room for the last of its 256 blocks.
+static SMALL: &[u8] =
+    b"(version)\n6\n(box)\n0 3 0 3\n(fields)\na uint8\n(bits)\nV0101010101\n(bitsperblock)\n2\n\
+    (blocksperfile)\n2\n(filename_template)\n./%01x.bin\n";
+
+#[test]
+fn what_would_do_in_a_header_that_stands_is_told(rt: HostRuntime) -> Result<(), Fail> {
+    let cause = Cause::Header {
+        line: 13,
+        kind: HeaderKind::TemplateTooSmall,
+    };
+    let shown = printed_of(rt.alloc(), "info|v.idx", cause, SMALL, None)?;
+    let want = "idxtool: header line 13 TemplateTooSmall\n  \
+        v.idx: the file name template has no room for the number of the last file\n  \
+        its marks need 2 hexadecimal digits together, as ./%02x.bin has them\n";
+    assert!(rt; shown.as_slice() == want.as_bytes());
     Ok(())
 }
 

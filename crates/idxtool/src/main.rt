@@ -12,7 +12,9 @@ use idx_commands::{Cause, Done, run};
 use idx_progress::WatchedBay;
 use idx_real::{Sockets, StdSink};
 use idx_report::{clear_work, report, text_asked_for, write_text};
-use outside::{StdDoor, dataset_files, file_readers, last_fault, raw_files, tcp_doors};
+use outside::{
+    StdDoor, dataset_files, file_readers, last_fault, raw_files, refused_header, tcp_doors,
+};
 use std::alloc::AllocError;
 use std::io::ErrorKind;
 use std::process::ExitCode;
@@ -44,7 +46,14 @@ fn given_words(rt: &HostRuntime) -> io::Result<Vec<String>> {
 fn give_text(rt: &HostRuntime, text: &str) -> ExitCode {
     let mut out = StdSink::new(rt.stdout());
     let done = write_text(&mut out, text);
-    report(rt.alloc(), &mut rt.stderr(), done, &[], out.last_fault())
+    report(
+        rt.alloc(),
+        &mut rt.stderr(),
+        done,
+        &[],
+        b"",
+        out.last_fault(),
+    )
 }
 
 /// Does what the words ask for, over files, standard output and these doors, with threads of this runtime.
@@ -91,10 +100,18 @@ fn run_over_files<T: Threads + Wait + Sync, R: Sockets + Send>(
         clear_work(&mut err);
     }
     let fault = last_fault(done.cause, &raws, bay.bay(), &readers, &out, &doors);
-    Ok(report(rt.alloc(), &mut err, done, words, fault))
+    let header = refused_header(rt, words, done.cause);
+    Ok(report(rt.alloc(), &mut err, done, words, header.as_slice(), fault))
 }
 
 /// Ends before anything was done.
 fn give_up(rt: &HostRuntime, cause: Cause) -> ExitCode {
-    report(rt.alloc(), &mut rt.stderr(), Done::of(cause), &[], None)
+    report(
+        rt.alloc(),
+        &mut rt.stderr(),
+        Done::of(cause),
+        &[],
+        b"",
+        None,
+    )
 }

@@ -7,6 +7,7 @@ ghost use Rattle.idx_words.specs.Words.{Give};
 
 use crate::announced_door::AnnouncedDoor;
 use idx_commands::Cause;
+use idx_outside::{Bay, Bytes};
 use idx_real::{
     Fault, FileReader, FileSource, FolderBay, Patience, SharedListener, Sockets, StdSink, TcpDoor,
 };
@@ -46,6 +47,18 @@ pub fn dataset_files(
 ) -> Result<FolderBay<HostRuntime>, AllocError> {
     let path = String::from_str(rt.alloc(), dataset_path(words))?;
     Ok(FolderBay::new(rt.clone()?, path))
+}
+
+/// The text of the header that the words name, where a header is refused: what would do in it can be told by its text.
+/// Empty otherwise, and where it cannot be read again.
+pub fn refused_header(rt: &HostRuntime, words: &[String], cause: Cause) -> Bytes {
+    let mut text = Bytes::new(rt.alloc());
+    if let Cause::Header { .. } = cause
+        && let Ok(mut files) = dataset_files(rt, words)
+    {
+        let _read = files.header(&mut text);
+    }
+    text
 }
 
 /// The readers of the dataset's files: one for each worker that the words say.
