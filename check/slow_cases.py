@@ -13,7 +13,7 @@ from dataclasses import dataclass
 from differences import difference
 from heads import plain_head
 from server import MOST_REPLIES, Site, replies
-from server_cases import Bench, Shelf, boxes_of, empty_shelf, large_shelf, small_shelf
+from server_cases import ANYWHERE, Bench, Shelf, boxes_of, empty_shelf, large_shelf, small_shelf
 from serving import Address, Leaves, Link, Peer
 
 SILENCE = 10
@@ -96,7 +96,8 @@ def hold(bench: Bench, shelf: Shelf, holder: Holder) -> None:
         differences, counts = held_differences(site, holder, held.end())
         return found + differences, [count + len(wants) for count in counts]
 
-    bench.serve_peers(shelf.words(bench.random), 2, talk)
+    # (by one worker, for which the link behind has to wait)
+    bench.serve_peers([b"serve", shelf.path, ANYWHERE], 2, talk)
 
 
 def held_differences(site: Site, holder: Holder, received: bytes) -> tuple[list[str], Sequence[int]]:
