@@ -269,7 +269,7 @@ point_of_piece h e p is within small lies =
     subst (λ (b : ℕ × ℕ). (b.0 ≤ get_or p axis 0) × (get_or p axis 0 ≤ b.1)) (sym (front_at mask e id axes axis on)) between)))
 
 -- the pieces of a list are those of rising ids
-abbrev Divided : HeaderValue → ℕ → ℕ → List Awaited → Type 0
+abbrev pub Divided : HeaderValue → ℕ → ℕ → List Awaited → Type 0
 Divided h e low [] = Unit {0}
 Divided h e low (a ∷ others) =
     (low ≤ a.piece) × (a.piece < 2 ^ (length h.mask - e)) × (a.region ≡ piece_region h.mask h.box e a.piece) × Divided h e (a.piece + 1) others
@@ -281,7 +281,7 @@ Divided-lower h e low more (a ∷ others) le divided = (omega (arith, divided.0)
 pub head_is : (a b : Awaited) (others rest : List Awaited) → undelivered a ∷ others ≡ b ∷ rest → (a.piece ≡ b.piece) × (a.region ≡ b.region) × (others ≡ rest)
 head_is a b others rest same = (cc, cc, cc)
 
-divided_of : (h : HeaderValue) (e n file low : ℕ) (ids : List ℕ) (awaited : List Awaited) → RiseFrom low ids → AllByRecursion (λ id. id < 2 ^ (length h.mask - e)) ids →
+pub divided_of : (h : HeaderValue) (e n file low : ℕ) (ids : List ℕ) (awaited : List Awaited) → RiseFrom low ids → AllByRecursion (λ id. id < 2 ^ (length h.mask - e)) ids →
     map undelivered awaited ≡ map awaited_of (reaching h file (map (piece_at h e n) ids)) → Divided h e low awaited
 divided_of h e n file low [] [] rise small same = tt
 divided_of h e n file low [] (a ∷ others) rise small same = let wrong : undelivered a ∷ map undelivered others ≡ [] = same in absurd (cc)
@@ -318,10 +318,10 @@ pieces_apart h e id other address is within small_id small_other less one two =
     omega arith
 
 -- what each piece has of a dock
-abbrev AreTheirs : HeaderValue → ℕ → List Awaited → Type 0
+abbrev pub AreTheirs : HeaderValue → ℕ → List Awaited → Type 0
 AreTheirs h file awaited = All (λ a. ForSome a.runs (AreRunsOf h a.region file)) awaited
 
-run_is : (h : HeaderValue) (file field address : ℕ) (a : Awaited) (r : Run) → ForSome a.runs (AreRunsOf h a.region file) → IsOneOf (runs_of a) r → has_sample h field address r ≡ true →
+pub run_is : (h : HeaderValue) (file field address : ℕ) (a : Awaited) (r : Run) → ForSome a.runs (AreRunsOf h a.region file) → IsOneOf (runs_of a) r → has_sample h field address r ≡ true →
     has_address h.mask a.region address ≡ true
 run_is h file field address a r are here has = by_runs a.runs are here
   where
@@ -380,7 +380,7 @@ apart_of h e low file (a ∷ others) is within divided are field address q r one
     by_places more (inr x) (inl y) = absurd (clash r q y x has_r has_q)
     by_places more (inr x) (inr y) = more x y
 
-below_of : (p : ℕ → Bool) (a n m : ℕ) → a + n ≤ m → AllByRecursion (λ id. id < m) (filter p (range_with_len a n))
+pub below_of : (p : ℕ → Bool) (a n m : ℕ) → a + n ≤ m → AllByRecursion (λ id. id < m) (filter p (range_with_len a n))
 below_of p a zero m le = tt
 below_of p a (suc n) m le = by_test (p a) (below_of p (a + 1) n m (omega arith))
   where

@@ -63,7 +63,7 @@ find-unfound {X = X} test (p ∷ ps) none = by_test (test p) refl (λ more. find
     by_test false is more none = ap (λ b. cond b (Some p) (find test ps)) is ∙ more (sym (ap (λ b. b || list_any test ps) is) ∙ none)
 
 -- the sample of an address among those of a range
-sample_of_range : (f : ℕ → List ℕ) (size first n a : ℕ) → ((k : ℕ) → length (f k) ≡ size) → first ≤ a → a < first + n →
+pub sample_of_range : (f : ℕ → List ℕ) (size first n a : ℕ) → ((k : ℕ) → length (f k) ≡ size) → first ≤ a → a < first + n →
     take size (drop (size * (a - first)) (flat_map f (range_with_len first n))) ≡ f a
 sample_of_range f size first zero a sizes from to = absurd (omega arith)
 sample_of_range f size first (suc n) a sizes from to = by_cases (cases_at (a - first)) (λ later. sample_of_range f size (first + 1) n a sizes later (omega arith))
@@ -108,7 +108,7 @@ IsIn-bounds a zero k here = absurd here
 IsIn-bounds a (suc n) k (inl same) = (omega arith, omega arith)
 IsIn-bounds a (suc n) k (inr more) = let rest = IsIn-bounds (a + 1) n k more in (omega (arith, rest.0), omega (arith, rest.1))
 
-IsIn-passes : (p : ℕ → Bool) (xs : List ℕ) (n : ℕ) → IsIn xs n → p n ≡ true → IsIn (filter p xs) n
+pub IsIn-passes : (p : ℕ → Bool) (xs : List ℕ) (n : ℕ) → IsIn xs n → p n ≡ true → IsIn (filter p xs) n
 IsIn-passes p [] n here sure = absurd here
 IsIn-passes p (x ∷ xs) n here sure = by_test (p x) refl here (λ more. IsIn-passes p xs n more sure)
   where
@@ -119,7 +119,7 @@ IsIn-passes p (x ∷ xs) n here sure = by_test (p x) refl here (λ more. IsIn-pa
     by_test false is (inr rest) more = more rest
 
 -- an address of the runs of a field is one of which a run has a sample
-run_with : (h : HeaderValue) (field a : ℕ) (runs : List Run) → IsIn (addresses_of h field runs) a → (r : Run) × IsOneOf runs r × (has_sample h field a r ≡ true)
+pub run_with : (h : HeaderValue) (field a : ℕ) (runs : List Run) → IsIn (addresses_of h field runs) a → (r : Run) × IsOneOf runs r × (has_sample h field a r ≡ true)
 run_with h field a [] here = absurd here
 run_with h field a (q ∷ runs) here = by_test (q.field == field) refl (λ more. run_with h field a runs more) here
   where
@@ -235,7 +235,7 @@ pub find_point : (r : List (ℕ × ℕ)) (test : List ℕ → Bool) (p : List �
 find_point r test p found = (LiesIn-slice_get r (position_or_len test (points r)) p (sym (find_at test (points r)) ∙ found)).0
 
 -- each sample that a volume has at an address has its field's size
-sized : (h : HeaderValue) (volume : List (List (List ℕ))) (field a : ℕ) → IsVolume (map sample_bytes h.fields) (length (points h.box)) volume → field < length h.fields →
+pub sized : (h : HeaderValue) (volume : List (List (List ℕ))) (field a : ℕ) → IsVolume (map sample_bytes h.fields) (length (points h.box)) volume → field < length h.fields →
     length (sample_at_address h (sample_of h volume) field a) ≡ sample_bytes_of h field
 sized h volume field a is within = by_find (find (λ p. hz_address h.mask p == a) (points h.box)) refl
   where
@@ -249,7 +249,7 @@ sized h volume field a is within = by_find (find (λ p. hz_address h.mask p == a
         volume_sample (map sample_bytes h.fields) (length (points h.box)) field (place_of h.box p) volume is there place
         ∙ get_or-map sample_bytes h.fields field (field_at [] 0) 0 within
 
-unfound : (test : Run → Bool) (runs : List Run) (r : Run) → IsOneOf runs r → test r ≡ true → find test runs ≡ None → ⊥
+pub unfound : (test : Run → Bool) (runs : List Run) (r : Run) → IsOneOf runs r → test r ≡ true → find test runs ≡ None → ⊥
 unfound test [] r here sure none = here
 unfound test (q ∷ runs) r here sure none = by_test (test q) refl here none (λ more rest. unfound test runs r more sure rest)
   where

@@ -5,3 +5,4 @@ pub mod ContentLemmas
 pub mod ApartLemmas
 pub mod CompleteLemmas
 pub mod ReachLemmas
+pub mod PartialLemmas

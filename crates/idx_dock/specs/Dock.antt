@@ -1,10 +1,12 @@
 -- A dock: the file that it is for, the pieces that have a point in it, and what was delivered of each.
 use Rattle.std.specs.Prelude.{◌≡◌, ℕ, ◌<◌, ◌≤◌, ◌==◌, Bool, not, if◌then◌else◌, List, [], ◌∷◌, length, map, filter, find, Option, Some, None, All}
 use Rattle.std.specs.List.{list_any, range_with_len}
-use Rattle.std.specs.Option.{ForSome, is_some, option_map}
+use Rattle.std.specs.Option.{ForSome, is_some, option_map, option_map_or}
+use Rattle.idx_geom.specs.Region.{points}
+use Rattle.idx_hz.specs.Address.{hz_address}
 use Rattle.idx_header.specs.Header.{HeaderValue, IsHeader, block_count}
 use Rattle.idx_layout.specs.Placing.{has_point_in}
-use Rattle.idx_pieces.specs.Pieces.{pieces_of}
+use Rattle.idx_pieces.specs.Pieces.{piece_of, pieces_of}
 use Rattle.idx_pieces.specs.Runs.{AreRunsOf}
 use Rattle.idx_pieces.specs.declared.piece.Piece.{Piece}
 use Rattle.idx_pieces.specs.declared.run.Run.{Run}
@@ -86,6 +88,10 @@ with_runs piece runs [] = []
 with_runs piece runs (a ∷ others) =
     if a.piece == piece then delivered runs a ∷ others
     else a ∷ with_runs piece runs others
+
+-- the piece, of those of e digits, of the point that has an address; 0 where no point has it
+abbrev pub piece_at_address : HeaderValue → ℕ → ℕ → ℕ
+piece_at_address h e address = option_map_or (piece_of h.mask e) (find (λ p. hz_address h.mask p == address) (points h.box)) 0
 
 -- the dock with a shipment
 abbrev pub with_shipment : Shipment → DockValue → DockValue

@@ -1,5 +1,5 @@
 //! The pieces that a dock awaits.
-ghost use Rattle.std.specs.Prelude.{◌≡◌, ◌==◌, ◌+◌, ◌<◌, All, IfErr, IfOk, MatchResult, None, OnErr, OnOk, Some, find, length, map, not, position, slice_index_or, slice_set, vec_len};
+ghost use Rattle.std.specs.Prelude.{◌≡◌, ◌==◌, ◌+◌, option_copied, ◌<◌, All, IfErr, IfOk, MatchResult, None, OnErr, OnOk, Some, find, length, map, not, position, slice_index_or, slice_set, vec_len};
 ghost use Rattle.idx_dock.specs.declared.awaited.Awaited.{Awaited};
 ghost use Rattle.std.specs.Option.{is_some, option_map};
 ghost use Rattle.idx_geom.specs.Region.{upper_ends};
@@ -61,6 +61,13 @@ fn place_of(awaited: &[Awaited], piece: u64) -> Option<usize>
     ensures { result ≡ position (λ a. a.piece == piece) awaited.now }
 {
     awaited.iter().position(|a| a.piece == piece)
+}
+
+/// The awaited piece of an id.
+pub(crate) fn find_piece(awaited: &[Awaited], piece: u64) -> Option<&Awaited>
+    ensures { option_copied result ≡ find (λ a. a.piece == piece) awaited.now }
+{
+    awaited.iter().find(|a| a.piece == piece)
 }
 
 /// The least piece of which nothing was delivered.

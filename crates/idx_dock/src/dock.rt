@@ -4,13 +4,14 @@ ghost use Rattle.idx_layout.specs.Files.{length_of_file};
 ghost use Rattle.idx_layout.specs.Placing.{file_numbers};
 ghost use Rattle.idx_layout.specs.OfHeader.{placing_of};
 ghost use Rattle.idx_pieces.specs.Runs.{IsRun};
-ghost use Rattle.std.specs.Option.{ForSome};
+ghost use Rattle.std.specs.Option.{ForSome, is_some, option_map};
 ghost use Rattle.idx_outside.specs.Cause.{Rose, counted};
 ghost use Rattle.idx_outside.specs.Files.{retold};
 ghost use Rattle.idx_dock.specs.Content.{dock_bytes};
-ghost use Rattle.idx_dock.specs.Dock.{FitsDock, IsDivision, IsDock, missing, new_dock, unwanted, with_shipment};
+ghost use Rattle.idx_dock.specs.Dock.{FitsDock, IsDivision, awaited_at, IsDock, missing, new_dock, unwanted, with_shipment};
 
-use crate::awaiting::{await_pieces, deliver_to, first_missing};
+use crate::awaited::copies;
+use crate::awaiting::{await_pieces, deliver_to, find_piece, first_missing};
 use crate::content::write_file;
 use crate::{Awaited, Unwanted};
 use idx_header::Header;
@@ -75,6 +76,22 @@ impl Dock {
         })
     }
 
+    /// An equal dock: the same pieces, each with a copy of what was delivered of it. Answers `NoMemory` where there is no
+    /// room for it.
+    pub fn copy(&self, alloc: Global) -> Result<Dock, NoMemory>
+        ensures { IfOk result (λ dock. dock ≡ self.now) }
+    {
+        let awaited = copies(alloc, &self.awaited)?;
+        let passed = vec![in alloc; 0usize; awaited.len()]?;
+        Ok(Dock {
+            header: self.header.copy(alloc)?,
+            file: self.file,
+            awaited,
+            passed,
+            buffer: Vec::with_capacity(alloc, buffer_len(&self.header, self.file))?,
+        })
+    }
+
     /// The number of the file, which is that of its first block.
     pub fn file(&self) -> u64
         ensures value { result ≡ self.now.file }
@@ -106,6 +123,14 @@ impl Dock {
         ensures { result ≡ missing self.now }
     {
         first_missing(&self.awaited)
+    }
+
+    /// Whether the samples of a piece came. `None` exactly where the piece is not awaited. Takes no memory.
+    pub fn has_piece(&self, piece: u64) -> Option<bool>
+        ensures { result ≡ option_map (λ a. is_some a.runs) (awaited_at self.now piece) }
+    {
+        let awaited = find_piece(&self.awaited, piece)?;
+        Some(awaited.runs.is_some())
     }
 
     /// Appends the file to a draft, and seals it: the table, and for each field the present blocks, with the delivered

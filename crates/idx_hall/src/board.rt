@@ -3,7 +3,8 @@ ghost use Rattle.std.specs.Prelude.{◌≡◌, ◌≢◌, ◌<◌, ◌++◌, ◌
 ghost use Rattle.std.specs.Arc.{arc_value};
 
 use crate::published::Published;
-use idx_outside::Blocks;
+use idx_outside::{Blocks, NoMemory};
+use std::alloc::Global;
 use std::sync::Arc;
 
 /// The number of the newest step of a time, if there is one.
@@ -32,4 +33,18 @@ pub(crate) fn append<E: Blocks + Drop>(
     let pushed = board.push(Published::new(edition)).is_ok();
     prove!(pushed);
     Ok(number)
+}
+
+/// The steps once more.
+pub(crate) fn share_all<E: Blocks + Drop>(
+    alloc: Global,
+    board: &[Published<E>],
+) -> Result<Vec<Published<E>>, NoMemory>
+    ensures { IfOk result (λ steps. steps.items ≡ board.now) }
+{
+    let mut steps = Vec::with_capacity(alloc, board.len())?;
+    for step in board {
+        steps.push(step.share()?)?;
+    }
+    Ok(steps)
 }

@@ -1,5 +1,5 @@
 //! What a hall does to its cache, name by name.
-ghost use Rattle.std.specs.Prelude.{◌≡◌, ◌≤◌, ◌++◌, IfOk, OnOk, map, vec_capacity};
+ghost use Rattle.std.specs.Prelude.{◌≡◌, ◌≤◌, ◌<◌, ◌++◌, IfOk, OnOk, map, vec_capacity};
 ghost use Rattle.std.specs.Map.{keys_of};
 ghost use Rattle.idx_cache.specs.Cached.{cached, found, put_all, raise_all};
 ghost use Rattle.idx_hall.specs.Hall.{name_eq, name_of, named, named_pairs, of_other_times};
@@ -9,6 +9,7 @@ use crate::block::Block;
 use crate::{BlockName, Key};
 use idx_cache::Cache;
 use idx_outside::{Bytes, NoMemory};
+use std::alloc::Global;
 use std::sync::Arc;
 
 /// Appends, for each key in order, the block that is cached of it in a post, if there is one.
@@ -79,4 +80,24 @@ pub(crate) fn drop_time(cache: &mut Cache<BlockName, Block>, names: &[BlockName]
         }
     }
     cache.evict(gone);
+}
+
+/// A cache of as many blocks with the same pairs: from the last to the first, each is put in front.
+pub(crate) fn copied(
+    alloc: Global,
+    cache: &Cache<BlockName, Block>,
+) -> Result<Cache<BlockName, Block>, NoMemory>
+    requires some { 0 < cache.now.cap }
+    requires few { cache.now.cap ≤ 65536 }
+    ensures { IfOk result (λ copy. copy ≡ cache.now) }
+{
+    let _valid = cache.len();
+    let names = cache.keys(alloc)?;
+    let mut copy = Cache::new(alloc, cache.capacity() as u32)?;
+    for place in (0..names.len()).rev() {
+        if let Some(block) = cache.peek(names[place]) {
+            copy.put(names[place], block.share()?);
+        }
+    }
+    Ok(copy)
 }

@@ -7,8 +7,8 @@ ghost use Rattle.idx_hall.specs.Looked.{looked_up, not_looked};
 ghost use Rattle.idx_hall.specs.Calls.{AreBlocksOf, IsAfter, IsRefused, IsStepOf, pairs_of};
 
 use crate::block::Block;
-use crate::board::{append, newest_of};
-use crate::caching::{drop_time, put_blocks, touch_all};
+use crate::board::{append, newest_of, share_all};
+use crate::caching::{copied, drop_time, put_blocks, touch_all};
 use crate::published::Published;
 use crate::{BlockName, Key, Looked, PublishRefusal, Standing};
 use idx_cache::Cache;
@@ -29,7 +29,7 @@ pub struct Hall<E: Blocks> {
 }
 
 impl<E: Blocks> Model for Hall<E> {
-    ghost use Rattle.std.specs.Prelude.{◌≡◌, All, map};
+    ghost use Rattle.std.specs.Prelude.{◌≡◌, ◌≤◌, All, map};
     ghost use Rattle.idx_hall.specs.Posts.{post_of};
     ghost use Rattle.idx_hall.specs.Hall.{HallOk, HallValue, hall};
 
@@ -43,7 +43,8 @@ impl<E: Blocks> Model for Hall<E> {
     ghost invariant = { λ h. HallOk (hall (record { blocks = h.blocks; lengths = h.lengths.items })
         (map (λ e. post_of (record { blocks = h.blocks; lengths = h.lengths.items })
         (E.time e) (E.has e) (E.stored e)) h.board.items)
-        h.cache) × All (λ e. E.shape e ≡ record { blocks = h.blocks; lengths = h.lengths.items }) h.board.items };
+        h.cache) × All (λ e. E.shape e ≡ record { blocks = h.blocks; lengths = h.lengths.items }) h.board.items
+        × (h.cache.cap ≤ 65536) };
 }
 
 impl<E: Blocks> Standing for Hall<E> {
@@ -203,6 +204,30 @@ impl<E: Blocks + Drop> Hall<E> {
         }
     }
 
+    /// The step that is the post of this number. Takes no memory.
+    pub fn edition(&self, post: u64) -> &Arc<E>
+        requires { post < length self.now.board }
+        ensures { IsStepOf E.time E.shape E.has E.stored self.now post (arc_value result.now) }
+    {
+        self.board[post as usize].edition()
+    }
+
+    /// A hall with the same shape, posts and cached blocks, in their order. Steps and blocks are shared, not copied.
+    /// Answers `NoMemory` where there is no room for it.
+    pub fn copy(&self, alloc: Global) -> Result<Hall<E>, NoMemory>
+        ensures { IfOk result (λ h. h ≡ self.now) }
+    {
+        let lengths = Vec::from_slice(alloc, &self.lengths)?;
+        let board = share_all(alloc, &self.board)?;
+        let cache = copied(alloc, &self.cache)?;
+        Ok(Hall {
+            blocks: self.blocks,
+            lengths,
+            board,
+            cache,
+        })
+    }
+
     /// Drops the n least recently used blocks, or all, and tells how many went.
     pub fn evict(&mut self, n: u64) -> u64
         ensures gone { result ≡ min n (length self.old.cache.pairs) }
@@ -230,6 +255,7 @@ impl<E: Blocks + Drop> Hall<E> {
     pub fn capacity(&self) -> u64
         ensures capacity { result ≡ self.now.cache.cap }
         ensures some { 0 < result }
+        ensures few { result ≤ 65536 }
     {
         self.cache.capacity()
     }

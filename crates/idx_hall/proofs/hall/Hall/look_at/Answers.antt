@@ -1,7 +1,8 @@
-use Rattle.std.proofs.Common.{◌≡◌, ℕ, List, map, sym, ap, ◌∙◌, subst, Some}
+use Rattle.std.proofs.Common.{◌≡◌, ℕ, ◌≤◌, List, map, sym, ap, ◌∙◌, subst, Some}
 use Rattle.std.specs.Prelude.{IfSome, Option, slice_get}
 use Rattle.std.proofs.lemmas.Option.{get_or_from_slice_get}
-use Rattle.idx_cache.specs.Cached.{found}
+use Rattle.idx_cache.specs.Cached.{Cached, found}
+use Rattle.idx_hall.specs.declared.block_name.BlockName.{BlockName}
 use Rattle.idx_outside.specs.Shape.{Shape}
 use Rattle.idx_hall.specs.Posts.{post_of}
 use Rattle.idx_hall.specs.Hall.{HallOk, HallValue, name_eq, name_of, named, noted}
@@ -12,7 +13,7 @@ use Rattle.idx_hall.proofs.NewestLemmas.{step_at}
 use Rattle.idx_hall.proofs.hall.Hall.look_at.Goals as goal
 
 pub invariant_of-self : goal.invariant_of-self
-invariant_of-self g c = (look-holds _ _ _ _ c.self.invariant.0 c.args.post c.args.keys.now c.touch_all.ensures, c.self.invariant.1)
+invariant_of-self g c = (look-holds _ _ _ _ c.self.invariant.0 c.args.post c.args.keys.now c.touch_all.ensures, c.self.invariant.1, subst (λ (x : Cached BlockName (List ℕ)). x.cap ≤ 65536) (sym c.touch_all.ensures) c.self.invariant.2)
 
 pub returns-clause-blocks : goal.returns-clause-blocks
 returns-clause-blocks g c = λ p at.

@@ -1,8 +1,9 @@
-use Rattle.std.proofs.Common.{◌≡◌, [], ◌∷◌, sym, ap, ◌∙◌, subst}
+use Rattle.std.proofs.Common.{◌≡◌, ℕ, ◌≤◌, List, [], ◌∷◌, sym, ap, ◌∙◌, subst}
 use Rattle.std.specs.Prelude.{All}
 use Rattle.std.proofs.lemmas.List.Elements.{All-append, All-cons, All-nil}
 use Rattle.std.specs.Arc.{arc_value}
-use Rattle.idx_cache.specs.Cached.{cached}
+use Rattle.idx_cache.specs.Cached.{Cached, cached}
+use Rattle.idx_hall.specs.declared.block_name.BlockName.{BlockName}
 use Rattle.idx_outside.specs.Shape.{Shape}
 use Rattle.idx_hall.specs.Posts.{post_of}
 use Rattle.idx_hall.specs.Hall.{HallValue, of_other_times}
@@ -19,4 +20,5 @@ invariant_of-self g c =
       subst (λ es. All (λ e. g.E.Blocks.shape e ≡ shape) es) (sym c.in-Ok-append.ensures.added)
           (All-append (λ e. g.E.Blocks.shape e ≡ shape) c.self.inside.board.items (arc_value c.args.edition ∷ []) c.self.invariant.1
           (All-cons (λ e. g.E.Blocks.shape e ≡ shape) (arc_value c.args.edition) [] (c.requires.shape ∙ sym (ap (λ (h : HallValue). h.shape) c.self.view_is)) (All-nil (λ e. g.E.Blocks.shape e ≡ shape)))),
+      subst (λ (x : Cached BlockName (List ℕ)). x.cap ≤ 65536) (sym c.drop_time.ensures) c.self.invariant.2,
     )
