@@ -1,0 +1,9 @@
+pub mod HallLemmas
+pub mod ListLemmas
+pub mod VolumeLemmas
+pub mod BoardLemmas
+pub mod QueryLemmas
+pub mod RoundLemmas
+pub mod WorldLemmas
+pub mod StartLemmas
+pub mod TinyLemmas

@@ -1,0 +1,9 @@
+pub mod Lists
+pub mod Setting
+pub mod World
+pub mod Volumes
+pub mod Queries
+pub mod Events
+pub mod WorldOk
+pub mod Start
+pub mod Tiny
