@@ -1,0 +1,5 @@
+pub mod NotedLemmas
+pub mod FoundLemmas
+pub mod RoundLemmas
+pub mod LookLemmas
+pub mod HeldLemmas
