@@ -1,0 +1,4 @@
+pub mod WholeLemmas
+pub mod FileLemmas
+pub mod FitLemmas
+pub mod DeliverLemmas

@@ -1,0 +1,11 @@
+pub mod PlaceLemmas
+pub mod ChangeLemmas
+pub mod FreshLemmas
+pub mod SlotLemmas
+pub mod EnabledLemmas
+pub mod SealLemmas
+pub mod EditionLemmas
+pub mod DeliveredLemmas
+pub mod TableLemmas
+pub mod TakeLemmas
+pub mod ShipLemmas
