@@ -1,0 +1,4 @@
+pub mod StepLemmas
+pub mod MayLemmas
+pub mod PublishLemmas
+pub mod ReplayLemmas
