@@ -23,7 +23,7 @@ use Rattle.idx_aggregate.proofs.FileLemmas.{begins_at, reaches_files}
 use Rattle.idx_aggregate.proofs.AwaitedLemmas.{AreKnown, are_known, flags_none, flags_put, is_wanted, pieces_stay, region_of, runs_put}
 use Rattle.idx_aggregate.proofs.GainLemmas.{ready_stays, shipping_more, zip_map}
 
-any_file : (file : ℕ) (made : List Shipment) → list_any (λ s. s.file == file) made ≡ list_any (λ f. f == file) (map (λ s. s.file) made)
+pub any_file : (file : ℕ) (made : List Shipment) → list_any (λ s. s.file == file) made ≡ list_any (λ f. f == file) (map (λ s. s.file) made)
 any_file file [] = refl
 any_file file (s ∷ made) = ap (λ b. (s.file == file) || b) (any_file file made)
 

@@ -11,10 +11,7 @@ use Rattle.idx_pieces.specs.declared.shipment.Shipment.{Shipment}
 use Rattle.idx_ship.specs.Shipments.{AreShipments}
 use Rattle.idx_dock.specs.Dock.{reaches}
 use Rattle.idx_aggregate.proofs.FileLemmas.{begins_at, reaches_files}
-
-any_file : (file : ℕ) (made : List Shipment) → list_any (λ s. s.file == file) made ≡ list_any (λ f. f == file) (map (λ s. s.file) made)
-any_file file [] = refl
-any_file file (s ∷ made) = ap (λ b. (s.file == file) || b) (any_file file made)
+use Rattle.idx_aggregate.proofs.ShipLemmas.{any_file}
 
 -- there is one for each file in which the piece has a point
 pub is_among : (h : HeaderValue) (filled : Filled) (made : List Shipment) (file : ℕ) → IsHeader h → Contains (file_numbers (placing_of h)) file →

@@ -9,7 +9,7 @@ ghost use Rattle.idx_pieces.specs.Samples.{HoldsSamples, raw_sample, region_byte
 use idx_header::Header;
 use idx_memory::SureSource;
 use idx_outside::{Bytes, NoMemory};
-use idx_pieces::{Filled, Parcel, Piece, Ranks, read_rank};
+use idx_pieces::{Filled, Parcel, Piece, read_rank};
 use std::alloc::Global;
 
 /// Reads all samples of a piece.
@@ -40,20 +40,8 @@ fn one_piece(alloc: Global, piece: &Piece) -> Result<Vec<Piece>, NoMemory>
     ensures { IfOk result (λ pieces. pieces.items ≡ piece.now ∷ []) }
 {
     let mut pieces = Vec::new(alloc);
-    pieces.push(copy_piece(alloc, piece)?)?;
+    pieces.push(piece.copy(alloc)?)?;
     Ok(pieces)
-}
-
-/// The same piece once more.
-fn copy_piece(alloc: Global, piece: &Piece) -> Result<Piece, NoMemory>
-    ensures { IfOk result (λ copy. copy ≡ piece.now) }
-{
-    Ok(Piece {
-        id: piece.id,
-        region: piece.region,
-        ranks: Ranks::from_vec(Vec::from_slice(alloc, piece.ranks.as_slice())?),
-        of_ranks: piece.of_ranks,
-    })
 }
 
 /// Reads what the whole box has of pieces: one parcel for each of them, as of a rank that has the box for itself.

@@ -14,13 +14,13 @@ use Rattle.idx_pieces.specs.Pieces.{has_piece, piece_at, piece_of, piece_region}
 use Rattle.idx_pieces.specs.Runs.{file_addresses, has_address, sample_at_address}
 use Rattle.idx_pieces.specs.Samples.{raw_sample}
 use Rattle.idx_pieces.specs.declared.piece.Piece.{Piece}
-use Rattle.idx_dock.specs.Dock.{reaches, reaching}
+use Rattle.idx_dock.specs.Dock.{piece_at_address, reaches, reaching}
 use Rattle.idx_dock.proofs.ApartLemmas.{IsIn, IsIn-range, point_of_piece}
 use Rattle.idx_dock.proofs.CompleteLemmas.{any_range, find_point}
 use Rattle.idx_dock.proofs.ReachLemmas.{reaches_addresses}
 use Rattle.idx_edition.specs.Tables.{RiseFrom}
 use Rattle.idx_events.specs.Lists.{has}
-use Rattle.idx_core_model.specs.Layers.{pieces_in_file, piece_at_address}
+use Rattle.idx_core_model.specs.Layers.{pieces_in_file}
 
 -- ---- numbers that rise are apart
 

@@ -21,7 +21,7 @@ use Rattle.idx_layout.specs.declared.layout.Layout.TheVariants.{Hz}
 use Rattle.idx_pieces.specs.Pieces.{piece_of, pieces_of}
 use Rattle.idx_pieces.specs.Runs.{file_addresses, sample_at_address}
 use Rattle.idx_pieces.specs.Samples.{raw_sample}
-use Rattle.idx_dock.specs.Dock.{reaching}
+use Rattle.idx_dock.specs.Dock.{piece_at_address, reaching}
 use Rattle.idx_edition.specs.Stored.{has_block, stored_block}
 use Rattle.idx_hall.specs.Posts.{table_of}
 use Rattle.idx_plan.specs.Answer.{answer_of}
@@ -39,10 +39,6 @@ pieces_in_file h e n file = map (λ piece. piece.id) (reaching h file (pieces_of
 -- the ranks that have a part of the piece of an id; none where there is no such piece
 abbrev pub ranks_of_piece : HeaderValue → ℕ → ℕ → ℕ → List ℕ
 ranks_of_piece h e n id = option_map_or (λ piece. piece.ranks) (find (λ piece. piece.id == id) (pieces_of h e n)) []
-
--- the piece of the point that has an address; 0 where no point has it
-abbrev pub piece_at_address : HeaderValue → ℕ → ℕ → ℕ
-piece_at_address h e address = option_map_or (piece_of h.mask e) (find (λ p. hz_address h.mask p == address) (points h.box)) 0
 
 -- ---- files
 

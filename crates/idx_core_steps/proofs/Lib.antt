@@ -5,7 +5,6 @@ pub mod SlotLemmas
 pub mod EnabledLemmas
 pub mod SealLemmas
 pub mod EditionLemmas
-pub mod DeliveredLemmas
 pub mod TableLemmas
 pub mod TakeLemmas
 pub mod ShipLemmas

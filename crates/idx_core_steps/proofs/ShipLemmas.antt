@@ -23,7 +23,7 @@ use Rattle.idx_core_steps.proofs.PlaceLemmas.{item-at, one-change, position-map}
 use Rattle.idx_core_steps.proofs.EditionLemmas.{raw-whole}
 use Rattle.idx_core_steps.proofs.EnabledLemmas.{is_for, ship-none, ship-some, slot-file, slot-is}
 use Rattle.idx_core_steps.proofs.SealLemmas.{slots-apart}
-use Rattle.idx_core_steps.proofs.DeliveredLemmas.{delivered-dock}
+use Rattle.idx_events.proofs.VolumeLemmas.{delivered-dock}
 use Rattle.idx_core_steps.proofs.TableLemmas.{slot-table}
 use Rattle.idx_core_steps.proofs.TakeLemmas.{can-take, other-is, piece-there, taken-is}
 

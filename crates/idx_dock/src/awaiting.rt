@@ -47,7 +47,7 @@ fn await_piece(piece: &Piece) -> Awaited
 }
 
 /// Whether some point of a region has its address in a block of a file, whose last block is that before `end`.
-fn reaches(header: &Header, region: &Region, file: u64, end: u64) -> bool
+pub fn reaches(header: &Header, region: &Region, file: u64, end: u64) -> bool
     requires end { end ≡ file + header.now.blocks_per_file }
     requires address { HasAddress header.now.mask (upper_ends region.now) }
     ensures { result ≡ reaches header.now region.now file }

@@ -13,6 +13,7 @@ mod next;
 mod unwanted;
 
 pub use awaited::Awaited;
+pub use awaiting::reaches;
 pub use dock::Dock;
 pub use examples::worked_docks;
 pub use laws::{

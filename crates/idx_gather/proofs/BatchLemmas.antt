@@ -1,12 +1,13 @@
 -- The next batch of the pieces that are left: they are pieces of the box, and some are left where a dock misses one.
-use Rattle.std.proofs.Common.{◌≡◌, ◌≢◌, ℕ, zero, suc, ◌+◌, ◌-◌, ◌*◌, ◌^◌, ◌<◌, ◌≤◌, Bool, true, false, cond, List, [], ◌∷◌, ◌++◌, length, get_or, take, drop, not, refl, sym, ap, ◌∙◌, subst, arith, Option, Some, None}
-use Rattle.std.specs.Prelude.{All, filter, find, min, nat_le}
+use Rattle.std.proofs.Common.{◌≡◌, ◌≢◌, ℕ, suc, ◌+◌, ◌-◌, ◌^◌, ◌<◌, ◌≤◌, true, cond, List, [], ◌∷◌, ◌++◌, length, get_or, take, drop, not, refl, sym, ap, ◌∙◌, subst, arith, Option, Some, None}
+use Rattle.std.specs.Prelude.{All, filter, find}
 use Rattle.std.specs.List.{range_with_len}
 use Rattle.std.specs.Option.{is_some, option_map}
 use Rattle.std.proofs.lemmas.List.{get_or-map, length-drop, length-map, take-append-drop}
 use Rattle.std.proofs.lemmas.List.Elements.{All-drop, All-filter, All-head, All-map, All-same, All-tail, All-take, All-weaker, filter_passes}
 use Rattle.idx_outside.specs.Objects.{SameContents, contents_at}
 use Rattle.idx_header.specs.Header.{HeaderValue, IsHeader, volume_bytes}
+use Rattle.idx_pieces.specs.Digits.{piece_digits}
 use Rattle.idx_pieces.specs.Pieces.{IsPiece, has_piece, piece_at, pieces_of}
 use Rattle.idx_pieces.specs.Ranks.{longest, rank_count}
 use Rattle.idx_pieces.specs.declared.piece.Piece.{Piece}
@@ -17,26 +18,10 @@ use Rattle.idx_ranks.specs.declared.load.Load.{Load}
 use Rattle.idx_aggregate.specs.Docks.{pieces_in}
 use Rattle.idx_gather.specs.Gather.{HasVolume, HaveSame}
 use Rattle.idx_gather.specs.States.{AreDocks, AreFull, AreLoads, HasAllBut, IsLegal, IsOpening, batch_of, is_wanted, wanted}
-use Rattle.idx_gather.specs.Windows.{greatest, more_fit, piece_digits, point_bytes, run_count, window_of}
+use Rattle.idx_gather.specs.Windows.{more_fit, run_count, window_of}
+use Rattle.idx_gather.proofs.DockingLemmas.{digits_within}
 
 -- ---- the division
-
-greatest_within : (test : ℕ → Bool) (n : ℕ) → greatest test n ≤ n
-greatest_within test zero = omega arith
-greatest_within test (suc n) = by_test (test (suc n)) (greatest_within test n)
-  where
-    by_test : (b : Bool) → greatest test n ≤ n → cond b (suc n) (greatest test n) ≤ suc n
-    by_test true rest = omega arith
-    by_test false rest = omega arith
-
-digits_within : (h : HeaderValue) (room : ℕ) → piece_digits h room ≤ length h.mask
-digits_within h room =
-    let most : ℕ = length h.mask - min (length h.mask) 6 in
-    let few : most ≤ length h.mask = omega arith in
-    few_more (piece_digits h room) most (length h.mask) (greatest_within (λ e. nat_le (4 * 2 ^ e * point_bytes h) room) most) few
-  where
-    few_more : (a b c : ℕ) → a ≤ b → b ≤ c → a ≤ c
-    few_more a b c first second = omega arith
 
 -- the pieces of a step that is gathered are a division of the box
 pub division_of : (h : HeaderValue) (step ranks room : ℕ) (pieces : List Piece) (files : List ℕ) (paths : List (List ℕ)) → IsOpening h step ranks room pieces files paths → IsDivision h pieces

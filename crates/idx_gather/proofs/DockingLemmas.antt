@@ -13,6 +13,7 @@ use Rattle.idx_header.specs.Header.{HeaderValue, IsHeader}
 use Rattle.idx_layout.specs.Files.{length_of_file}
 use Rattle.idx_layout.specs.Placing.{file_numbers}
 use Rattle.idx_layout.specs.OfHeader.{placing_of}
+use Rattle.idx_pieces.specs.Digits.{piece_digits, point_bytes}
 use Rattle.idx_pieces.specs.Pieces.{IsPiece, front_bounds, has_piece, piece_at, pieces_of}
 use Rattle.idx_pieces.specs.declared.piece.Piece.{Piece}
 use Rattle.idx_ship.proofs.ShipmentLemmas.{take_all}
@@ -21,8 +22,8 @@ use Rattle.idx_dock.proofs.DockLemmas.{HasAddress-common}
 use Rattle.idx_aggregate.specs.Docks.{has_id}
 use Rattle.idx_aggregate.proofs.FileLemmas.{any_kept}
 use Rattle.idx_gather.specs.States.{AreDocks, HasAllBut, IsDockOf, is_wanted, wanted}
-use Rattle.idx_gather.specs.Windows.{piece_digits, point_bytes, run_count, window_of}
-use Rattle.idx_gather.proofs.DigitLemmas.{greatest_within}
+use Rattle.idx_gather.specs.Windows.{run_count, window_of}
+use Rattle.idx_pieces.proofs.DigitLemmas.{greatest_within}
 
 -- ---- pieces
 

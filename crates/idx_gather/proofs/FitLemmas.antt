@@ -53,7 +53,7 @@ module _ (h : HeaderValue) (sample : ℕ → List ℕ → List ℕ) where
 
   module _ (are : AreBoxSamples h sample) where
     -- in the box they are the same
-    fit_same : (field : ℕ) (p : List ℕ) → LiesIn h.box p → fit field p ≡ sample field p
+    pub fit_same : (field : ℕ) (p : List ℕ) → LiesIn h.box p → fit field p ≡ sample field p
     unfolding fit
     fit_same field p inside = by_test (nat_lt field (length h.fields)) refl
       where
@@ -70,7 +70,7 @@ module _ (h : HeaderValue) (sample : ℕ → List ℕ → List ℕ) where
         (λ field. joined_within (sample field) (fit field) (points parcel.region)
         (λ p among. sym (fit_same field p (own_inside h load.piece load.parcels valid known.piece known.legal k d p within (point_in h load.piece load.parcels valid known.piece known.legal parcel.region p among)))))
 
-    at_address : (field a : ℕ) → sample_at_address h fit field a ≡ sample_at_address h sample field a
+    pub at_address : (field a : ℕ) → sample_at_address h fit field a ≡ sample_at_address h sample field a
     at_address field a = by_find (find (λ p. hz_address h.mask p == a) (points h.box)) refl
       where
         by_find : (o : Option (List ℕ)) → find (λ p. hz_address h.mask p == a) (points h.box) ≡ o →

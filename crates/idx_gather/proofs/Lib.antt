@@ -4,7 +4,6 @@ pub mod StepLemmas
 pub mod EditionLemmas
 pub mod SomeFileLemmas
 pub mod CommitLemmas
-pub mod DigitLemmas
 pub mod DockingLemmas
 pub mod PairLemmas
 pub mod CauseLemmas

@@ -13,6 +13,7 @@ use Rattle.idx_layout.specs.Placing.{file_numbers}
 use Rattle.idx_layout.specs.OfHeader.{placing_of}
 use Rattle.idx_layout.specs.Step.{step_file, step_files, volume_of_raw}
 use Rattle.idx_layout.specs.declared.layout.Layout.TheVariants.{Hz}
+use Rattle.idx_pieces.specs.Digits.{piece_digits}
 use Rattle.idx_pieces.specs.Pieces.{pieces_of}
 use Rattle.idx_pieces.specs.Refusals.{why_not}
 use Rattle.idx_pieces.specs.Runs.{HasSamples}
@@ -22,7 +23,7 @@ use Rattle.idx_dock.specs.Content.{runs_in}
 use Rattle.idx_dock.specs.Dock.{DockValue, awaited_of, missing, reaches, reaching, undelivered}
 use Rattle.idx_ranks.specs.declared.load.Load.{Load}
 use Rattle.idx_aggregate.specs.Docks.{has_id, pieces_in}
-use Rattle.idx_gather.specs.Windows.{first_run, piece_digits, window_of}
+use Rattle.idx_gather.specs.Windows.{first_run, window_of}
 
 -- A step of a dataset that is gathered: its pieces, its files, and the paths of those that are sealed, which are the first ones.
 pub record IsOpening (h : HeaderValue) (step ranks room : ℕ) (pieces : List Piece) (files : List ℕ) (paths : List (List ℕ)) : Type 0 where

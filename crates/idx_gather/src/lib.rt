@@ -5,7 +5,6 @@
 mod batch;
 mod batches;
 mod committing;
-mod digits;
 mod docking;
 mod docks;
 mod finishing;

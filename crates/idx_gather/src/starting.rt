@@ -2,12 +2,11 @@ ghost use Rattle.std.specs.Prelude.{◌≡◌, ◌↔◌, ◌<◌, ◌≤◌, []
 ghost use Rattle.idx_layout.specs.OfHeader.{placing_of};
 ghost use Rattle.idx_layout.specs.Placing.{file_numbers};
 
-use crate::digits::piece_digits;
 use crate::{GatherFault, Opening};
 use idx_header::Header;
 use idx_layout::files;
 use idx_outside::{Leaf, NoMemory};
-use idx_pieces::pieces;
+use idx_pieces::{piece_digits, pieces};
 use std::alloc::Global;
 
 impl<L: Leaf> Opening<L> {

@@ -6,7 +6,7 @@ use crate::dataset::{BASE, Dataset, WIDE};
 use idx_geom::{Point, Region};
 use idx_header::Header;
 use idx_outside::NoMemory;
-use idx_pieces::{Piece, Ranks, pieces, rank_regions};
+use idx_pieces::{Piece, pieces, rank_regions};
 use std::alloc::Global;
 use std::process::Abort;
 use std::test::Fail;
@@ -122,20 +122,8 @@ pub(crate) fn piece_at(
     ensures { IfOk result (Contains pieces.now.items) }
 {
     assert!(rt; number < pieces.len());
-    let piece = copy_piece(alloc, &pieces[number])?;
+    let piece = pieces[number].copy(alloc)?;
     Ok(piece)
-}
-
-/// The same piece once more.
-fn copy_piece(alloc: Global, piece: &Piece) -> Result<Piece, NoMemory>
-    ensures { IfOk result (λ copy. copy ≡ piece.now) }
-{
-    Ok(Piece {
-        id: piece.id,
-        region: piece.region,
-        ranks: Ranks::from_vec(Vec::from_slice(alloc, piece.ranks.as_slice())?),
-        of_ranks: piece.of_ranks,
-    })
 }
 
 /// Whether so many pieces, whose ids rise, have each point of four by four once.

@@ -20,3 +20,4 @@ pub mod WholeLemmas
 pub mod FieldsLemmas
 pub mod MeetLemmas
 pub mod RankReadLemmas
+pub mod DigitLemmas

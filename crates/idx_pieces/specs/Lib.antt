@@ -1,5 +1,6 @@
 pub mod Ranks
 pub mod Pieces
+pub mod Digits
 pub mod Samples
 pub mod Runs
 pub mod Refusals

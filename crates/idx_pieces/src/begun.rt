@@ -1,11 +1,11 @@
-ghost use Rattle.std.specs.Prelude.{◌≡◌, ℕ, ◌*◌, ◌^◌, ◌<◌, ◌≤◌, All, IfOk, List, OnErr, Option, filter, length, map, sum};
-ghost use Rattle.idx_fields.specs.Field.{sample_bytes};
+ghost use Rattle.std.specs.Prelude.{◌≡◌, ℕ, ◌^◌, ◌<◌, ◌≤◌, All, IfOk, List, OnErr, Option, length, map};
 ghost use Rattle.idx_geom.specs.Region.{HoldsAll, common_bounds, place_of, points, upper_ends};
 ghost use Rattle.idx_pieces.specs.Parcels.{MeetsSome, heading_of, meeting};
 ghost use Rattle.idx_pieces.specs.Reading.{EndsBelow, HoldsUpTo, IsReady, bytes_before, heading};
 ghost use Rattle.idx_pieces.specs.Samples.{region_bytes};
 
 use crate::cursor::Cursor;
+use crate::digits::point_bytes;
 use crate::filling::Filling;
 use crate::{Parcel, Piece};
 use idx_geom::Region;
@@ -50,18 +50,6 @@ pub(crate) fn room_of(header: &Header, region: &Region) -> u64
     ensures few { result ≤ 2 ^ 52 }
 {
     region.count() * point_bytes(header)
-}
-
-/// How many bytes a point has: those of its sample of each field.
-fn point_bytes(header: &Header) -> u64
-    ensures bytes { result ≡ sum (map sample_bytes header.now.fields) }
-    ensures few { result ≤ 2 ^ 12 }
-{
-    let mut bytes = 0;
-    'fields: for field in 0..header.field_count() {
-        bytes += header.sample_bytes(field);
-    }
-    bytes
 }
 
 /// The parcels of a rank with no samples yet: one for each piece that its region meets. Memory is taken only where there

@@ -7,6 +7,7 @@ mod append;
 mod assemble_parcels;
 mod begun;
 mod cursor;
+mod digits;
 mod examples;
 mod filled;
 mod filling;
@@ -31,6 +32,7 @@ mod why;
 
 pub use all_pieces::pieces;
 pub use assemble_parcels::assemble;
+pub use digits::piece_digits;
 pub use examples::{worked_addresses, worked_pieces, worked_ranks, worked_refusals};
 pub use filled::Filled;
 pub use laws::{pieces_divide_the_box, ranks_divide_the_box, ranks_have_their_parts};

@@ -1,7 +1,7 @@
 use Rattle.std.proofs.Common.{ℕ, ◌+◌, ◌<◌, length, sym, ap, ◌∙◌, arith}
 use Rattle.idx_pieces.specs.Reading.{bytes_before}
 use Rattle.idx_pieces.proofs.FieldsLemmas.{bytes-all, bytes-more}
-use Rattle.idx_pieces.proofs.begun.point_bytes.Goals as goal
+use Rattle.idx_pieces.proofs.digits.point_bytes.Goals as goal
 
 pub returns-clause-bytes : goal.returns-clause-bytes
 returns-clause-bytes c =

@@ -1,6 +1,6 @@
 use Rattle.std.proofs.Common.{◌≡◌, ◌*◌, ◌≤◌}
 use Rattle.idx_pieces.specs.Reading.{bytes_before}
-use Rattle.idx_pieces.proofs.begun.point_bytes.Given as goal
+use Rattle.idx_pieces.proofs.digits.point_bytes.Given as goal
 
 abbrev pub invariant-fields : goal.invariant-fields
 invariant-fields l = record {

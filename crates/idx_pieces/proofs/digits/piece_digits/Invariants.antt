@@ -1,7 +1,7 @@
 use Rattle.std.proofs.Common.{◌≡◌, ◌*◌, ◌^◌, ◌-◌}
 use Rattle.std.specs.Prelude.{nat_le}
-use Rattle.idx_gather.specs.Windows.{greatest, piece_digits, point_bytes}
-use Rattle.idx_gather.proofs.digits.piece_digits.Given as goal
+use Rattle.idx_pieces.specs.Digits.{greatest, piece_digits, point_bytes}
+use Rattle.idx_pieces.proofs.digits.piece_digits.Given as goal
 
 -- as many digits as were tried are too many
 abbrev pub invariant-loop-less : goal.invariant-loop-less

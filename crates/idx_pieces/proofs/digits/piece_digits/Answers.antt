@@ -1,9 +1,9 @@
 use Rattle.std.proofs.Common.{◌≡◌, ℕ, ◌+◌, ◌-◌, ◌*◌, ◌%◌, ◌^◌, ◌≤◌, Bool, true, false, sym, ap, ◌∙◌, arith}
 use Rattle.std.specs.Prelude.{nat_le}
 use Rattle.idx_header.specs.Header.{HeaderValue}
-use Rattle.idx_gather.specs.Windows.{greatest, point_bytes}
-use Rattle.idx_gather.proofs.DigitLemmas.{few_bytes, fits, fits_not, four_points, greatest_below, greatest_here, word_points}
-use Rattle.idx_gather.proofs.digits.piece_digits.Goals as goal
+use Rattle.idx_pieces.specs.Digits.{greatest, point_bytes}
+use Rattle.idx_pieces.proofs.DigitLemmas.{few_bytes, fits, fits_not, four_points, greatest_below, greatest_here, word_points}
+use Rattle.idx_pieces.proofs.digits.piece_digits.Goals as goal
 
 pub overflow_mul-e : goal.overflow_mul-e
 overflow_mul-e c =

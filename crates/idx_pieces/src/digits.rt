@@ -1,5 +1,5 @@
-ghost use Rattle.std.specs.Prelude.{◌≡◌, ◌≤◌, length};
-ghost use Rattle.idx_gather.specs.Windows.{piece_digits, point_bytes};
+ghost use Rattle.std.specs.Prelude.{◌≡◌, ◌^◌, ◌≤◌, length};
+ghost use Rattle.idx_pieces.specs.Digits.{piece_digits, point_bytes};
 
 use idx_header::Header;
 
@@ -8,7 +8,7 @@ const FRONT_DIGITS: u32 = 6;
 
 /// How many last digits of the Z addresses of a piece's points are free: as many as let four such pieces fit into so many
 /// bytes, and make at most 64 pieces.
-pub(crate) fn piece_digits(header: &Header, room: u64) -> u32
+pub fn piece_digits(header: &Header, room: u64) -> u32
     ensures digits { result ≡ piece_digits header.now room }
     ensures within { result ≤ length header.now.mask }
 {
@@ -24,14 +24,14 @@ pub(crate) fn piece_digits(header: &Header, room: u64) -> u32
     0
 }
 
-/// How many bytes the samples of a point have, those of all fields together.
+/// How many bytes a point has: those of its sample of each field.
 pub(crate) fn point_bytes(header: &Header) -> u64
     ensures bytes { result ≡ point_bytes header.now }
-    ensures few { result ≤ 4096 }
+    ensures few { result ≤ 2 ^ 12 }
 {
-    let mut size = 0;
-    for field in 0..header.field_count() {
-        size += header.sample_bytes(field);
+    let mut bytes = 0;
+    'fields: for field in 0..header.field_count() {
+        bytes += header.sample_bytes(field);
     }
-    size
+    bytes
 }
