@@ -1,0 +1,3 @@
+pub mod Drill
+pub mod Blocks
+pub mod Cache
