@@ -66,3 +66,8 @@ IsReplay s old es (Ok done) new = (all_enabled s old es ≡ true) × (new ≡ ru
 IsReplay s old es (Err refused) new =
     (refused.0 < length es) × (all_enabled s old (take refused.0 es) ≡ true) × (new ≡ run s old (take refused.0 es))
     × ((d : Event) → IsStep s new (get_or es refused.0 d) (Err refused.1) new)
+
+-- the same of a world that is handed over and comes back
+abbrev pub IsReplayed : Setting → World → List Event → Result CoreValue (CoreValue × ℕ × StepRefusal) → Type 0
+IsReplayed s old es (Ok new) = IsReplay s old es (Ok tt) new.world
+IsReplayed s old es (Err refused) = IsReplay s old es (Err (refused.1, refused.2)) refused.0.world

@@ -3,8 +3,13 @@
 #![tactic(auto)]
 
 mod publishing;
+mod replaying;
+mod taking;
 mod world;
+mod world_refusal;
 
 pub use idx_core_layers::StepRefusal;
 pub use idx_events::Event;
-pub use world::World;
+pub use replaying::{replay, step};
+pub use world::{World, holds_headline};
+pub use world_refusal::WorldRefusal;

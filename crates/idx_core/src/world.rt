@@ -1,17 +1,27 @@
-ghost use Rattle.std.specs.Prelude.{◌≡◌, Some, slice_get, option_copied, IfSome};
+ghost use Rattle.std.specs.Prelude.{◌≡◌, ◌≤◌, None, option_copied, slice_get};
+ghost use Rattle.std.specs.Option.{IsSome, option_map_or};
 ghost use Rattle.idx_events.specs.Events.{effect};
 ghost use Rattle.idx_events.specs.declared.event.Event.TheVariants.{Give, Ship, Write, Publish, Abandon, Look, Read, Fill, Evict, Answer};
 ghost use Rattle.idx_core_layers.specs.Division.{layers_of};
+ghost use Rattle.idx_core_model.specs.Headline.{HeadlineHolds};
+ghost use Rattle.idx_core.specs.NewWorld.{IsNewWorld};
 ghost use Rattle.idx_core.specs.World.{IsReplay, IsStep};
 
+use crate::WorldRefusal;
 use crate::publishing::publish_in;
+use crate::taking::{ask_all, empty_hall, steps_of, wrong_volume};
 use idx_core_asks::{Asked, answer_in, fill_in, look_in, read_in};
 use idx_core_forms::{HeldLeaf, HeldReader};
 use idx_core_layers::{Division, StepRefusal};
 use idx_core_steps::{Step, abandon_in, give_in, ship_in, write_in};
 use idx_edition::Edition;
 use idx_events::Event;
+use idx_gather::gather_room;
 use idx_hall::Hall;
+use idx_header::Header;
+use idx_outside::Bytes;
+use idx_pieces::piece_digits;
+use idx_plan::Ask;
 use std::alloc::Global;
 use std::marker::Model;
 
@@ -36,6 +46,56 @@ impl Model for World {
 }
 
 impl World {
+    /// A new world of a dataset, whose box is divided into pieces and among so many ranks: of volumes, each with its
+    /// timestep and raw bytes, and of questions, with a cache of so many blocks. The volumes of a timestep are its revisions,
+    /// in order. Nothing was given, shipped, written or published, and nothing was looked for.
+    ///
+    /// Answers `WrongVolume` at the first volume that has another length than the dataset's, or a timestep that the dataset
+    /// lacks, or 256 of its timestep before it; where there is none, `WrongAsk` at the first question that names no field,
+    /// has other axes or has no plan; and `NoMemory`.
+    pub fn new(
+        alloc: Global,
+        header: &Header,
+        ranks: u32,
+        volumes: &Vec<(u64, Bytes)>,
+        asks: &Vec<Ask>,
+        capacity: u32,
+    ) -> Result<World, WorldRefusal>
+        requires time { IsSome header.now.steps }
+        requires ranks_some { 1 ≤ ranks }
+        requires ranks_few { ranks ≤ 256 }
+        requires some { 1 ≤ capacity }
+        requires few { capacity ≤ 65536 }
+        ensures { IsNewWorld header.now ranks volumes.now.items asks.now.items capacity result }
+    {
+        if let Some(at) = wrong_volume(header, volumes) {
+            return Err(WorldRefusal::WrongVolume { at });
+        }
+        let digits = piece_digits(header, gather_room());
+        let below = Division::new(alloc, header, digits, ranks)?;
+        let asked = ask_all(alloc, &below, asks)?;
+        let steps = steps_of(alloc, &below, volumes)?;
+        let hall = empty_hall(alloc, below.header(), capacity)?;
+        Ok(World {
+            below,
+            steps,
+            hall,
+            asked,
+        })
+    }
+
+    /// The answer to the question of a number, from 0: the samples that it asks for, of the published volume of its post.
+    /// `None` exactly where it has not been answered, or where there is no such question.
+    pub fn answer_of(&self, query: u64) -> Option<&Bytes>
+        ensures { option_copied result ≡
+            option_map_or (λ x. x.answer) (slice_get self.now.world.queries query) None }
+    {
+        match self.asked.get(query as usize) {
+            Some(asked) => asked.answer(),
+            None => None,
+        }
+    }
+
     fn give(&mut self, time: u64, revision: u64, rank: u64, piece: u64) -> Result<(), StepRefusal>
         ensures layers { self.new.layers ≡ self.old.layers }
         ensures step { IsStep (layers_of self.old.layers) self.old.world (Give time revision rank piece) result self.new.world }
@@ -145,7 +205,7 @@ impl World {
 
     /// Does exactly what the event does where it may happen. After `NotEnabled`, which comes exactly where it may not, and
     /// after `NoMemory` the world is as it was.
-    pub fn step(&mut self, alloc: Global, event: &Event) -> Result<(), StepRefusal>
+    pub(crate) fn step(&mut self, alloc: Global, event: &Event) -> Result<(), StepRefusal>
         ensures layers { self.new.layers ≡ self.old.layers }
         ensures step { IsStep (layers_of self.old.layers) self.old.world event.now result self.new.world }
     {
@@ -182,7 +242,11 @@ impl World {
 
     /// Does the events one after another. Where one is refused, it answers the place of that one and why, and the world is as
     /// it was before it.
-    pub fn replay(&mut self, alloc: Global, events: &[Event]) -> Result<(), (u64, StepRefusal)>
+    pub(crate) fn replay(
+        &mut self,
+        alloc: Global,
+        events: &[Event],
+    ) -> Result<(), (u64, StepRefusal)>
         ensures layers { self.new.layers ≡ self.old.layers }
         ensures replay { IsReplay (layers_of self.old.layers) self.old.world events.now result self.new.world }
     {
@@ -193,4 +257,12 @@ impl World {
         }
         Ok(())
     }
+}
+
+/// What holds of every world: published files are byte for byte those that one rank writes, each cached entry is its
+/// published block, and each answer is exactly what was asked for.
+pub fn holds_headline(world: &World)
+    ensures { HeadlineHolds world.now.layers.header world.now.world }
+{
+    let _ = &world.below;
 }
