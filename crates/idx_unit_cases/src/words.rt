@@ -129,6 +129,20 @@ const SERVE: &str = "\
 9 serve|v.idx|a|--links|1|--cache|1|--workers|1|--cache|1\n\
 ";
 
+/// The same of `drill`.
+const DRILL: &str = "\
+0 Drill|1\n\
+1 drill\n\
+1 drill||1\n\
+1 drill|0\n\
+1 drill|9|1\n\
+1 drill|+1\n\
+1 drill|00000000000000000001\n\
+2 drill|1|\n\
+2 drill|08|8\n\
+2 drill|1|--cache|64\n\
+";
+
 /// The words of a line, which stand between its bars.
 fn words_in(alloc: Global, line: &str) -> Result<Vec<String>, AllocError> {
     let mut words = Vec::new(alloc);
@@ -172,6 +186,7 @@ fn the_first_word_after_which_nothing_goes_is_the_place(rt: HostRuntime) {
     assert!(rt; right_rows(rt.alloc(), CONVERT) == 18);
     assert!(rt; right_rows(rt.alloc(), QUERY) == 35);
     assert!(rt; right_rows(rt.alloc(), SERVE) == 23);
+    assert!(rt; right_rows(rt.alloc(), DRILL) == 10);
 }
 
 /// The bytes and the levels that words of `cut` ask for.
@@ -199,6 +214,15 @@ fn query_of(alloc: Global, line: &str) -> Option<(u64, u64, (u32, u32), u32)> {
     }
 }
 
+/// The number that words of `drill` ask for.
+fn drill_of(alloc: Global, line: &str) -> Option<u32> {
+    let words = words_in(alloc, line).ok()?;
+    match read_words(&words) {
+        Ok(Command::Drill { number }) => Some(number),
+        _ => None,
+    }
+}
+
 #[test]
 fn right_words_are_read(rt: HostRuntime) {
     let cut = "cut|r|0000000000000000064| 0\t3  00 03\t|V0101|1 1 1 1|04|4";
@@ -207,6 +231,8 @@ fn right_words_are_read(rt: HostRuntime) {
     assert!(rt; query_of(rt.alloc(), query) == Some((9, 6, (0, 2), 64)));
     let query = "query|v.idx|0|a|0 3 0 3|0|2|--cache|00065536";
     assert!(rt; query_of(rt.alloc(), query) == Some((0, 16, (0, 2), 65_536)));
+    assert!(rt; drill_of(rt.alloc(), "drill|0000000000000000001") == Some(1));
+    assert!(rt; drill_of(rt.alloc(), "drill|8") == Some(8));
 }
 
 /// How many ranks words of `convert` ask for.

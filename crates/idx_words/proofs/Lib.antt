@@ -10,5 +10,6 @@ pub mod RightLemmas
 pub mod ConvertLemmas
 pub mod QueryLemmas
 pub mod ServeLemmas
+pub mod DrillLemmas
 pub mod BuiltLemmas
 pub mod WordsLemmas

@@ -2,8 +2,9 @@
 use Rattle.std.proofs.Common.{◌≡◌, ℕ, Result, Ok, Err, IfErr, List, ◌∷◌, bytes_eq, codes, refl, sym, ap, ◌∙◌, subst}
 use Rattle.std.proofs.lemmas.Bool.{false≢true}
 use Rattle.idx_words.specs.declared.command.Command.{Command}
-use Rattle.idx_words.specs.declared.command.Command.TheVariants.{Cut, Info, Convert, Query, Serve}
+use Rattle.idx_words.specs.declared.command.Command.TheVariants.{Cut, Info, Convert, Query, Serve, Drill}
 use Rattle.idx_words.specs.declared.misread.Misread.{Misread}
+use Rattle.idx_words.specs.DrillGrammar.{AreSomeDrillWords}
 use Rattle.idx_words.specs.Place.{IsPlaceBehind}
 use Rattle.idx_words.specs.ServeGrammar.{AreSomeServeWords}
 use Rattle.idx_words.specs.Words.{GiveCommand, AreInfoWords, AreSomeConvertWords, AreSomeCutWords, AreSomeQueryWords, IsUsagePlace}
@@ -13,10 +14,17 @@ use Rattle.idx_words.proofs.InfoLemmas.{info_goes_on}
 use Rattle.idx_words.proofs.ConvertLemmas.{convert_goes_on}
 use Rattle.idx_words.proofs.QueryLemmas.{query_goes_on}
 use Rattle.idx_words.proofs.ServeLemmas.{serve_goes_on}
+use Rattle.idx_words.proofs.DrillLemmas.{drill_goes_on}
 
 -- two names of as many letters differ
 query_not_serve : codes "query" ≡ codes "serve" → ⊥
 query_not_serve same = false≢true (ap (λ name. bytes_eq name (codes "serve")) same)
+
+query_not_drill : codes "query" ≡ codes "drill" → ⊥
+query_not_drill same = false≢true (ap (λ name. bytes_eq name (codes "drill")) same)
+
+serve_not_drill : codes "serve" ≡ codes "drill" → ⊥
+serve_not_drill same = false≢true (ap (λ name. bytes_eq name (codes "drill")) same)
 
 -- of each name the words give one command
 only_cut : (words : List (List ℕ)) → GiveCommand (codes "cut" ∷ words) → AreSomeCutWords words
@@ -25,6 +33,7 @@ only_cut words (Info, gives) = absurd (let same = gives.0 in cc)
 only_cut words (Convert c, gives) = absurd (let same = gives.0 in cc)
 only_cut words (Query c, gives) = absurd (let same = gives.0 in cc)
 only_cut words (Serve c, gives) = absurd (let same = gives.0 in cc)
+only_cut words (Drill number, gives) = absurd (let same = gives.0 in cc)
 
 only_info : (words : List (List ℕ)) → GiveCommand (codes "info" ∷ words) → AreInfoWords words
 only_info words (Cut c, gives) = absurd (let same = gives.0 in cc)
@@ -32,6 +41,7 @@ only_info words (Info, gives) = gives.1
 only_info words (Convert c, gives) = absurd (let same = gives.0 in cc)
 only_info words (Query c, gives) = absurd (let same = gives.0 in cc)
 only_info words (Serve c, gives) = absurd (let same = gives.0 in cc)
+only_info words (Drill number, gives) = absurd (let same = gives.0 in cc)
 
 only_convert : (words : List (List ℕ)) → GiveCommand (codes "convert" ∷ words) → AreSomeConvertWords words
 only_convert words (Cut c, gives) = absurd (let same = gives.0 in cc)
@@ -39,6 +49,7 @@ only_convert words (Info, gives) = absurd (let same = gives.0 in cc)
 only_convert words (Convert c, gives) = (c, gives.1)
 only_convert words (Query c, gives) = absurd (let same = gives.0 in cc)
 only_convert words (Serve c, gives) = absurd (let same = gives.0 in cc)
+only_convert words (Drill number, gives) = absurd (let same = gives.0 in cc)
 
 only_query : (words : List (List ℕ)) → GiveCommand (codes "query" ∷ words) → AreSomeQueryWords words
 only_query words (Cut c, gives) = absurd (let same = gives.0 in cc)
@@ -46,6 +57,7 @@ only_query words (Info, gives) = absurd (let same = gives.0 in cc)
 only_query words (Convert c, gives) = absurd (let same = gives.0 in cc)
 only_query words (Query c, gives) = (c, gives.1)
 only_query words (Serve c, gives) = absurd (query_not_serve gives.0)
+only_query words (Drill number, gives) = absurd (query_not_drill gives.0)
 
 only_serve : (words : List (List ℕ)) → GiveCommand (codes "serve" ∷ words) → AreSomeServeWords words
 only_serve words (Cut c, gives) = absurd (let same = gives.0 in cc)
@@ -53,6 +65,15 @@ only_serve words (Info, gives) = absurd (let same = gives.0 in cc)
 only_serve words (Convert c, gives) = absurd (let same = gives.0 in cc)
 only_serve words (Query c, gives) = absurd (query_not_serve (sym gives.0))
 only_serve words (Serve c, gives) = (c, gives.1)
+only_serve words (Drill number, gives) = absurd (serve_not_drill gives.0)
+
+only_drill : (words : List (List ℕ)) → GiveCommand (codes "drill" ∷ words) → AreSomeDrillWords words
+only_drill words (Cut c, gives) = absurd (let same = gives.0 in cc)
+only_drill words (Info, gives) = absurd (let same = gives.0 in cc)
+only_drill words (Convert c, gives) = absurd (let same = gives.0 in cc)
+only_drill words (Query c, gives) = absurd (query_not_drill (sym gives.0))
+only_drill words (Serve c, gives) = absurd (serve_not_drill (sym gives.0))
+only_drill words (Drill number, gives) = (number, gives.1)
 
 -- the place behind a command's name is that of the whole list
 usage_cut : (words : List (List ℕ)) (at : ℕ) → IsPlaceBehind AreSomeCutWords words at → IsUsagePlace (codes "cut" ∷ words) at
@@ -80,6 +101,11 @@ usage_serve words at (k, next, place) =
     subst (IsUsagePlace (codes "serve" ∷ words)) (sym next)
     (IsPlace-behind AreSomeServeWords GiveCommand (codes "serve") words k (λ list some. (Serve some.0, (refl, some.1))) (only_serve) (serve_goes_on words) place)
 
+usage_drill : (words : List (List ℕ)) (at : ℕ) → IsPlaceBehind AreSomeDrillWords words at → IsUsagePlace (codes "drill" ∷ words) at
+usage_drill words at (k, next, place) =
+    subst (IsUsagePlace (codes "drill" ∷ words)) (sym next)
+    (IsPlace-behind AreSomeDrillWords GiveCommand (codes "drill") words k (λ list some. (Drill some.0, (refl, some.1))) (only_drill) (drill_goes_on words) place)
+
 module _ (answer : Result Command Misread) (all : List (List ℕ)) (name : List ℕ) (words : List (List ℕ)) (is : all ≡ name ∷ words) where
   -- what a reader of the words behind a name says is so of the whole list
   passed_on : (command : List ℕ) (G : List (List ℕ) → Type 0) → ((at : ℕ) → IsPlaceBehind G words at → IsUsagePlace (command ∷ words) at) → name ≡ command →
@@ -101,3 +127,6 @@ module _ (answer : Result Command Misread) (all : List (List ℕ)) (name : List 
 
   pub serve_passed_on : name ≡ codes "serve" → IfErr answer (λ misread. IsPlaceBehind AreSomeServeWords words misread.at) → IfErr answer (λ misread. IsUsagePlace all misread.at)
   serve_passed_on named = passed_on (codes "serve") AreSomeServeWords (usage_serve words) named answer
+
+  pub drill_passed_on : name ≡ codes "drill" → IfErr answer (λ misread. IsPlaceBehind AreSomeDrillWords words misread.at) → IfErr answer (λ misread. IsUsagePlace all misread.at)
+  drill_passed_on named = passed_on (codes "drill") AreSomeDrillWords (usage_drill words) named answer

@@ -13,6 +13,7 @@ pub mod QueryGrammar
 pub mod QueryWord
 pub mod ServeValue
 pub mod ServeGrammar
+pub mod DrillGrammar
 pub mod Built
 pub mod Place
 pub mod Words

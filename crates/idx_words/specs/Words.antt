@@ -1,7 +1,7 @@
 -- What a list of words stands for: a command with its values.
 use Rattle.std.specs.Prelude.{◌≡◌, ℕ, ◌≤◌, List, [], ◌∷◌, IsTrue, codes}
 use Rattle.idx_words.specs.declared.command.Command.{Command}
-use Rattle.idx_words.specs.declared.command.Command.TheVariants.{Cut, Info, Convert, Query, Serve}
+use Rattle.idx_words.specs.declared.command.Command.TheVariants.{Cut, Info, Convert, Query, Serve, Drill}
 use Rattle.idx_words.specs.PathWord.{is_path}
 use Rattle.idx_words.specs.declared.cut_words.CutWords.{CutWords}
 use Rattle.idx_words.specs.CutGrammar.{AreCutWords, IsSound}
@@ -11,6 +11,7 @@ use Rattle.idx_words.specs.QueryValue.{QueryValue}
 use Rattle.idx_words.specs.QueryGrammar.{AreQueryWords}
 use Rattle.idx_words.specs.ServeValue.{ServeValue}
 use Rattle.idx_words.specs.ServeGrammar.{AreServeWords, IsSoundServe}
+use Rattle.idx_words.specs.DrillGrammar.{AreDrillWords}
 use Rattle.idx_words.specs.Place.{IsPlace}
 
 -- the words behind the command are those of `info`: DATASET alone
@@ -26,6 +27,7 @@ Give (name ∷ words) Info = (name ≡ codes "info") × AreInfoWords words
 Give (name ∷ words) (Convert c) = (name ≡ codes "convert") × AreConvertWords words c
 Give (name ∷ words) (Query c) = (name ≡ codes "query") × AreQueryWords words c
 Give (name ∷ words) (Serve c) = (name ≡ codes "serve") × AreServeWords words c
+Give (name ∷ words) (Drill number) = (name ≡ codes "drill") × AreDrillWords words number
 
 -- the words are in the grammar
 abbrev pub GiveCommand : List (List ℕ) → Type 0
@@ -51,6 +53,10 @@ GiveQuery words = (c : QueryValue) × Give words (Query c)
 abbrev pub GiveServe : List (List ℕ) → Type 0
 GiveServe words = (c : ServeValue) × Give words (Serve c)
 
+-- the words are those of `drill`
+abbrev pub GiveDrill : List (List ℕ) → Type 0
+GiveDrill words = (number : ℕ) × Give words (Drill number)
+
 -- what is so of the values of a command
 abbrev pub IsSoundCommand : Command → Type 0
 IsSoundCommand (Cut c) = IsSound c
@@ -58,6 +64,7 @@ IsSoundCommand Info = Unit {0}
 IsSoundCommand (Convert c) = (1 ≤ c.ranks) × (c.ranks ≤ 256)
 IsSoundCommand (Query c) = (1 ≤ c.cache) × (c.cache ≤ 65536)
 IsSoundCommand (Serve c) = IsSoundServe c
+IsSoundCommand (Drill number) = (1 ≤ number) × (number ≤ 8)
 
 -- which command it is
 abbrev pub IsCut : Command → Type 0
@@ -66,6 +73,7 @@ IsCut Info = ⊥
 IsCut (Convert c) = ⊥
 IsCut (Query c) = ⊥
 IsCut (Serve c) = ⊥
+IsCut (Drill number) = ⊥
 
 abbrev pub IsInfo : Command → Type 0
 IsInfo (Cut c) = ⊥
@@ -73,6 +81,7 @@ IsInfo Info = Unit {0}
 IsInfo (Convert c) = ⊥
 IsInfo (Query c) = ⊥
 IsInfo (Serve c) = ⊥
+IsInfo (Drill number) = ⊥
 
 abbrev pub IsConvert : Command → Type 0
 IsConvert (Cut c) = ⊥
@@ -80,6 +89,7 @@ IsConvert Info = ⊥
 IsConvert (Convert c) = Unit {0}
 IsConvert (Query c) = ⊥
 IsConvert (Serve c) = ⊥
+IsConvert (Drill number) = ⊥
 
 abbrev pub IsQuery : Command → Type 0
 IsQuery (Cut c) = ⊥
@@ -87,6 +97,7 @@ IsQuery Info = ⊥
 IsQuery (Convert c) = ⊥
 IsQuery (Query c) = Unit {0}
 IsQuery (Serve c) = ⊥
+IsQuery (Drill number) = ⊥
 
 abbrev pub IsServe : Command → Type 0
 IsServe (Cut c) = ⊥
@@ -94,6 +105,15 @@ IsServe Info = ⊥
 IsServe (Convert c) = ⊥
 IsServe (Query c) = ⊥
 IsServe (Serve c) = Unit {0}
+IsServe (Drill number) = ⊥
+
+abbrev pub IsDrill : Command → Type 0
+IsDrill (Cut c) = ⊥
+IsDrill Info = ⊥
+IsDrill (Convert c) = ⊥
+IsDrill (Query c) = ⊥
+IsDrill (Serve c) = ⊥
+IsDrill (Drill number) = Unit {0}
 
 -- the words behind the command are those of `cut`
 abbrev pub AreSomeCutWords : List (List ℕ) → Type 0

@@ -16,4 +16,9 @@ pub enum Command<'w> {
     Query(QueryWords<'w>),
     /// `serve DATASET ADDRESS [--cache BLOCKS] [--workers WORKERS] [--links LINKS] [--ingest STEP --raw RAW]`
     Serve(ServeWords<'w>),
+    /// `drill NUMBER`
+    Drill {
+        /// The number, 1 to 8.
+        number: u32,
+    },
 }

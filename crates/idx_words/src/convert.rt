@@ -1,4 +1,4 @@
-ghost use Rattle.std.specs.Prelude.{◌≡◌, ◌≢◌, ◌↔◌, drop, map, IfErr, IfOk, Ok, OnErr, OnOk, string_bytes};
+ghost use Rattle.std.specs.Prelude.{◌≡◌, ◌≢◌, ◌↔◌, ℕ, drop, map, IfErr, IfOk, Ok, OnErr, OnOk, string_bytes};
 ghost use Rattle.idx_words.specs.declared.command.Command.{Command};
 ghost use Rattle.idx_words.specs.declared.cut_words.CutWords.{CutWords};
 ghost use Rattle.idx_words.specs.ConvertGrammar.{AreConvertWords};
@@ -49,6 +49,7 @@ pub fn convert_command(words: &[String]) -> Result<Command<'_>, Misread>
     ensures no_cut { (c : CutWords) → result ≢ Ok (Command.Cut c) }
     ensures no_query { (c : QueryValue) → result ≢ Ok (Command.Query c) }
     ensures no_serve { (c : ServeValue) → result ≢ Ok (Command.Serve c) }
+    ensures no_drill { (number : ℕ) → result ≢ Ok (Command.Drill number) }
     ensures sound { IfOk result IsSoundCommand }
     ensures place { IfErr result (λ misread.
         IsPlaceBehind AreSomeConvertWords (map string_bytes words.now) misread.at) }

@@ -38,6 +38,7 @@ pub fn cut_command(words: &[String]) -> Result<Command<'_>, Misread>
     ensures no_convert { (c : ConvertValue) → result ≢ Ok (Command.Convert c) }
     ensures no_query { (c : QueryValue) → result ≢ Ok (Command.Query c) }
     ensures no_serve { (c : ServeValue) → result ≢ Ok (Command.Serve c) }
+    ensures no_drill { (number : ℕ) → result ≢ Ok (Command.Drill number) }
     ensures sound { IfOk result IsSoundCommand }
     ensures place { IfErr result (λ misread. IsPlaceBehind AreSomeCutWords (map string_bytes words.now) misread.at) }
 {

@@ -1,4 +1,4 @@
-ghost use Rattle.std.specs.Prelude.{◌≡◌, ◌≢◌, ◌↔◌, map, string_bytes, IfErr, IfOk, Ok};
+ghost use Rattle.std.specs.Prelude.{◌≡◌, ◌≢◌, ◌↔◌, ℕ, map, string_bytes, IfErr, IfOk, Ok};
 ghost use Rattle.idx_words.specs.declared.command.Command.{Command};
 ghost use Rattle.idx_words.specs.declared.cut_words.CutWords.{CutWords};
 ghost use Rattle.idx_words.specs.ConvertValue.{ConvertValue};
@@ -29,6 +29,7 @@ pub fn info_command(words: &[String]) -> Result<Command<'_>, Misread>
     ensures no_convert { (c : ConvertValue) → result ≢ Ok (Command.Convert c) }
     ensures no_query { (c : QueryValue) → result ≢ Ok (Command.Query c) }
     ensures no_serve { (c : ServeValue) → result ≢ Ok (Command.Serve c) }
+    ensures no_drill { (number : ℕ) → result ≢ Ok (Command.Drill number) }
     ensures place { IfErr result (λ misread. IsPlaceBehind AreInfoWords (map string_bytes words.now) misread.at) }
 {
     if !is_path(word_at(words, 0)) {

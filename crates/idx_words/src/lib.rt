@@ -9,6 +9,7 @@ mod convert_words;
 mod cut;
 mod cut_word;
 mod cut_words;
+mod drill;
 mod examples;
 mod given;
 mod info;

@@ -45,6 +45,7 @@ pub fn query_command(words: &[String]) -> Result<Command<'_>, Misread>
     ensures no_info { result ≢ Ok Command.Info }
     ensures no_convert { (c : ConvertValue) → result ≢ Ok (Command.Convert c) }
     ensures no_serve { (c : ServeValue) → result ≢ Ok (Command.Serve c) }
+    ensures no_drill { (number : ℕ) → result ≢ Ok (Command.Drill number) }
     ensures sound { IfOk result IsSoundCommand }
     ensures place { IfErr result (λ misread.
         IsPlaceBehind AreSomeQueryWords (map string_bytes words.now) misread.at) }

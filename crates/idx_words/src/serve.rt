@@ -1,4 +1,4 @@
-ghost use Rattle.std.specs.Prelude.{◌≡◌, ◌≢◌, ◌↔◌, drop, map, string_bytes, IfErr, IfOk, Ok, OnErr, OnOk};
+ghost use Rattle.std.specs.Prelude.{◌≡◌, ◌≢◌, ◌↔◌, ℕ, drop, map, string_bytes, IfErr, IfOk, Ok, OnErr, OnOk};
 ghost use Rattle.idx_words.specs.declared.command.Command.{Command};
 ghost use Rattle.idx_words.specs.declared.cut_words.CutWords.{CutWords};
 ghost use Rattle.idx_words.specs.ConvertValue.{ConvertValue};
@@ -37,6 +37,7 @@ pub fn serve_command(words: &[String]) -> Result<Command<'_>, Misread>
     ensures no_info { result ≢ Ok Command.Info }
     ensures no_convert { (c : ConvertValue) → result ≢ Ok (Command.Convert c) }
     ensures no_query { (c : QueryValue) → result ≢ Ok (Command.Query c) }
+    ensures no_drill { (number : ℕ) → result ≢ Ok (Command.Drill number) }
     ensures sound { IfOk result IsSoundCommand }
     ensures place { IfErr result (λ misread.
         IsPlaceBehind AreSomeServeWords (map string_bytes words.now) misread.at) }

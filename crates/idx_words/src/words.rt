@@ -5,6 +5,7 @@ ghost use Rattle.idx_words.specs.Words.{Give, IsSoundCommand, IsUsagePlace};
 use crate::command::Command;
 use crate::convert::convert_command;
 use crate::cut::cut_command;
+use crate::drill::drill_command;
 use crate::info::info_command;
 use crate::misread::Misread;
 use crate::query::query_command;
@@ -12,7 +13,7 @@ use crate::serve::serve_command;
 
 const NO_COMMAND: Misread = Misread {
     at: 0,
-    expected: "a command: cut, info, convert, query or serve",
+    expected: "a command: cut, info, convert, query, serve or drill",
 };
 
 /// The command that the words give. Where they are not in the grammar, the first word that is wrong or missing: no list
@@ -39,6 +40,9 @@ pub fn read_words(words: &[String]) -> Result<Command<'_>, Misread>
     }
     if is_serve(name.as_bytes()) {
         return serve_command(words);
+    }
+    if is_drill(name.as_bytes()) {
+        return drill_command(words);
     }
     Err(NO_COMMAND)
 }
@@ -71,4 +75,10 @@ fn is_serve(word: &[u8]) -> bool
     ensures { IsTrue result ↔ (word.now ≡ codes "serve") }
 {
     word == b"serve".as_slice()
+}
+
+fn is_drill(word: &[u8]) -> bool
+    ensures { IsTrue result ↔ (word.now ≡ codes "drill") }
+{
+    word == b"drill".as_slice()
 }
