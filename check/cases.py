@@ -717,7 +717,7 @@ def hostile_words(random: Random) -> list[bytes]:
             b"0 3 0 3 0", b"0\n3 0 3", b"0 3 0 1099511627776", b"0 3\t0 3", b" 0 3 0 3 ", b"0 0 " * 6, b"0 0 " * 5,
             b"0 1099511627775 0 0", b"0 1099511627775 0 1", b"a" * 4096, b"a" * 4097, b"a" * 100_000,
             b" " * 50_000 + b"0 3 0 3", b"a\x01", b"a\nb", b"a\x7f", b"\x1b[31m", b"~", b"\xc3\xa9", b"\xff", b"a\x80",
-            "\u00a00 3 0 3".encode(), "\u0661".encode(), b"cut", b"info", b"1" + random.choice(CONTROLS[1:]),
+            "\u00a00 3 0 3".encode(), "\u0661".encode(), b"cut", b"info", b"drill", b"1" + random.choice(CONTROLS[1:]),
             b"0 %d 0 %d" % (random.getrandbits(random.randint(1, 42)), random.getrandbits(random.randint(1, 42)))]
 
 
@@ -738,7 +738,9 @@ def right_words(random: Random) -> list[bytes]:
     """A list of words that is right."""
     dataset = draw_dataset(random)
     header = header_of(dataset.texts(random))
-    style = random.randrange(5)
+    style = random.randrange(6)
+    if style == 5:
+        return [b"drill", odd_number(random, random.randint(1, 4))]
     if style == 0:
         return draw_cut(random)[0]
     if style == 1 or header is None:
@@ -787,6 +789,13 @@ def cuts(bench: Bench) -> None:
         low, high = draw_levels(bench.random, len(mask) - 1)
         region = box_text(bench.random, draw_region(bench.random, box), b" \t")
         bench.run(words[:5] + [region, b"%d" % low, b"%d" % high])
+
+
+def drills(bench: Bench) -> None:
+    """Drills, a large one twice, and one whose output does not take what is written."""
+    for number in [bench.random.randint(1, 5), 6, 6]:
+        bench.run([b"drill", odd_number(bench.random, number)])
+    bench.run([b"drill", b"1"], b"/dev/full")
 
 
 def second_conversions(bench: Bench) -> None:
@@ -1197,7 +1206,7 @@ KINDS: list[tuple[int, Callable[[Bench], None]]] = [
     (25, conversions), (12, cuts), (10, second_conversions), (8, standing_headers), (12, damages), (8, odd_files),
     (14, headers), (8, asked_headers), (10, wrong_words), (6, others_in_place), (2, long_names), (3, sinks), (5, large),
     (3, large_cuts), (2, large_volumes), (8, revisions), (3, revision_gaps), (2, revision_faults), (1, last_revisions),
-    (2, without_time), (1, rounds), (2, long_files),
+    (2, without_time), (1, rounds), (2, long_files), (2, drills),
 ]
 """The kinds of cases, each with how often it comes."""
 

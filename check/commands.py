@@ -12,6 +12,7 @@ import stat
 from collections.abc import Callable, Sequence
 from dataclasses import dataclass, field
 
+from drill import drill_text
 from reference import (LARGEST_ANSWER, REVISIONS, Box, Header, HeaderFault, Refusal, answer, answer_size, asked_points,
                        box_word, check_table, count_of_points, covers, file_bytes, file_path, files_of_step, has_levels,
                        header_words, is_inside, mask_word, number, outside_axis, parse_header, place_in_volume,
@@ -61,6 +62,12 @@ def cut_size_rule(words: Sequence[bytes]) -> bool:
     return value is not None and 1 <= value <= 64
 
 
+def drill_rule(words: Sequence[bytes]) -> bool:
+    """A number from 1 to 8."""
+    value = number(words[-1])
+    return value is not None and 1 <= value <= 8
+
+
 def cut_box_rule(words: Sequence[bytes]) -> bool:
     """A box word whose samples take at most 2^30 bytes, and that some mask covers."""
     box = box_word(words[-1])
@@ -98,6 +105,7 @@ RULES: dict[bytes, list[Rule]] = {
     b"convert": [path_rule, path_rule] + [value_rule] * 7 + [number_rule],
     b"query": [path_rule, number_rule, path_rule, box_rule, level_rule, level_rule],
     b"serve": [path_rule, path_rule],
+    b"drill": [drill_rule],
 }
 LARGEST_NUMBER = 10**19 - 1
 OPTIONS: dict[bytes, dict[bytes, int]] = {
@@ -412,7 +420,12 @@ def serve(words: Sequence[bytes], folder: bytes) -> Outcome:
     raise Refusal(12, "door fault")
 
 
-COMMANDS = {b"cut": cut, b"info": info, b"convert": convert, b"query": query, b"serve": serve}
+def drill(words: Sequence[bytes], folder: bytes) -> Outcome:
+    """What is known beforehand of a run in memory."""
+    return Outcome(output=drill_text(int(words[1])))
+
+
+COMMANDS = {b"cut": cut, b"info": info, b"convert": convert, b"query": query, b"serve": serve, b"drill": drill}
 
 
 def run(words: Sequence[bytes], folder: bytes) -> Outcome:

@@ -28,6 +28,7 @@ from random import Random
 
 import cases
 import commands
+import drill
 import reference
 import server
 import server_cases
@@ -232,6 +233,7 @@ def main() -> int:
     arguments.program = os.path.abspath(arguments.program)
     reference.check_example()
     server.check_example()
+    drill.check_example()
     at = Path(tempfile.mkdtemp(prefix="idxtool-check-"))
     passed: list[bool] = []
     try:

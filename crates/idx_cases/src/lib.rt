@@ -8,6 +8,8 @@ mod convert_cases;
 #[cfg(test)]
 mod cut_cases;
 #[cfg(test)]
+mod drill_cases;
+#[cfg(test)]
 mod info_cases;
 mod laws;
 #[cfg(test)]

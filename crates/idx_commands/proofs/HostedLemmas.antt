@@ -1,5 +1,5 @@
 -- What a dataset that was hosted leaves of the readers and the doors, as a run of `serve` sees them.
-use Rattle.std.proofs.Common.{◌≡◌, ◌≢◌, ◌⊎◌, ℕ, zero, suc, ◌+◌, ◌<◌, ◌≤◌, List, [], ◌∷◌, length, map, take, drop, min, slice_index, Option, inl, inr, refl, sym, ◌∙◌, ap, subst, arith}
+use Rattle.std.proofs.Common.{◌≡◌, ◌≢◌, ◌⊎◌, ℕ, zero, suc, ◌+◌, ◌<◌, ◌≤◌, List, [], ◌∷◌, length, map, take, drop, slice_index, Option, inl, inr, refl, sym, ◌∙◌, ap, subst, arith}
 use Rattle.std.proofs.lemmas.List.{drop-drop, length-map}
 use Rattle.idx_outside.specs.Cause.{NeverFalls}
 use Rattle.idx_outside.specs.Objects.{OthersUntouched, faults_at}
@@ -12,13 +12,12 @@ use Rattle.idx_convert.specs.Counts.{SomeHigher, SomeRose}
 use Rattle.idx_serve.specs.declared.door.ServeEnd.{ServeEnd}
 use Rattle.idx_serve.specs.declared.door.ServeEnd.TheVariants as ends
 use Rattle.idx_serve.specs.declared.door.Summary.{Summary}
-use Rattle.idx_serve.specs.declared.site.Site.{Site}
 use Rattle.idx_workers.specs.Workers.{AreServed, AreWorks, KeepsBehind, NoneBegan, Work, end_of, ends_of}
 use Rattle.idx_workers.proofs.CountLemmas.{door_rose, doors_fall, doors_quiet, readers_fall}
-use Rattle.idx_host.specs.Host.{AreServedOut, IsHosted, serving_seat, site_of}
+use Rattle.idx_host.specs.Host.{IsHosted, serving_seat, site_of}
 use Rattle.idx_words.specs.ServeValue.{ServeValue}
 use Rattle.idx_commands.specs.Seen.{DoorsSeen, ReadersSeen, SinkSeen, doors_after, doors_before, reader_after, reader_before, readers_after, readers_before}
-use Rattle.idx_commands.specs.ServeRun.{IsBefore, IsQuietBefore, tells_of, workers_in}
+use Rattle.idx_commands.specs.ServeRun.{IsBefore, tells_of, workers_in}
 
 -- ---- the counts of some objects
 

@@ -6,6 +6,7 @@ pub mod InfoLemmas
 pub mod ConvertLemmas
 pub mod QueryLemmas
 pub mod ServeLemmas
+pub mod DrillLemmas
 pub mod SiteNameLemmas
 pub mod RunLemmas
 pub mod AnswerLemmas

@@ -1,5 +1,5 @@
 -- What a run comes to, by the command that its words give and by how that command ended.
-use Rattle.std.proofs.Common.{◌≡◌, ◌≢◌, ◌⊎◌, ℕ, zero, suc, ◌+◌, ◌<◌, ◌≤◌, List, [], ◌∷◌, Option, None, Some, IsSome, Result, Ok, inl, inr, refl, sym, ◌∙◌, ap, subst, length, map, take, drop, slice_index, bytes_eq, codes, arith}
+use Rattle.std.proofs.Common.{◌≡◌, ◌≢◌, ◌⊎◌, ℕ, zero, suc, ◌<◌, ◌≤◌, List, [], ◌∷◌, Option, None, Some, IsSome, Result, Ok, inl, inr, refl, sym, ◌∙◌, ap, subst, length, map, slice_index, bytes_eq, codes, arith}
 use Rattle.std.proofs.lemmas.Bool.{false≢true}
 use Rattle.std.proofs.lemmas.List.{length-map}
 use Rattle.idx_outside.specs.Cause.{Rose}
@@ -14,8 +14,8 @@ use Rattle.idx_words.specs.ConvertValue.{ConvertValue}
 use Rattle.idx_words.specs.QueryValue.{QueryValue}
 use Rattle.idx_words.specs.ServeValue.{IngestValue, ServeValue}
 use Rattle.idx_words.specs.declared.command.Command.{Command}
-use Rattle.idx_words.specs.declared.command.Command.TheVariants.{Cut, Info, Convert, Query, Serve}
-use Rattle.idx_words.specs.Words.{Give, GiveConvert, GiveCut, GiveInfo, GiveQuery, GiveServe, IsConvert, IsCut, IsInfo, IsQuery, IsServe}
+use Rattle.idx_words.specs.declared.command.Command.TheVariants.{Cut, Info, Convert, Query, Serve, Drill}
+use Rattle.idx_words.specs.Words.{Give, GiveConvert, GiveCut, GiveDrill, GiveInfo, GiveQuery, GiveServe, IsConvert, IsCut, IsDrill, IsInfo, IsQuery, IsServe}
 use Rattle.idx_commands.specs.declared.causes.Cause.{Cause}
 use Rattle.idx_commands.specs.declared.causes.Cause.TheVariants as causes
 use Rattle.idx_commands.specs.Cause.{status_of}
@@ -25,6 +25,7 @@ use Rattle.idx_commands.specs.ConvertRun.{ConvertEnds, ConvertMeans}
 use Rattle.idx_commands.specs.QueryRun.{IsBayOutage, IsReaderOutage, QueryEnds, QueryMeans}
 use Rattle.idx_commands.specs.ServeRun.{ServeMeans, workers_in}
 use Rattle.idx_commands.specs.LiveRun.{EndsServing, LiveMeans, seen_of}
+use Rattle.idx_commands.specs.DrillRun.{DrillEnds, DrillMeans}
 use Rattle.idx_commands.specs.Totals.{totals}
 use Rattle.idx_commands.specs.Known.{Known, known}
 use Rattle.idx_commands.specs.Seen.{BaySeen, IsUnchanged, raw_after, raw_before, raw_bytes, reader_counts}
@@ -33,6 +34,7 @@ use Rattle.idx_commands.proofs.CauseLemmas.{done_is, door_fault_is, raw_fault_is
 use Rattle.idx_commands.proofs.CutLemmas.{cut_silent}
 use Rattle.idx_commands.proofs.InfoLemmas.{info_silent}
 use Rattle.idx_commands.proofs.ConvertLemmas.{raw_cause, store_cause}
+use Rattle.idx_commands.proofs.DrillLemmas.{drill_silent}
 use Rattle.idx_commands.proofs.QueryLemmas.{query_silent, query_writes}
 use Rattle.idx_commands.proofs.ServeLemmas.{serve_silent, totals_begun, totals_written}
 use Rattle.idx_commands.proofs.LiveLemmas.{live_begun, live_not_usage, live_silent, live_written}
@@ -51,6 +53,7 @@ name_of Info = codes "info"
 name_of (Convert c) = codes "convert"
 name_of (Query q) = codes "query"
 name_of (Serve v) = codes "serve"
+name_of (Drill n) = codes "drill"
 
 -- the step that a command publishes meanwhile
 abbrev ingest_in : Command → Option IngestValue
@@ -69,6 +72,12 @@ same_serve a b same = ap (values_in a) same
 pub query_not_serve : codes "query" ≡ codes "serve" → ⊥
 query_not_serve same = false≢true (ap (λ name. bytes_eq name (codes "serve")) same)
 
+pub query_not_drill : codes "query" ≡ codes "drill" → ⊥
+query_not_drill same = false≢true (ap (λ name. bytes_eq name (codes "drill")) same)
+
+pub serve_not_drill : codes "serve" ≡ codes "drill" → ⊥
+serve_not_drill same = false≢true (ap (λ name. bytes_eq name (codes "drill")) same)
+
 -- words that give a command begin with its name
 pub given_named : (words : List (List ℕ)) (command : Command) (name : List ℕ) → AreNamed words name → Give words command → name ≡ name_of command
 given_named [] command name named given = absurd named
@@ -77,6 +86,7 @@ given_named (first ∷ words) Info name named given = sym named ∙ given.0
 given_named (first ∷ words) (Convert c) name named given = sym named ∙ given.0
 given_named (first ∷ words) (Query q) name named given = sym named ∙ given.0
 given_named (first ∷ words) (Serve v) name named given = sym named ∙ given.0
+given_named (first ∷ words) (Drill n) name named given = sym named ∙ given.0
 
 -- words that begin with the name of a command give no other
 pub misnamed : (words : List (List ℕ)) (command other : Command) (name : List ℕ) → AreNamed words name → Give words command → command ≡ other →
@@ -171,6 +181,10 @@ module _ {V B R K D L : Type 0} (words : List (List ℕ)) (seen : RunSeen V B R 
       Serving v.ingest v cause
   of_serve command only cause e v given = ended command only cause e (Serve v) given
 
+  pub of_drill : (command : Command) → Only command → (cause : Cause) → E command cause → (n : ℕ) → Give words (Drill n) →
+      DrillEnds n seen.sink cause
+  of_drill command only cause e n given = let all : E (Drill n) cause = ended command only cause e (Drill n) given in all.0
+
   -- ---- what is written
 
   abbrev Serves : ServeValue → Cause → Type 0
@@ -208,6 +222,7 @@ module _ {V B R K D L : Type 0} (words : List (List ℕ)) (seen : RunSeen V B R 
   no_usage (Convert c) cause e one = subst (ConvertMeans c (known seen.raws seen.bay)) (usage_is cause one).1 e.0.means
   no_usage (Query q) cause e one = subst (QueryMeans q seen.bay (reader_counts seen.readers) seen.sink) (usage_is cause one).1 e.0.means
   no_usage (Serve v) cause e one = serving_no_usage v.ingest v cause e one
+  no_usage (Drill n) cause e one = subst (DrillMeans n seen.sink) (usage_is cause one).1 e.0.means
 
   writes : (command : Command) → E command causes.Done →
       Writes command (raw_bytes seen.raws) (seen.bay.header seen.bay.old) (seen.bay.files seen.bay.old)
@@ -217,6 +232,7 @@ module _ {V B R K D L : Type 0} (words : List (List ℕ)) (seen : RunSeen V B R 
   writes Info e = e.0.means
   writes (Convert c) e = ap seen.sink.contents e.2
   writes (Serve v) e = serving_written v.ingest v e
+  writes (Drill n) e = e.0.means
   writes (Query q) e =
       let m = e.0.means in
       query_writes (λ answer. seen.sink.contents seen.sink.new ≡ appended (seen.sink.contents seen.sink.old) answer) q
@@ -229,6 +245,7 @@ module _ {V B R K D L : Type 0} (words : List (List ℕ)) (seen : RunSeen V B R 
   writes_prefix Info e = e.0.means.1
   writes_prefix (Convert c) e = e.0.means
   writes_prefix (Serve v) e = serving_begun v.ingest v e
+  writes_prefix (Drill n) e = e.0.means.1
   writes_prefix (Query q) e =
       let m = e.0.means in
       query_writes (λ answer. AppendsPrefix (seen.sink.contents seen.sink.old) (seen.sink.contents seen.sink.new) answer) q
@@ -251,6 +268,7 @@ module _ {V B R K D L : Type 0} (words : List (List ℕ)) (seen : RunSeen V B R 
   silent (Convert c) cause e = λ none nine. e.2
   silent (Query q) cause e = query_silent q seen.bay seen.readers seen.sink cause e.0.means
   silent (Serve v) cause e = serving_silent v.ingest v cause e
+  silent (Drill n) cause e = drill_silent n seen.sink cause e.0.means
 
   -- ---- the faults
 
@@ -396,6 +414,22 @@ module _ {V B R K D L : Type 0} (words : List (List ℕ)) (seen : RunSeen V B R 
       outage (inl bay) = inl bay.rose
       outage (inr reader) = inr (inl (q, gives), reader.rose)
   counts_faults (Serve v) gives cause e = serving_counts v.ingest v refl gives cause e
+  counts_faults (Drill n) gives cause e =
+      let m : (other : Cause) → cause ≡ other → DrillMeans n seen.sink other = λ other is. subst (DrillMeans n seen.sink) is e.0.means in
+      record {
+        raw_fault = λ four. absurd (m causes.RawFault (raw_fault_is cause four));
+        raw_used = λ four. absurd (m causes.RawFault (raw_fault_is cause four));
+        store_fault = λ five. absurd (m causes.StoreFault (store_fault_is cause five));
+        store_used = λ five. absurd (m causes.StoreFault (store_fault_is cause five));
+        sink_fault = λ nine. (m causes.SinkFault (sink_fault_is cause nine)).0;
+        door_fault = λ twelve. absurd (m causes.DoorFault (door_fault_is cause twelve));
+        door_used = λ twelve. absurd (m causes.DoorFault (door_fault_is cause twelve));
+        raw_answered = λ more. absurd (not_higher e.1 more);
+        store_answered = λ more. absurd (not_more seen.bay.faults seen.bay.old seen.bay.new e.2 more);
+        reader_answered = λ other more. absurd (not_more reader_count seen.readers.old seen.readers.new e.3 more);
+        sink_answered = λ more. ap status_of (e.0.sink_answered more);
+        door_answered = λ more. absurd (not_opened e.4 more);
+      }
 
   -- ---- what is left
 
@@ -413,6 +447,9 @@ module _ {V B R K D L : Type 0} (words : List (List ℕ)) (seen : RunSeen V B R 
 
   is_serve : (command : Command) → Only command → GiveServe words → IsServe command
   is_serve command only (v, given) = subst IsServe (only (Serve v) given) tt
+
+  is_drill : (command : Command) → Only command → GiveDrill words → IsDrill command
+  is_drill command only (n, given) = subst IsDrill (only (Drill n) given) tt
 
   serving_rest : (ingest : Option IngestValue) (v : ServeValue) → v.ingest ≡ ingest → Give words (Serve v) → Only (Serve v) → (cause : Cause) → Serving ingest v cause → LeavesRest words seen
   serving_rest None v asked gives only cause e =
@@ -439,6 +476,8 @@ module _ {V B R K D L : Type 0} (words : List (List ℕ)) (seen : RunSeen V B R 
         info_alone = λ given. absurd (is_info (Serve v) only given);
         query_alone = λ given. absurd (is_query (Serve v) only given);
         serve_alone = λ given none. e.1;
+        drill_alone = λ given. absurd (is_drill (Serve v) only given);
+        drill_reads = λ given. absurd (is_drill (Serve v) only given);
         query_reads = λ never other. absurd (other (v, gives));
         serve_opens = λ other. absurd (other (v, gives));
       }
@@ -466,6 +505,8 @@ module _ {V B R K D L : Type 0} (words : List (List ℕ)) (seen : RunSeen V B R 
         info_alone = λ given. absurd (is_info (Serve v) only given);
         query_alone = λ given. absurd (is_query (Serve v) only given);
         serve_alone = λ given none. absurd (none ingests);
+        drill_alone = λ given. absurd (is_drill (Serve v) only given);
+        drill_reads = λ given. absurd (is_drill (Serve v) only given);
         query_reads = λ never other. absurd (other (v, gives));
         serve_opens = λ other. absurd (other (v, gives));
       }
@@ -494,6 +535,8 @@ module _ {V B R K D L : Type 0} (words : List (List ℕ)) (seen : RunSeen V B R 
         info_alone = λ given. absurd (is_info (Cut c) only given);
         query_alone = λ given. absurd (is_query (Cut c) only given);
         serve_alone = λ given none. absurd (is_serve (Cut c) only given);
+        drill_alone = λ given. absurd (is_drill (Cut c) only given);
+        drill_reads = λ given. absurd (is_drill (Cut c) only given);
         query_reads = λ never other. e.2;
         serve_opens = λ other. e.3;
       }
@@ -520,6 +563,8 @@ module _ {V B R K D L : Type 0} (words : List (List ℕ)) (seen : RunSeen V B R 
         info_alone = λ given. e.1;
         query_alone = λ given. absurd (is_query Info only given);
         serve_alone = λ given none. absurd (is_serve Info only given);
+        drill_alone = λ given. absurd (is_drill Info only given);
+        drill_reads = λ given. absurd (is_drill Info only given);
         query_reads = λ never other. e.2;
         serve_opens = λ other. e.3;
       }
@@ -546,6 +591,8 @@ module _ {V B R K D L : Type 0} (words : List (List ℕ)) (seen : RunSeen V B R 
         info_alone = λ given. absurd (is_info (Convert c) only given);
         query_alone = λ given. absurd (is_query (Convert c) only given);
         serve_alone = λ given none. absurd (is_serve (Convert c) only given);
+        drill_alone = λ given. absurd (is_drill (Convert c) only given);
+        drill_reads = λ given. absurd (is_drill (Convert c) only given);
         query_reads = λ never other. e.1;
         serve_opens = λ other. e.3;
       }
@@ -572,7 +619,37 @@ module _ {V B R K D L : Type 0} (words : List (List ℕ)) (seen : RunSeen V B R 
         info_alone = λ given. absurd (is_info (Query q) only given);
         query_alone = λ given. e.1;
         serve_alone = λ given none. absurd (is_serve (Query q) only given);
+        drill_alone = λ given. absurd (is_drill (Query q) only given);
+        drill_reads = λ given. absurd (is_drill (Query q) only given);
         query_reads = λ never other. absurd (never (q, gives));
         serve_opens = λ other. e.2;
       }
   leaves_rest (Serve v) gives only cause e = serving_rest v.ingest v refl gives only cause e
+  leaves_rest (Drill n) gives only cause e =
+      record {
+        raws = ap (map seen.raws.contents) e.1;
+        raw_counts = none_fell seen.raws.faults seen.raws.old seen.raws.new e.1;
+        other_raws = λ never none. others_same seen.raws.old seen.raws.new e.1;
+        idle_raws = λ asked given. (of_convert (Drill n) only cause e asked given).raws_idle;
+        far_raws = λ ingest. absurd (is_serve (Drill n) only (ingest.0, ingest.1.0));
+        other_readers = λ never. others_same seen.readers.old seen.readers.new e.3;
+        idle_readers = λ v given. absurd (is_serve (Drill n) only (v, given));
+        reader_list = ap length e.3;
+        reader_counts = none_fell seen.readers.faults seen.readers.old seen.readers.new e.3;
+        bay_count = not_less seen.bay.faults seen.bay.old seen.bay.new e.2;
+        sink_count = e.0.sink_count;
+        idle_doors = λ v given. absurd (is_serve (Drill n) only (v, given));
+        door_list = ap length e.4;
+        door_counts = none_fell seen.doors.faults seen.doors.old seen.doors.new e.4;
+        unchanged = λ never none. not_changed seen.bay e.2;
+        header = λ never. ap seen.bay.header e.2;
+        convert_silent = λ given. absurd (is_convert (Drill n) only given);
+        cut_alone = λ given. absurd (is_cut (Drill n) only given);
+        info_alone = λ given. absurd (is_info (Drill n) only given);
+        query_alone = λ given. absurd (is_query (Drill n) only given);
+        serve_alone = λ given none. absurd (is_serve (Drill n) only given);
+        drill_alone = λ given. e.2;
+        drill_reads = λ given. e.1;
+        query_reads = λ never other. e.3;
+        serve_opens = λ other. e.4;
+      }

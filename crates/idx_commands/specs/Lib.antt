@@ -9,6 +9,7 @@ pub mod CutRun
 pub mod Due
 pub mod ConvertRun
 pub mod QueryRun
+pub mod DrillRun
 pub mod SiteName
 pub mod Totals
 pub mod ServeRun

@@ -3,8 +3,7 @@
 use Rattle.std.specs.Prelude.{◌≡◌, ◌≢◌, ◌⊎◌, ℕ, ◌<◌, ◌≤◌, List, ◌++◌, Option, Some, None, IsSome, IsSomeAnd, drop, length, min}
 use Rattle.idx_outside.specs.Cause.{NeverFalls, Rose}
 use Rattle.idx_outside.specs.Contents.{appended, AppendsPrefix}
-use Rattle.idx_outside.specs.Objects.{OthersUntouched, SameContents}
-use Rattle.idx_outside.specs.declared.bay_call.BayCall.TheVariants as calls
+use Rattle.idx_outside.specs.Objects.{SameContents}
 use Rattle.idx_outside.specs.declared.mem_file.MemFile.{MemFile}
 use Rattle.idx_header.specs.Header.{HeaderValue, volume_bytes}
 use Rattle.idx_header.specs.Revisions.{header_to_write}
@@ -14,7 +13,6 @@ use Rattle.idx_gather.specs.Gather.{HasFolder, NoneFalls, too_large}
 use Rattle.idx_gather.specs.declared.gather_fault.GatherFault.TheVariants as gathers
 use Rattle.idx_convert.specs.Counts.{SomeHigher, SomeRose}
 use Rattle.idx_extract.specs.Extract.{Under}
-use Rattle.idx_serve.specs.declared.door.ServeEnd.{ServeEnd}
 use Rattle.idx_serve.specs.declared.door.ServeEnd.TheVariants as ends
 use Rattle.idx_ingest.specs.declared.ingest_end.IngestEnd.{IngestEnd}
 use Rattle.idx_ingest.specs.declared.ingest_end.IngestEnd.TheVariants as ingests

@@ -5,8 +5,8 @@ use Rattle.idx_outside.specs.Contents.{appended, AppendsPrefix}
 use Rattle.idx_outside.specs.Objects.{OthersUntouched, SameContents}
 use Rattle.idx_outside.specs.declared.mem_file.MemFile.{MemFile}
 use Rattle.idx_words.specs.declared.command.Command.{Command}
-use Rattle.idx_words.specs.declared.command.Command.TheVariants.{Cut, Info, Convert, Query, Serve}
-use Rattle.idx_words.specs.Words.{Give, GiveConvert, GiveCut, GiveInfo, GiveQuery, GiveServe}
+use Rattle.idx_words.specs.declared.command.Command.TheVariants.{Cut, Info, Convert, Query, Serve, Drill}
+use Rattle.idx_words.specs.Words.{Give, GiveConvert, GiveCut, GiveDrill, GiveInfo, GiveQuery, GiveServe}
 use Rattle.idx_words.specs.ConvertValue.{ConvertValue}
 use Rattle.idx_words.specs.ServeValue.{ServeValue}
 use Rattle.idx_gather.specs.Gather.{NoneFalls}
@@ -23,6 +23,7 @@ use Rattle.idx_commands.specs.ConvertRun.{ConvertEnds}
 use Rattle.idx_commands.specs.QueryRun.{AnswersStored, QueryEnds, question_of}
 use Rattle.idx_commands.specs.ServeRun.{workers_in}
 use Rattle.idx_commands.specs.LiveRun.{EndsServing}
+use Rattle.idx_commands.specs.DrillRun.{DrillEnds, drill_summary}
 use Rattle.idx_commands.specs.Totals.{totals}
 use Rattle.idx_commands.specs.Seen.{BaySeen, DoorsSeen, IsUnchanged, RawsSeen, ReadersSeen, SinkSeen, bay_after, bay_before, doors_after, doors_before, raws_after, raws_before, reader_after, reader_before, readers_after, readers_before, sink_after, sink_before}
 
@@ -33,7 +34,7 @@ AreNamed (first ∷ words) name = first ≡ name
 
 -- What a command writes is what P holds of, where what it reads is known: a raw volume's bytes, or the header text of a bay,
 -- which then reads, and its committed files. Of a command that writes nothing, this holds in its place. A server writes a line with two
--- numbers, which its own record has.
+-- numbers, which its own record has. A drill reads nothing, and writes what its number says.
 abbrev pub Writes : Command → Option (List ℕ) → Option (List ℕ) → Option (List MemFile) → (List ℕ → Type 0) → Type 0 → Type 0
 Writes (Cut c) raw header files P Nothing = IfSome raw (λ bytes. P (cut_output c bytes))
 Writes Info raw header files P Nothing = KnownReads header (λ h. P (summary h))
@@ -41,6 +42,7 @@ Writes (Convert c) raw header files P Nothing = Nothing
 Writes (Query q) raw header files P Nothing =
     KnownReads header (λ h. Asks (question_of q) h (λ ask. IfSome files (AnswersStored h ask q.time P)))
 Writes (Serve v) raw header files P Nothing = (links : ℕ) × (replies : ℕ) × P (totals links replies)
+Writes (Drill n) raw header files P Nothing = P (drill_summary n)
 
 -- The words are in the grammar. Where what the command reads is known, and what was written to the sink, all of the answer
 -- was written and nothing else.
@@ -78,6 +80,9 @@ CommandEnds seen (Convert c) cause =
 CommandEnds seen (Query q) cause =
     QueryEnds q seen.bay seen.readers seen.sink cause × (seen.raws.new ≡ seen.raws.old) × (seen.doors.new ≡ seen.doors.old)
 CommandEnds seen (Serve v) cause = EndsServing v.ingest v seen.raws seen.bay seen.readers seen.sink seen.doors cause
+CommandEnds seen (Drill n) cause =
+    DrillEnds n seen.sink cause × (seen.raws.new ≡ seen.raws.old) × (seen.bay.new ≡ seen.bay.old)
+    × (seen.readers.new ≡ seen.readers.old) × (seen.doors.new ≡ seen.doors.old)
 
 -- The words are those of `serve` and ask for a step to be published meanwhile.
 abbrev pub GiveIngest : List (List ℕ) → Type 0
@@ -133,11 +138,13 @@ pub record LeavesRest {V B R K D L : Type 0} (words : List (List ℕ)) (seen : R
   pub header : ¬ GiveConvert words → seen.bay.header seen.bay.new ≡ seen.bay.header seen.bay.old
   pub convert_silent : GiveConvert words → seen.sink.new ≡ seen.sink.old
   -- `cut` leaves the bay as it was, `info`, `query` and a `serve` that publishes no step the raw volumes, none but `query` and `serve` reads a leaf, and none
-  -- but `serve` uses a door
+  -- but `serve` uses a door; `drill` leaves the bay and the raw volumes as they were
   pub cut_alone : GiveCut words → seen.bay.new ≡ seen.bay.old
   pub info_alone : GiveInfo words → seen.raws.new ≡ seen.raws.old
   pub query_alone : GiveQuery words → seen.raws.new ≡ seen.raws.old
   pub serve_alone : GiveServe words → ¬ GiveIngest words → seen.raws.new ≡ seen.raws.old
+  pub drill_alone : GiveDrill words → seen.bay.new ≡ seen.bay.old
+  pub drill_reads : GiveDrill words → seen.raws.new ≡ seen.raws.old
   pub query_reads : ¬ GiveQuery words → ¬ GiveServe words → seen.readers.new ≡ seen.readers.old
   pub serve_opens : ¬ GiveServe words → seen.doors.new ≡ seen.doors.old
 

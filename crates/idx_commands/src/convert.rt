@@ -50,6 +50,7 @@ where
         Ok(Command::Info) => unreachable!(),
         Ok(Command::Query(_)) => unreachable!(),
         Ok(Command::Serve(_)) => unreachable!(),
+        Ok(Command::Drill { .. }) => unreachable!(),
         Err(misread) => Done::of(Cause::Usage { at: misread.at }),
     }
 }

@@ -4,6 +4,8 @@
 mod causes;
 mod convert;
 mod cut;
+mod drill;
+mod drill_text;
 mod examples;
 mod info;
 mod kind_text;

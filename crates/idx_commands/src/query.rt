@@ -48,6 +48,7 @@ pub fn run_query<B: Bay, R: Reader<B::Leaf>, K: Sink>(
         Ok(Command::Info) => unreachable!(),
         Ok(Command::Convert(_)) => unreachable!(),
         Ok(Command::Serve(_)) => unreachable!(),
+        Ok(Command::Drill { .. }) => unreachable!(),
         Err(misread) => Done::of(Cause::Usage { at: misread.at }),
     }
 }

@@ -10,6 +10,7 @@ ghost use Rattle.idx_words.specs.Words.{Give, GiveCommand, GiveInfo, IsUsagePlac
 ghost use Rattle.idx_commands.specs.Cause.{status_of};
 ghost use Rattle.idx_commands.specs.ConvertRun.{ConvertEnds};
 ghost use Rattle.idx_commands.specs.CutRun.{CutEnds};
+ghost use Rattle.idx_commands.specs.DrillRun.{DrillEnds};
 ghost use Rattle.idx_commands.specs.InfoRun.{InfoEnds};
 ghost use Rattle.idx_commands.specs.QueryRun.{QueryEnds};
 ghost use Rattle.idx_commands.specs.LiveRun.{EndsServing};
@@ -19,6 +20,7 @@ ghost use Rattle.idx_commands.specs.Seen.{bay_seen, doors_seen, raws_seen, reade
 use crate::causes::{Cause, Done};
 use crate::convert::run_convert;
 use crate::cut::run_cut;
+use crate::drill::run_drill;
 use crate::info::run_info;
 use crate::query::run_query;
 use crate::serve::run_serve;
@@ -30,7 +32,7 @@ use std::thread::Threads;
 
 /// Does what the words ask for, and says how it ended: as `run_cut`, `run_info` and `run_query` do, and likewise for
 /// `convert` and `serve`. The first refusal ends it. `convert` uses the first of `raws`, one for each rank, each of which is
-/// a worker thread. `serve` uses the first of `readers` and of `doors`, one for each worker, each of which is a thread; it
+/// a worker thread, and `drill` four worker threads and the sink alone. `serve` uses the first of `readers` and of `doors`, one for each worker, each of which is a thread; it
 /// returns when each of these doors hands out no more links or fails.
 pub fn run<
     V: Source + Send,
@@ -92,6 +94,8 @@ where
         (doors_seen D.told D.faults D.Link.incoming D.Link.written D.Link.readings D.Link.faults
         doors.old.items doors.new.items)
         result.cause }
+    ensures drill { (number : ℕ) → Give (map string_bytes words.now) (Command.Drill number) →
+        DrillEnds number (sink_seen K.contents K.faults out.old out.new) result.cause }
 
     // Usage comes exactly where the words are not in the grammar, and then nothing was asked of any object. Its place is
     // the least such that no list of the grammar begins with the words up to it and the word at it, and the number of
@@ -172,5 +176,6 @@ where
         Command::Convert(_) => run_convert(rt, alloc, words, raws, bay),
         Command::Query(_) => run_query(alloc, words, bay, readers, out),
         Command::Serve(_) => run_serve(rt, alloc, words, raws, bay, readers, out, doors),
+        Command::Drill { .. } => run_drill(rt, alloc, words, out),
     }
 }

@@ -56,7 +56,7 @@ fn write_blocks(header: &Header, out: &mut Bytes) -> Result<(), NoMemory>
 
 /// Appends the line of a number.
 #[tactic(auto, unfolding(crate::specs::Summary::line))]
-fn write_line(name: &[u8], number: u64, out: &mut Bytes) -> Result<(), NoMemory>
+pub(crate) fn write_line(name: &[u8], number: u64, out: &mut Bytes) -> Result<(), NoMemory>
     ensures { OnOk result (out.new ≡ out.old ++ line name.now (decimal number)) }
 {
     out.append(name)?;
@@ -67,7 +67,7 @@ fn write_line(name: &[u8], number: u64, out: &mut Bytes) -> Result<(), NoMemory>
 
 /// Appends the line of the box.
 #[tactic(auto, unfolding(crate::specs::Summary::box_line))]
-fn write_box(region: &Region, out: &mut Bytes) -> Result<(), NoMemory>
+pub(crate) fn write_box(region: &Region, out: &mut Bytes) -> Result<(), NoMemory>
     ensures { OnOk result (out.new ≡ out.old ++ box_line region.now) }
 {
     let (lo, hi) = (region.lo(), region.hi());

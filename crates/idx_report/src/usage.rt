@@ -92,6 +92,16 @@ idxtool: samples, headers and files of ViSUS IDX data, with proved answers
       field, and &fromh= and &toh=, the coarsest and the finest level, else 0 and
       the dataset's levels
 
+  idxtool drill NUMBER
+      tries all of this in memory: makes a volume of 2^NUMBER bytes on each of
+      three axes, writes it as a step with four ranks, each a worker thread,
+      publishes it and asks for each of its levels; then does the same again,
+      event by event. It writes to standard output the box, for each level its
+      samples and the sum of their bytes, the files and their bytes, how many
+      blocks were read, and how many events there were
+
+      NUMBER   1 to 8
+
   idxtool --help
   idxtool --version
 

@@ -1,5 +1,5 @@
 use Rattle.std.proofs.Common.{rules, codes, map, string_bytes}
-use Rattle.idx_words.specs.declared.command.Command.TheVariants.{Cut, Info, Query, Serve}
+use Rattle.idx_words.specs.declared.command.Command.TheVariants.{Cut, Info, Query, Serve, Drill}
 use Rattle.idx_commands.proofs.ConvertLemmas.{never_usage}
 use Rattle.idx_commands.proofs.RunLemmas.{misnamed}
 use Rattle.idx_commands.proofs.convert.run_convert.Goals as goal
@@ -32,3 +32,9 @@ unreachable-requires-in-Ok-Serve g c =
     let given = c.read_words.ensures.read c.in-Ok-Serve.field-0 in
     misnamed (map string_bytes c.args.words.now) c.in-Ok-Serve.field-0 (Serve c.in-Ok-Serve.field-0-0) (codes "convert") c.requires.named
     (given.0 c.in-Ok-Serve.is) c.in-Ok-Serve.field-0-is (λ e. cc)
+
+pub unreachable-requires-in-Ok-Drill : goal.unreachable-requires-in-Ok-Drill
+unreachable-requires-in-Ok-Drill g c =
+    let given = c.read_words.ensures.read c.in-Ok-Drill.field-0 in
+    misnamed (map string_bytes c.args.words.now) c.in-Ok-Drill.field-0 (Drill c.in-Ok-Drill.field-0-0) (codes "convert") c.requires.named
+    (given.0 c.in-Ok-Drill.is) c.in-Ok-Drill.field-0-is (λ e. cc)

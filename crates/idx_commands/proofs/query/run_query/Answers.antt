@@ -1,6 +1,6 @@
 use Rattle.std.proofs.Common.{codes, map, string_bytes}
-use Rattle.idx_words.specs.declared.command.Command.TheVariants.{Cut, Info, Convert, Serve}
-use Rattle.idx_commands.proofs.RunLemmas.{misnamed, query_not_serve}
+use Rattle.idx_words.specs.declared.command.Command.TheVariants.{Cut, Info, Convert, Serve, Drill}
+use Rattle.idx_commands.proofs.RunLemmas.{misnamed, query_not_serve, query_not_drill}
 use Rattle.idx_commands.proofs.query.run_query.Goals as goal
 
 pub unreachable-requires : goal.unreachable-requires
@@ -26,3 +26,9 @@ unreachable-requires-in-Ok-Serve g c =
     let given = c.read_words.ensures.read c.in-Ok-Serve.field-0 in
     misnamed (map string_bytes c.args.words.now) c.in-Ok-Serve.field-0 (Serve c.in-Ok-Serve.field-0-0) (codes "query") c.requires.named
     (given.0 c.in-Ok-Serve.is) c.in-Ok-Serve.field-0-is query_not_serve
+
+pub unreachable-requires-in-Ok-Drill : goal.unreachable-requires-in-Ok-Drill
+unreachable-requires-in-Ok-Drill g c =
+    let given = c.read_words.ensures.read c.in-Ok-Drill.field-0 in
+    misnamed (map string_bytes c.args.words.now) c.in-Ok-Drill.field-0 (Drill c.in-Ok-Drill.field-0-0) (codes "query") c.requires.named
+    (given.0 c.in-Ok-Drill.is) c.in-Ok-Drill.field-0-is query_not_drill

@@ -1,4 +1,5 @@
-use Rattle.std.proofs.Common.{map, refl, string_bytes, sym, ◌∙◌}
+use Rattle.std.proofs.Common.{ap, map, refl, string_bytes, sym, ◌∙◌}
+use Rattle.idx_commands.specs.Cause.{status_of}
 use Rattle.idx_commands.proofs.RunLemmas.{counts_faults, cut_off, leaves_rest, no_usage, same_ok, silent, written}
 use Rattle.idx_commands.proofs.running.run.Goals as goal
 
@@ -23,6 +24,10 @@ pub returns-in-Ok-clause-unasked : goal.returns-in-Ok-clause-unasked
 returns-in-Ok-clause-unasked g c = λ one.
     absurd (no_usage (map string_bytes c.args.words.now) _ c.in-Ok.command _ c.run_command.ensures.ends
     (sym c.run_command.ensures.status ∙ one))
+
+pub returns-in-Ok-clause-place : goal.returns-in-Ok-clause-place
+returns-in-Ok-clause-place g c = λ at usage.
+    absurd (no_usage (map string_bytes c.args.words.now) _ c.in-Ok.command _ c.run_command.ensures.ends (ap status_of usage))
 
 pub returns-in-Ok-clause-faults : goal.returns-in-Ok-clause-faults
 returns-in-Ok-clause-faults g c =

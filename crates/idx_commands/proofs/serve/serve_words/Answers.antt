@@ -1,4 +1,4 @@
-use Rattle.std.proofs.Common.{ℕ, ◌<◌, length, rules}
+use Rattle.std.proofs.Common.{◌<◌, length, rules}
 use Rattle.idx_commands.specs.Seen.{bay_seen, doors_seen, readers_seen, sink_seen}
 use Rattle.idx_commands.proofs.ServeLemmas.{serve_ends}
 use Rattle.idx_commands.proofs.serve.serve_words.Goals as goal

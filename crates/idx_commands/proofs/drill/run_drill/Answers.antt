@@ -1,0 +1,34 @@
+use Rattle.std.proofs.Common.{codes, map, string_bytes, sym}
+use Rattle.idx_words.specs.declared.command.Command.TheVariants.{Cut, Info, Convert, Query, Serve}
+use Rattle.idx_commands.proofs.RunLemmas.{misnamed, query_not_drill, serve_not_drill}
+use Rattle.idx_commands.proofs.drill.run_drill.Goals as goal
+
+pub unreachable-requires : goal.unreachable-requires
+unreachable-requires g c =
+    let given = c.read_words.ensures.read c.in-Ok-Cut.field-0 in
+    misnamed (map string_bytes c.args.words.now) c.in-Ok-Cut.field-0 (Cut c.in-Ok-Cut.field-0-0) (codes "drill") c.requires.named
+    (given.0 c.in-Ok-Cut.is) c.in-Ok-Cut.field-0-is (λ e. cc)
+
+pub unreachable-requires-in-Ok-Info : goal.unreachable-requires-in-Ok-Info
+unreachable-requires-in-Ok-Info g c =
+    let given = c.read_words.ensures.read c.in-Ok-Info.field-0 in
+    misnamed (map string_bytes c.args.words.now) c.in-Ok-Info.field-0 Info (codes "drill") c.requires.named
+    (given.0 c.in-Ok-Info.is) c.in-Ok-Info.field-0-is (λ e. cc)
+
+pub unreachable-requires-in-Ok-Convert : goal.unreachable-requires-in-Ok-Convert
+unreachable-requires-in-Ok-Convert g c =
+    let given = c.read_words.ensures.read c.in-Ok-Convert.field-0 in
+    misnamed (map string_bytes c.args.words.now) c.in-Ok-Convert.field-0 (Convert c.in-Ok-Convert.field-0-0) (codes "drill") c.requires.named
+    (given.0 c.in-Ok-Convert.is) c.in-Ok-Convert.field-0-is (λ e. cc)
+
+pub unreachable-requires-in-Ok-Query : goal.unreachable-requires-in-Ok-Query
+unreachable-requires-in-Ok-Query g c =
+    let given = c.read_words.ensures.read c.in-Ok-Query.field-0 in
+    misnamed (map string_bytes c.args.words.now) c.in-Ok-Query.field-0 (Query c.in-Ok-Query.field-0-0) (codes "drill") c.requires.named
+    (given.0 c.in-Ok-Query.is) c.in-Ok-Query.field-0-is (λ e. query_not_drill (sym e))
+
+pub unreachable-requires-in-Ok-Serve : goal.unreachable-requires-in-Ok-Serve
+unreachable-requires-in-Ok-Serve g c =
+    let given = c.read_words.ensures.read c.in-Ok-Serve.field-0 in
+    misnamed (map string_bytes c.args.words.now) c.in-Ok-Serve.field-0 (Serve c.in-Ok-Serve.field-0-0) (codes "drill") c.requires.named
+    (given.0 c.in-Ok-Serve.is) c.in-Ok-Serve.field-0-is (λ e. serve_not_drill (sym e))
