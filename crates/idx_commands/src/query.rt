@@ -63,8 +63,6 @@ fn query_first<B: Bay, R: Reader<B::Leaf>, K: Sink>(
     out: &mut K,
 ) -> Cause
     requires reader { 0 < vec_len readers.old }
-    requires some { 1 ≤ words.now.cache }
-    requires few { words.now.cache ≤ 65536 }
     ensures { QueryEnds words.now (bay_seen B.header B.files B.begun B.changes B.failed B.faults bay.old bay.new)
         (readers_seen R.faults R.reads readers.old.items readers.new.items)
         (sink_seen K.contents K.faults out.old out.new) result }
@@ -80,8 +78,6 @@ fn query<B: Bay, R: Reader<B::Leaf>, K: Sink>(
     reader: &mut R,
     out: &mut K,
 ) -> Cause
-    requires some { 1 ≤ words.now.cache }
-    requires few { words.now.cache ≤ 65536 }
     ensures means { QueryMeans words.now
         (bay_seen B.header B.files B.begun B.changes B.failed B.faults bay.old bay.new) (record {
           faults_before = R.faults reader.old;
@@ -109,7 +105,7 @@ fn query<B: Bay, R: Reader<B::Leaf>, K: Sink>(
     ensures sink_count { NeverFalls (K.faults out.old) (K.faults out.new) }
     ensures sink_answered { K.faults out.old < K.faults out.new → result ≡ Cause.SinkFault }
 {
-    let samples = match extract(alloc, &question_of(words), words.cache, bay, reader) {
+    let samples = match extract(alloc, &question_of(words), bay, reader) {
         Ok(samples) => samples,
         Err(fault) => return cause_of(words.time, fault),
     };

@@ -12,25 +12,25 @@ use idx_hall::{Hall, PublishRefusal};
 use idx_header::Header;
 use idx_outside::{Blocks, Bytes, Reader};
 use idx_plan::Ask;
-use idx_query::{QueryFault, Report, answer, capacity_of};
+use idx_query::{QueryFault, Report, answer};
 use idx_turn::Solo;
 use std::alloc::Global;
 use std::sync::Arc;
 
-/// Appends the answer to a question that has a plan out of its step, which is published in a hall of its own. The hall
-/// keeps as many blocks as are wished for, where a hall of the dataset may.
+/// How many blocks the hall of one question keeps.
+const KEPT_BLOCKS: u32 = 1;
+
+/// Appends the answer to a question that has a plan out of its step, which is published in a hall of its own. No block is
+/// asked for twice by one question, so the hall keeps a single one.
 #[tactic(auto, using(idx_query::proofs::ReadsLemmas::no_reads))]
 pub(crate) fn answer_alone<E: Blocks + Drop, R: Reader<E::Leaf>>(
     alloc: Global,
     header: &Header,
     ask: &Ask,
-    wish: u32,
     edition: E,
     reader: &mut R,
     out: &mut Bytes,
 ) -> Result<Report, QueryFault>
-    requires some { 1 ≤ wish }
-    requires few { wish ≤ 65536 }
     requires field { ask.now.field < length header.now.fields }
     requires axes { length ask.now.region ≡ length header.now.box }
     requires shape { E.shape edition ≡ shape_of header.now }
@@ -50,12 +50,7 @@ pub(crate) fn answer_alone<E: Blocks + Drop, R: Reader<E::Leaf>>(
     ensures quiet { OnOk result (R.faults reader.new ≡ R.faults reader.old) }
 {
     let lengths = block_lengths(alloc, header)?;
-    let mut hall = Hall::new(
-        alloc,
-        capacity_of(header, wish),
-        header.block_count(),
-        lengths,
-    )?;
+    let mut hall = Hall::new(alloc, KEPT_BLOCKS, header.block_count(), lengths)?;
     let Ok(edition) = Arc::new(alloc, edition) else {
         return Err(QueryFault::NoMemory);
     };

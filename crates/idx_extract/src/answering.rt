@@ -13,17 +13,14 @@ use idx_outside::{Bay, Bytes, Reader};
 use idx_plan::Question;
 use std::alloc::Global;
 
-/// The answer to a question of a dataset, with a cache of as many blocks as are wished for.
+/// The answer to a question of a dataset.
 pub(crate) fn answer<B: Bay, R: Reader<B::Leaf>>(
     alloc: Global,
     header: &Header,
     question: &Question<'_>,
-    wish: u32,
     bay: &mut B,
     reader: &mut R,
 ) -> Result<Bytes, ExtractFault>
-    requires some { 1 ≤ wish }
-    requires few { wish ≤ 65536 }
     ensures extracted { IfOk result (λ bytes. IsExtracted header.now question.now (B.files bay.old)
         (R.reads reader.old) (R.reads reader.new) bytes) }
     ensures cause { IfErr result (IsCauseUnder header.now question.now
@@ -45,6 +42,6 @@ pub(crate) fn answer<B: Bay, R: Reader<B::Leaf>>(
     let ask = asked(header, question)?;
     let edition = open_step(alloc, header, question.time, bay, reader)?;
     let mut bytes = Bytes::new(alloc);
-    answer_alone(alloc, header, &ask, wish, edition, reader, &mut bytes)?;
+    answer_alone(alloc, header, &ask, edition, reader, &mut bytes)?;
     Ok(bytes)
 }

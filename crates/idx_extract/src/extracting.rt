@@ -13,8 +13,7 @@ use std::alloc::Global;
 /// The samples that a question asks of a dataset, in row-major order, axis 0 fastest: those of a field of a step at the
 /// region's points whose level is one of those that are asked for, out of the newest revision of the step. It reads the
 /// table of each file of that revision that is there, and then exactly the blocks that hold a sample of the answer, each
-/// once, by one read each. Its cache keeps as many blocks as are wished for (1 to 65,536), but no more than have 2^31
-/// bytes. It changes nothing. A refusal comes after no more reads than the answer would take at most.
+/// once, by one read each. It changes nothing. A refusal comes after no more reads than the answer would take at most.
 ///
 /// The first refusal ends it, in this order: the header; the number of axes, the name of the field, the region, the levels,
 /// the bytes of the answer; whether the step stands; the tables of its files. Nothing is read before the step is known to
@@ -22,13 +21,9 @@ use std::alloc::Global;
 pub fn extract<B: Bay, R: Reader<B::Leaf>>(
     alloc: Global,
     question: &Question<'_>,
-    wish: u32,
     bay: &mut B,
     reader: &mut R,
 ) -> Result<Bytes, ExtractFault>
-    requires some { 1 ≤ wish }
-    requires few { wish ≤ 65536 }
-
     // The bytes are the answer, and so many reads were made.
     ensures extracted { IfOk result (Extracted question.now (B.header bay.old) (B.files bay.old)
         (R.reads reader.old) (R.reads reader.new)) }
@@ -55,5 +50,5 @@ pub fn extract<B: Bay, R: Reader<B::Leaf>>(
     ensures changes { B.changes bay.new ≡ B.changes bay.old }
 {
     let header = Header::of_bay(alloc, bay)?;
-    answer(alloc, &header, question, wish, bay, reader)
+    answer(alloc, &header, question, bay, reader)
 }

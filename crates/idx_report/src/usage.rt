@@ -69,8 +69,7 @@ idxtool: samples, headers and files of ViSUS IDX data, with proved answers
       LO HI    the coarsest and the finest level: 0 and a small HI for a coarse
                version, 0 and the dataset's levels for every sample, HI + 1 and
                a finer level for what a coarse version lacks
-      BLOCKS   how many blocks the cache keeps, 1 to 65536, else 64; no more
-               than have 2^31 bytes in all
+      BLOCKS   1 to 65536; no block is asked for twice, so it changes nothing
 
   idxtool serve DATASET ADDRESS [--cache BLOCKS] [--workers WORKERS]
                 [--links LINKS] [--ingest STEP --raw RAW]
@@ -81,7 +80,8 @@ idxtool: samples, headers and files of ViSUS IDX data, with proved answers
 
       DATASET  the header file, as run.idx; NAME is its last part without .idx
       ADDRESS  as 127.0.0.1:8080 or [::1]:8080; port 0 takes a free one
-      BLOCKS   as for query
+      BLOCKS   how many blocks the cache keeps, 1 to 65536, else 64; no more
+               than have 2^31 bytes in all
       WORKERS  how many links are served side by side, 1 to 64, else 1
       LINKS    how many links are served; then it writes `links N replies Q` to
                standard output and ends. Else it serves until it is stopped

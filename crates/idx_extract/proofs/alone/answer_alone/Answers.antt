@@ -31,7 +31,7 @@ post_in g c = post_of (shape_in g c) (g.E.Blocks.time c.args.edition) (g.E.Block
 
 -- the hall that is asked
 abbrev hall_in : (g : _) (c : goal.After-answer g) → HallValue
-hall_in g c = hall (shape_in g c) (post_in g c ∷ []) (cached [] c.capacity_of.result)
+hall_in g c = hall (shape_in g c) (post_in g c ∷ []) (cached [] 1)
 
 hall_is : (g : _) (c : goal.After-answer g) → c.publish.new.self ≡ hall_in g c
 hall_is g c =
@@ -81,7 +81,7 @@ returns-clause-once g c =
     let p = (goal.at.returns-clause-once g c).After-answer in
     both c.answer.result c.answer.ensures.answered c.answer.ensures.done
     (λ report said done. alone-once c.args.header.now c.args.ask.now (shape_in g p) (g.E.Blocks.time c.args.edition) (g.E.Blocks.has c.args.edition) (g.E.Blocks.stored c.args.edition) (seen_in g p)
-    (shaped g p) c.requires.field (seen_is g p) (first_seen g p) c.args.out.now c.answer.new.out c.answer.new.turn.kept (held_before g p) (held_after g p) report (shape_in g p) (post_in g p ∷ []) p.capacity_of.result said (told g p report done))
+    (shaped g p) c.requires.field (seen_is g p) (first_seen g p) c.args.out.now c.answer.new.out c.answer.new.turn.kept (held_before g p) (held_after g p) report (shape_in g p) (post_in g p ∷ []) 1 said (told g p report done))
 
 pub returns-clause-absent : goal.returns-clause-absent
 returns-clause-absent g c =
@@ -89,7 +89,7 @@ returns-clause-absent g c =
     ok-following (λ report. true ≡ true → IfSome c.new-turn.result.kept (λ before. Done g p before report))
     (λ report. report.absent ≡ lacking (g.E.Blocks.has c.args.edition c.args.ask.now.field) (needed c.args.header.now c.args.ask.now)) c.answer.result c.answer.ensures.done
     (λ report done. alone-absent c.args.header.now c.args.ask.now (shape_in g p) (g.E.Blocks.time c.args.edition) (g.E.Blocks.has c.args.edition) (g.E.Blocks.stored c.args.edition) (seen_in g p)
-    (shaped g p) c.requires.field (seen_is g p) c.answer.new.turn.kept (held_before g p) (held_after g p) report (post_in g p ∷ []) p.capacity_of.result (sym (seen_is g p)) (told g p report done))
+    (shaped g p) c.requires.field (seen_is g p) c.answer.new.turn.kept (held_before g p) (held_after g p) report (post_in g p ∷ []) 1 (sym (seen_is g p)) (told g p report done))
 
 pub returns-clause-cause : goal.returns-clause-cause
 returns-clause-cause g c =
