@@ -293,6 +293,8 @@ def convert(words: Sequence[bytes], folder: bytes) -> Outcome:
     if revision == REVISIONS:
         raise Refusal(6, f"published {step}")
     raw = read_raw(os.path.join(folder, words[2]), volume_size(header))
+    if not standing and os.path.islink(dataset):
+        raise Refusal(5, "store fault")
     put = {} if standing else {dataset: text}
     place = os.path.join(beside, step_folder(header, step, revision))
     staged = place + b".part"
