@@ -1,8 +1,7 @@
 //! `convert` by several ranks.
 ghost use Rattle.std.specs.Prelude.{◌<◌, IfOk, vec_len};
 
-use crate::convert_cases::{STEP, WORDS};
-use crate::setting::{done_of, holds_step, readers_of, words_in};
+use crate::setting::{done_of, holds_step, one_reader, words_in};
 use crate::waiting_source::WaitingSource;
 use idx_commands::{Cause, Done};
 use idx_memory::{MemBay, MemDoor, MemSink};
@@ -12,6 +11,9 @@ use std::sync::Wait;
 use std::sync::atomic::AtomicBool;
 use std::test::Fail;
 use std::thread::Threads;
+
+/// The words that ask for the step of the raw volume.
+const WORDS: &str = "convert|v.idx|r.raw|0 3 0 3|a uint8|V0101|2|2|./%01x.bin|0 9 time%04d/|0";
 
 /// The raw volume.
 static RAW: [u8; 16] = [0, 1, 2, 3, 4, 5, 6, 7, 8, 9, 10, 11, 12, 13, 14, 15];
@@ -39,7 +41,7 @@ fn converted<T: Threads + Wait + Sync>(
     }
     let mut bay = empty_bay(alloc);
     let done = convert(rt, alloc, ranks, raws, &mut bay)?;
-    Ok((done, holds_step(alloc, STEP, &bay)?))
+    Ok((done, holds_step(alloc, &bay)?))
 }
 
 /// A bay in which nothing stands.
@@ -63,7 +65,7 @@ fn convert<T: Threads + Wait + Sync>(
     requires { 0 < vec_len raws.old }
 {
     let words = words_for(alloc, ranks)?;
-    let mut readers = readers_of(alloc, 0)?;
+    let mut readers = one_reader(alloc)?;
     let mut doors = silent_doors(alloc)?;
     let mut out = MemSink::new(Vec::new(alloc));
     let done = done_of(

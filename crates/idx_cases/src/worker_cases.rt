@@ -1,13 +1,11 @@
 //! `serve` by several workers.
 ghost use Rattle.std.specs.Prelude.{◌<◌, vec_len};
 
-use crate::convert_cases::STEP;
-use crate::serve_cases::{Coming, Heads, Replies, came_back, door_of};
-use crate::setting::{HEADER, calls, done_of, files_of, raws_of, words_in};
+use crate::setting::{HEADER, done_of, files_of_step, words_in};
 use crate::waiting_link::{OneLink, WaitingLink};
 use crate::waiting_reader::WaitingReader;
 use idx_commands::{Cause, Done};
-use idx_memory::{MemBay, MemDoor, MemLeaf, MemReader, MemSink};
+use idx_memory::{MemBay, MemLeaf, MemReader, MemSink, MemSource};
 use idx_outside::{Bytes, Door, Reader};
 use std::alloc::{AllocError, Global};
 use std::sync::Wait;
@@ -17,125 +15,6 @@ use std::thread::Threads;
 
 /// A head that asks for all of the step 0.
 const WHOLE: &[u8] = b"GET /mod_visus?action=boxquery&dataset=v&box=0+3+0+3 HTTP/1.1\r\n\r\n";
-
-/// A run by two workers: the call of the first door that fails, or 0, and that of the second reader; the links of each
-/// door; the cause that it ends with, and what it writes; and what was written to the links of each door that came back.
-#[derive(Clone, Copy)]
-struct Beside {
-    door: u64,
-    reader: u64,
-    links: [&'static [Coming]; 2],
-    cause: Cause,
-    written: &'static [u8],
-    replies: [&'static [Replies]; 2],
-}
-
-/// A run over a link of two heads for each worker, which ends well.
-const BESIDE: Beside = Beside {
-    door: 0,
-    reader: 0,
-    links: [&[(Heads::Two, 0)], &[(Heads::Two, 0)]],
-    cause: Cause::Done,
-    written: b"links 2 replies 4\n",
-    replies: [&[Replies::Both], &[Replies::Both]],
-};
-
-/// Each call of the first worker's door and of its link fails in turn, and the first two reads of the second worker: what the
-/// other one answers is as ever.
-static FAILURES: [Beside; 9] = [
-    BESIDE,
-    Beside {
-        door: 1,
-        cause: Cause::DoorFault,
-        written: b"",
-        replies: [&[], &[Replies::Both]],
-        ..BESIDE
-    },
-    Beside {
-        door: 2,
-        cause: Cause::DoorFault,
-        written: b"",
-        ..BESIDE
-    },
-    Beside {
-        links: [&[(Heads::Two, 1)], &[(Heads::Two, 0)]],
-        written: b"links 2 replies 2\n",
-        replies: [&[Replies::Nothing], &[Replies::Both]],
-        ..BESIDE
-    },
-    Beside {
-        links: [&[(Heads::Two, 2)], &[(Heads::Two, 0)]],
-        written: b"links 2 replies 3\n",
-        replies: [&[Replies::Nothing], &[Replies::Both]],
-        ..BESIDE
-    },
-    Beside {
-        links: [&[(Heads::Two, 3)], &[(Heads::Two, 0)]],
-        replies: [&[Replies::First], &[Replies::Both]],
-        ..BESIDE
-    },
-    Beside {
-        links: [&[(Heads::Two, 4)], &[(Heads::Two, 0)]],
-        ..BESIDE
-    },
-    Beside {
-        reader: 1,
-        links: [&[], &[(Heads::Two, 0)]],
-        written: b"links 1 replies 2\n",
-        replies: [&[], &[Replies::Unread]],
-        ..BESIDE
-    },
-    Beside {
-        reader: 2,
-        links: [&[], &[(Heads::Two, 0)]],
-        written: b"links 1 replies 2\n",
-        replies: [&[], &[Replies::Both]],
-        ..BESIDE
-    },
-];
-
-/// Whether a run by two workers ends as it is to.
-fn ends_as_wanted<T: Threads + Wait + Sync>(
-    rt: &T,
-    alloc: Global,
-    beside: &Beside,
-) -> Result<bool, AllocError> {
-    let mut doors = doors_of(alloc, beside)?;
-    Ok(
-        serves_as_wanted(rt, alloc, beside, &mut doors)?
-            && doors
-                .iter()
-                .zip(beside.replies.iter())
-                .all(|(door, replies)| came_back(door, *replies)),
-    )
-}
-
-/// The doors of a run by two workers.
-fn doors_of(alloc: Global, beside: &Beside) -> Result<Vec<MemDoor>, AllocError> {
-    let first = door_of(alloc, beside.links[0], beside.door)?;
-    let second = door_of(alloc, beside.links[1], 0)?;
-    Ok(vec![in alloc; first, second]?)
-}
-
-/// Whether a run by two workers at these doors ends with its cause, and writes what it is to.
-fn serves_as_wanted<T: Threads + Wait + Sync>(
-    rt: &T,
-    alloc: Global,
-    beside: &Beside,
-    doors: &mut Vec<MemDoor>,
-) -> Result<bool, AllocError> {
-    let mut readers = readers_of(alloc, beside.reader)?;
-    let (done, out) = served(rt, alloc, &mut readers, doors)?;
-    Ok(done == Done::of(beside.cause) && out.written().as_slice() == beside.written)
-}
-
-/// Two readers. The call of this number of the second one fails.
-fn readers_of(alloc: Global, fail: u64) -> Result<Vec<MemReader>, AllocError> {
-    let mut readers = Vec::with_capacity(alloc, 2)?;
-    readers.push(MemReader::new(Vec::new(alloc)))?;
-    readers.push(MemReader::new(calls(alloc, fail)?))?;
-    Ok(readers)
-}
 
 /// How `serve` by two workers ends with these readers at these doors, and the sink that it writes to.
 fn served<T: Threads + Wait + Sync, R: Reader<MemLeaf> + Send, D: Door + Send>(
@@ -159,11 +38,11 @@ where
 /// A bay in which the step of the bytes 0 to 15 stands.
 fn bay_of_step(alloc: Global) -> Result<MemBay, AllocError> {
     let header = Bytes::from_vec(Vec::from_slice(alloc, HEADER.as_bytes())?);
-    let files = files_of(alloc, STEP)?;
+    let files = files_of_step(alloc)?;
     Ok(MemBay::new(header, files, Vec::new(alloc), Vec::new(alloc)))
 }
 
-/// Runs `serve` by two workers over a bay.
+/// Runs `serve` by two workers over a bay, beside a raw volume whose first call fails.
 fn serve<T: Threads + Wait + Sync, R: Reader<MemLeaf> + Send, D: Door + Send>(
     rt: &T,
     alloc: Global,
@@ -178,7 +57,8 @@ where
     requires door { 0 < vec_len doors.old }
 {
     let words = words_in(alloc, "serve|v.idx|a|--workers|2")?;
-    let mut raws = raws_of(alloc, (0, 0), 1)?;
+    let raw = MemSource::new(Bytes::new(alloc), Vec::from_slice(alloc, &[1])?);
+    let mut raws = vec![in alloc; raw]?;
     Ok(done_of(rt, alloc, &words, &mut raws, bay, readers, out, doors))
 }
 
@@ -222,7 +102,7 @@ fn reads_of_both<T: Threads + Wait + Sync>(
     alloc: Global,
     links: (WaitingLink<'_>, WaitingLink<'_>),
 ) -> Result<Option<u64>, AllocError> {
-    let mut readers = readers_of(alloc, 0)?;
+    let mut readers = two_readers(alloc)?;
     if are_answered(rt, alloc, &mut readers, links)? {
         Ok(Some(total_reads(&readers)))
     } else {
@@ -235,6 +115,15 @@ fn total_reads(readers: &[MemReader]) -> u64 {
         .iter()
         .map(MemReader::reads)
         .fold(0u64, u64::saturating_add)
+}
+
+/// Two readers none of whose calls fails.
+fn two_readers(alloc: Global) -> Result<Vec<MemReader>, AllocError> {
+    let mut readers = Vec::with_capacity(alloc, 2)?;
+    for _ in 0..2 {
+        readers.push(MemReader::new(Vec::new(alloc)))?;
+    }
+    Ok(readers)
 }
 
 /// Readers none of whose calls fails, each with the sign that its first read waits for, and the one that it gives.
@@ -268,14 +157,6 @@ fn workers_serve_beside_each_other_out_of_one_cache(rt: HostRuntime) -> Result<(
         let reads = reads_of_both(&rt, rt.alloc(), links)?;
         assert!(rt; !met_limit.load(Ordering::SeqCst));
         assert!(rt; reads == Some(6), "two tables and four blocks");
-    }
-    Ok(())
-}
-
-#[test]
-fn a_failure_of_one_worker_is_not_the_others(rt: HostRuntime) -> Result<(), Fail> {
-    for beside in &FAILURES {
-        assert!(rt; ends_as_wanted(&rt, rt.alloc(), beside)?);
     }
     Ok(())
 }
