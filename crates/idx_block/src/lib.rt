@@ -1,5 +1,4 @@
-//! The bytes of a block, made out of the raw samples of a field, and the lanes along which a block's samples lie among
-//! them.
+//! The bytes of a block, made out of the raw samples of a field.
 #![tactic(auto)]
 
 mod by_addresses;
@@ -8,6 +7,8 @@ mod copy;
 mod fill;
 mod first_block;
 mod rows;
+mod tile;
+mod tiles;
 mod walk;
 
 pub use by_addresses::fill_by_addresses;

@@ -8,12 +8,15 @@ use std::test::Fail;
 
 /// Boxes of two and three axes, some of whose blocks are not wholly in the box, with samples of 1, 3, 4, 2 and 8 bytes,
 /// and one whose blocks have more than sixteen rows.
-static HEADERS: [&[u8]; 5] = [
+static HEADERS: [&[u8]; 8] = [
     b"(version)\n6\n(box)\n0 6 0 4 1 3\n(fields)\na uint8\n(bits)\nV02101021\n(bitsperblock)\n4\n(blocksperfile)\n1\n(filename_template)\n./%02x.bin\n",
     b"(version)\n6\n(box)\n2 9 3 5\n(fields)\na uint8[3]\n(bits)\nV0100101\n(bitsperblock)\n3\n(blocksperfile)\n1\n(filename_template)\n./%02x.bin\n",
     b"(version)\n6\n(box)\n0 7 0 3 0 3\n(fields)\na uint32\n(bits)\nV0012012\n(bitsperblock)\n5\n(blocksperfile)\n1\n(filename_template)\n./%02x.bin\n",
     b"(version)\n6\n(box)\n0 2 0 39\n(fields)\na uint16\n(bits)\nV10110111\n(bitsperblock)\n7\n(blocksperfile)\n1\n(filename_template)\n./%02x.bin\n",
     b"(version)\n6\n(box)\n3 12 1 6\n(fields)\na uint64\n(bits)\nV1101000\n(bitsperblock)\n1\n(blocksperfile)\n1\n(filename_template)\n./%02x.bin\n",
+    b"(version)\n6\n(box)\n0 15 0 15 0 15\n(fields)\na uint8\n(bits)\nV012012012012\n(bitsperblock)\n10\n(blocksperfile)\n1\n(filename_template)\n./%02x.bin\n",
+    b"(version)\n6\n(box)\n0 31 0 14 0 15\n(fields)\na uint16\n(bits)\nV0120120120120\n(bitsperblock)\n10\n(blocksperfile)\n1\n(filename_template)\n./%02x.bin\n",
+    b"(version)\n6\n(box)\n0 63 0 31\n(fields)\na float32\n(bits)\nV01010101010\n(bitsperblock)\n10\n(blocksperfile)\n1\n(filename_template)\n./%02x.bin\n",
 ];
 
 /// The raw samples of the first field, no byte of which is 0.
@@ -136,7 +139,7 @@ fn fills_all(alloc: Global, rt: &impl Abort, text: &[u8]) -> Result<(u64, bool),
 
 #[test]
 fn a_block_holds_the_samples_of_its_addresses(rt: HostRuntime) -> Result<(), Fail> {
-    for (text, count) in HEADERS.iter().zip([16, 16, 4, 2, 64]) {
+    for (text, count) in HEADERS.iter().zip([16, 16, 4, 2, 64, 4, 8, 2]) {
         assert!(rt; fills_all(rt.alloc(), &rt, text)? == (count, true));
     }
     Ok(())

@@ -1,4 +1,4 @@
-//! Plans of questions, tried on small datasets and on one of a real size.
+//! The making of blocks and plans of questions, tried on small datasets and on one of a real size.
 #![tactic(auto)]
 
 #[cfg(test)]
