@@ -1,3 +1,10 @@
+mod SpanLemmas
+mod NumberLemmas
+mod PartLemmas
+mod RootLemmas
+mod DescentLemmas
+mod LevelsLemmas
+mod CountingLemmas
 mod OutsideLemmas
 mod ListLemmas
 mod BlockLemmas

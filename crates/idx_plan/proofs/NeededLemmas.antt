@@ -1,6 +1,6 @@
 -- The blocks that a question needs: block 0 by a count of coarse points, and of the others those of its levels that have a
 -- point of the region.
-use Rattle.std.proofs.Common.{◌≡◌, ℕ, suc, ◌-◌, ◌/◌, ◌^◌, ◌<◌, ◌≤◌, false, ◌&&◌, eqb, leb, List, [], ◌∷◌, ◌++◌, length, map, filter, sym, ap, ◌∙◌, arith}
+use Rattle.std.proofs.Common.{◌≡◌, ℕ, suc, ◌-◌, ◌/◌, ◌^◌, ◌<◌, ◌≤◌, false, ◌&&◌, eqb, leb, [], ◌∷◌, ◌++◌, length, map, filter, sym, ap, ◌∙◌, arith}
 use Rattle.std.specs.Prelude.{min, nat_lt}
 use Rattle.std.specs.List.{range_with_len}
 use Rattle.std.proofs.Math.Pow.{pow_mono}
@@ -61,12 +61,6 @@ needed-later h ask ordered deepest =
     sym (filter-range-agree (is_needed h ask) (λ k. is_between h.block_bits ask.lo ask.hi k && has_point_in h.mask ask.region h.block_bits k) 1 (block_count h - 1)
     (λ k from to. is_needed-later h ask k from)
     ∙ filter-part (has_point_in h.mask ask.region h.block_bits) 1 (block_count h - 1) first end some rising (omega (arith, within, some, rising)))
-
--- the blocks between two numbers that have a point, by what a header's calls answer
-pub blocks_of : (h : HeaderValue) (ask : Ask) (mask : List ℕ) (bits first end : ℕ) → mask ≡ h.mask → bits ≡ h.block_bits → first ≡ 2 ^ (ask.lo - 1 - bits) → end ≡ 2 ^ (ask.hi - bits) → filter (has_point_in mask ask.region bits) (range_with_len first (end - first)) ≡ filter (has_point_in h.mask ask.region h.block_bits) (range_with_len (2 ^ (ask.lo - 1 - h.block_bits)) (2 ^ (ask.hi - h.block_bits) - 2 ^ (ask.lo - 1 - h.block_bits)))
-blocks_of h ask mask bits first end m b f e =
-    (λ i. filter (has_point_in (m i) ask.region (b i)) (range_with_len (f i) (e i - f i)))
-    ∙ (λ i. filter (has_point_in h.mask ask.region h.block_bits) (range_with_len (2 ^ (ask.lo - 1 - b i)) (2 ^ (ask.hi - b i) - 2 ^ (ask.lo - 1 - b i))))
 
 -- ---- all blocks
 

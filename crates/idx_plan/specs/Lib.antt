@@ -5,3 +5,5 @@ pub mod Answerable
 pub mod Plan
 pub mod Worked
 pub mod QuestionValue
+pub mod Parts
+pub mod Branches

@@ -1,14 +1,17 @@
-ghost use Rattle.std.specs.Prelude.{◌≡◌, ◌-◌, ◌^◌, ◌≤◌, [], ◌∷◌, IfOk, filter, map};
+ghost use Rattle.std.specs.Prelude.{◌≡◌, ◌-◌, [], ◌∷◌, ◌++◌, IfOk, OnOk, filter, map};
 ghost use Rattle.std.specs.List.{range_with_len};
 ghost use Rattle.idx_header.specs.Header.{block_count};
 ghost use Rattle.idx_plan.specs.Answerable.{IsAnswerable};
 ghost use Rattle.idx_plan.specs.Needed.{is_needed, key_of, needed_keys};
 
 use crate::Ask;
+use crate::branch::Branch;
 use crate::counting::points_between;
+use crate::counts::counts_behind;
+use crate::descent::{add_branch, key_of};
+use crate::level::level_part;
 use idx_hall::Key;
 use idx_header::Header;
-use idx_layout::{FileBlocks, blocks_in};
 use idx_outside::NoMemory;
 use std::alloc::Global;
 
@@ -18,9 +21,7 @@ pub(crate) fn needed_keys(alloc: Global, header: &Header, ask: &Ask) -> Result<V
     ensures { IfOk result (λ keys. keys.items ≡ needed_keys header.now ask.now) }
 {
     let mut keys = first_key(alloc, header, ask)?;
-    for block in later_blocks(header, ask) {
-        keys.push(key_of(ask, block))?;
-    }
+    add_later_keys(header, ask, &mut keys)?;
     Ok(keys)
 }
 
@@ -45,35 +46,25 @@ fn needs_first_block(header: &Header, ask: &Ask) -> bool
     ask.lo <= bits && points_between(header, &ask.region, ask.lo, ask.hi.min(bits)) > 0
 }
 
-/// The blocks from 1 on that hold a sample of the answer, rising: of the blocks of its levels those that have a point
-/// of the region.
-fn later_blocks(header: &Header, ask: &Ask) -> FileBlocks
+/// Appends the keys of the blocks from 1 on that hold a sample of the answer, rising. Each level finer than the bits of a
+/// block has blocks of its own, behind those of the levels before it.
+fn add_later_keys(header: &Header, ask: &Ask, keys: &mut Vec<Key>) -> Result<(), NoMemory>
     requires { IsAnswerable header.now ask.now }
-    ensures { result ≡ filter (is_needed header.now ask.now) (range_with_len 1 (block_count header.now - 1)) }
+    ensures { OnOk result (keys.new.items ≡ keys.old.items ++
+        map (key_of ask.now) (filter (is_needed header.now ask.now) (range_with_len 1 (block_count header.now - 1)))) }
 {
     let mask = header.mask();
     let bits = header.bits_per_block();
-    let first = end_of_level(bits, ask.lo.saturating_sub(1));
-    let end = end_of_level(bits, ask.hi);
-    blocks_in(&mask, &ask.region, bits, first, end)
-}
-
-/// The end of the blocks, from 1 on, that have points of a level or of coarser ones. The blocks of level `bits` + k + 1
-/// are those from 2^k on and before 2^(k + 1).
-fn end_of_level(bits: u32, level: u32) -> u64
-    requires { level ≤ 40 }
-    ensures { result ≡ 2 ^ (level - bits) }
-{
-    1 << level.saturating_sub(bits)
-}
-
-/// The key of a block of the step and field that are asked for.
-fn key_of(ask: &Ask, block: u64) -> Key
-    ensures { result ≡ key_of ask.now block }
-{
-    Key {
-        time: ask.time,
-        field: ask.field,
-        block,
+    if ask.hi <= bits {
+        return Ok(());
     }
+    let first = ask.lo.max(bits + 1);
+    let digits = counts_behind(&mask, 0);
+    let mut behind = counts_behind(&mask, first - 1);
+    for level in first..ask.hi + 1 {
+        let part = level_part(&mask, &ask.region, level, &digits, &behind);
+        add_branch(&mask, ask, Branch::of_level(bits, level), part, keys)?;
+        behind[mask.axis(level) as usize] -= 1;
+    }
+    Ok(())
 }

@@ -2,16 +2,22 @@
 #![tactic(auto)]
 
 mod ask;
+mod branch;
 mod counting;
+mod counts;
+mod descent;
 mod examples;
 mod keys;
 mod laws;
+mod level;
 mod outside;
+mod part;
 mod plan_fault;
 mod planning;
 mod query_plan;
 mod question;
 mod rounds;
+mod span;
 
 pub use ask::Ask;
 pub use examples::{worked_blocks, worked_faults, worked_rounds};

@@ -2,7 +2,6 @@ use Rattle.std.proofs.Common.{◌≡◌, ◌*◌, ◌/◌, ◌%◌, ◌^◌, ◌
 use Rattle.std.specs.Prelude.{max}
 use Rattle.std.proofs.Math.Nat.{max_comm, mod-eq_of_lt, mul-le-mul}
 use Rattle.std.proofs.Math.Pow.{pow_mono}
-use Rattle.idx_header.specs.Header.{sample_bytes_of}
 use Rattle.idx_plan.proofs.rounds.width.Goals as goal
 
 pub returns-clause-value : goal.returns-clause-value
