@@ -1,5 +1,5 @@
 -- A dock: the file that it is for, the pieces that have a point in it, and what was delivered of each.
-use Rattle.std.specs.Prelude.{◌≡◌, ℕ, ◌<◌, ◌≤◌, ◌==◌, Bool, not, if◌then◌else◌, List, [], ◌∷◌, length, map, filter, find, Option, Some, None, All}
+use Rattle.std.specs.Prelude.{◌≡◌, ℕ, ◌<◌, ◌≤◌, ◌==◌, ◌&&◌, nat_le, nat_lt, Bool, not, if◌then◌else◌, List, [], ◌∷◌, length, map, filter, find, Option, Some, None, All}
 use Rattle.std.specs.List.{list_any, range_with_len}
 use Rattle.std.specs.Option.{ForSome, is_some, option_map, option_map_or}
 use Rattle.idx_geom.specs.Region.{points}
@@ -100,3 +100,7 @@ with_shipment s d = dock_of d.header d.file (with_runs s.piece s.runs d.awaited)
 -- the least awaited piece of which nothing was delivered
 abbrev pub missing : DockValue → Option ℕ
 missing d = option_map (λ a. a.piece) (find (λ a. not (is_some a.runs)) d.awaited)
+
+-- the dock awaits a piece with an id up to this one, and one behind it
+abbrev pub is_open_at : ℕ → DockValue → Bool
+is_open_at id d = list_any (λ a. nat_le a.piece id) d.awaited && list_any (λ a. nat_lt id a.piece) d.awaited

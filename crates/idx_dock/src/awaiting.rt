@@ -1,6 +1,7 @@
 //! The pieces that a dock awaits.
-ghost use Rattle.std.specs.Prelude.{◌≡◌, ◌==◌, ◌+◌, option_copied, ◌<◌, All, IfErr, IfOk, MatchResult, None, OnErr, OnOk, Some, find, length, map, not, position, slice_index_or, slice_set, vec_len};
+ghost use Rattle.std.specs.Prelude.{◌≡◌, ◌==◌, ◌+◌, nat_le, nat_lt, option_copied, ◌<◌, All, IfErr, IfOk, MatchResult, None, OnErr, OnOk, Some, find, length, map, not, position, slice_index_or, slice_set, vec_len};
 ghost use Rattle.idx_dock.specs.declared.awaited.Awaited.{Awaited};
+ghost use Rattle.std.specs.List.{list_any};
 ghost use Rattle.std.specs.Option.{is_some, option_map};
 ghost use Rattle.idx_geom.specs.Region.{upper_ends};
 ghost use Rattle.idx_hz.specs.Mask.{HasAddress};
@@ -80,6 +81,20 @@ pub(crate) fn first_missing(awaited: &[Awaited]) -> Option<u64>
         }
     }
     None
+}
+
+/// Whether a piece with an id up to this one is awaited.
+pub(crate) fn awaits_up_to(awaited: &[Awaited], id: u64) -> bool
+    ensures { result ≡ list_any (λ a. nat_le a.piece id) awaited.now }
+{
+    awaited.iter().any(|a| a.piece <= id)
+}
+
+/// Whether a piece behind this one is awaited.
+pub(crate) fn awaits_behind(awaited: &[Awaited], id: u64) -> bool
+    ensures { result ≡ list_any (λ a. nat_lt id a.piece) awaited.now }
+{
+    awaited.iter().any(|a| a.piece > id)
 }
 
 /// Keeps the runs of an awaited piece, unless it has some.

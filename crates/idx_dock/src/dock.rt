@@ -8,10 +8,12 @@ ghost use Rattle.std.specs.Option.{ForSome, is_some, option_map};
 ghost use Rattle.idx_outside.specs.Cause.{Rose, counted};
 ghost use Rattle.idx_outside.specs.Files.{retold};
 ghost use Rattle.idx_dock.specs.Content.{dock_bytes};
-ghost use Rattle.idx_dock.specs.Dock.{FitsDock, IsDivision, awaited_at, IsDock, missing, new_dock, unwanted, with_shipment};
+ghost use Rattle.idx_dock.specs.Dock.{FitsDock, IsDivision, awaited_at, IsDock, is_open_at, missing, new_dock, unwanted, with_shipment};
 
 use crate::awaited::copies;
-use crate::awaiting::{await_pieces, deliver_to, find_piece, first_missing};
+use crate::awaiting::{
+    await_pieces, awaits_behind, awaits_up_to, deliver_to, find_piece, first_missing,
+};
 use crate::content::write_file;
 use crate::{Awaited, Unwanted};
 use idx_header::Header;
@@ -28,7 +30,7 @@ const LONGEST_BUFFER: u64 = 1 << 18;
 const SHORTEST_BUFFER: u64 = 1 << 10;
 
 /// The aggregator of one file: the pieces with a point in it, by rising id, each with its samples once they were
-/// delivered. No sample is copied before the file is written. All memory is taken by `new`.
+/// delivered. No sample is copied before the file is written. Memory is taken by `new` and by `reserve` alone.
 #[derive(Debug, Drop)]
 pub struct Dock {
     header: Header,
@@ -72,12 +74,20 @@ impl Dock {
             file,
             awaited,
             passed,
-            buffer: Vec::with_capacity(alloc, buffer_len(header, file))?,
+            buffer: Vec::new(alloc),
         })
     }
 
-    /// An equal dock: the same pieces, each with a copy of what was delivered of it. Answers `NoMemory` where there is no
-    /// room for it.
+    /// Takes the buffer through which `write` gathers what is short. Without it each run is written by itself.
+    pub fn reserve(&mut self, alloc: Global) -> Result<(), NoMemory>
+        ensures { self.new ≡ self.old }
+    {
+        self.buffer = Vec::with_capacity(alloc, buffer_len(&self.header, self.file))?;
+        Ok(())
+    }
+
+    /// An equal dock, without a buffer: the same pieces, each with a copy of what was delivered of it. Answers `NoMemory`
+    /// where there is no room for it.
     pub fn copy(&self, alloc: Global) -> Result<Dock, NoMemory>
         ensures { IfOk result (λ dock. dock ≡ self.now) }
     {
@@ -88,7 +98,7 @@ impl Dock {
             file: self.file,
             awaited,
             passed,
-            buffer: Vec::with_capacity(alloc, buffer_len(&self.header, self.file))?,
+            buffer: Vec::new(alloc),
         })
     }
 
@@ -131,6 +141,13 @@ impl Dock {
     {
         let awaited = find_piece(&self.awaited, piece)?;
         Some(awaited.runs.is_some())
+    }
+
+    /// Whether a piece with an id up to this one is awaited, and one behind it. Takes no memory.
+    pub fn is_open_at(&self, id: u64) -> bool
+        ensures { result ≡ is_open_at id self.now }
+    {
+        awaits_up_to(&self.awaited, id) && awaits_behind(&self.awaited, id)
     }
 
     /// Appends the file to a draft, and seals it: the table, and for each field the present blocks, with the delivered

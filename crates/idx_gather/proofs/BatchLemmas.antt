@@ -1,6 +1,6 @@
 -- The next batch of the pieces that are left: they are pieces of the box, and some are left where a dock misses one.
-use Rattle.std.proofs.Common.{◌≡◌, ◌≢◌, ℕ, suc, ◌+◌, ◌-◌, ◌^◌, ◌<◌, ◌≤◌, true, cond, List, [], ◌∷◌, ◌++◌, length, get_or, take, drop, not, refl, sym, ap, ◌∙◌, subst, arith, Option, Some, None}
-use Rattle.std.specs.Prelude.{All, filter, find}
+use Rattle.std.proofs.Common.{◌≡◌, ◌≢◌, inl, inr, ℕ, suc, ◌+◌, ◌-◌, ◌^◌, ◌<◌, ◌≤◌, true, cond, List, [], ◌∷◌, ◌++◌, length, get_or, take, drop, not, refl, sym, ap, ◌∙◌, subst, arith, Option, Some, None}
+use Rattle.std.specs.Prelude.{◌⊎◌, All, filter, find}
 use Rattle.std.specs.List.{range_with_len}
 use Rattle.std.specs.Option.{is_some, option_map}
 use Rattle.std.proofs.lemmas.List.{get_or-map, length-drop, length-map, take-append-drop}
@@ -72,7 +72,7 @@ find_none (a ∷ awaited) all =
     P : Awaited → Type 0
     P a = is_some a.runs ≡ true
 
-all_full : (docks : List DockValue) → All (HasAllBut []) docks → AreFull docks
+pub all_full : (docks : List DockValue) → All (HasAllBut []) docks → AreFull docks
 all_full docks all = All-weaker (HasAllBut []) (λ d. missing d ≡ None) (λ d has. ap (option_map (λ (a : Awaited). a.piece)) (find_none d.awaited has)) docks all
 
 -- where a dock misses a piece, some are left
@@ -86,6 +86,11 @@ run_moves size room [] some = absurd (some refl)
 run_moves size room (x ∷ xs) some =
     let rest : length (drop (more_fit size room (size x) xs) xs) ≡ length xs - more_fit size room (size x) xs = length-drop (more_fit size room (size x) xs) xs in
     let fewer : length (drop (more_fit size room (size x) xs) xs) < suc (length xs) = omega (arith, rest) in fewer
+
+-- the pieces behind the next batch are fewer, or none
+pub batch_moves : {X : Type 0} (size : X → ℕ) (room : ℕ) (xs rest : List X) → rest ≡ drop (run_count size room xs) xs → (length rest < length xs) ⊎ (rest ≡ [])
+batch_moves size room [] rest is = inr is
+batch_moves size room (x ∷ xs) rest is = inl (subst (λ ys. length ys < length (x ∷ xs)) (sym is) (run_moves size room (x ∷ xs) (λ none. cc)))
 
 pub joined : (count : ℕ) (batch rest left : List Piece) → batch ≡ take count left → rest ≡ drop count left → batch ++ rest ≡ left
 joined count batch rest left first behind =

@@ -64,7 +64,7 @@ piece_address h piece is one =
 -- ---- files
 
 -- what is left of a list behind the first
-left_is : (files : List ℕ) (done : ℕ) → take (length files - done) (drop done files) ≡ drop done files
+pub left_is : (files : List ℕ) (done : ℕ) → take (length files - done) (drop done files) ≡ drop done files
 left_is files done = take_all (length files - done) (drop done files) (omega (arith, length-drop done files))
 
 -- the files of a part of the list are files
@@ -95,11 +95,11 @@ some_left files done sealed at few other = by_cases (cases_lt done (length files
 
 -- ---- docks
 
-files_of : (h : HeaderValue) (pieces : List Piece) (files : List ℕ) → map (λ (d : DockValue). d.file) (map (new_dock h pieces) files) ≡ files
+pub files_of : (h : HeaderValue) (pieces : List Piece) (files : List ℕ) → map (λ (d : DockValue). d.file) (map (new_dock h pieces) files) ≡ files
 files_of h pieces [] = refl
 files_of h pieces (f ∷ fs) = ap (λ rest. f ∷ rest) (files_of h pieces fs)
 
-none_delivered : (pieces : List Piece) → map undelivered (map awaited_of pieces) ≡ map awaited_of pieces
+pub none_delivered : (pieces : List Piece) → map undelivered (map awaited_of pieces) ≡ map awaited_of pieces
 none_delivered [] = refl
 none_delivered (p ∷ ps) = ap (λ rest. awaited_of p ∷ rest) (none_delivered ps)
 
@@ -118,7 +118,7 @@ reaching_wanted h pieces files file among = λ k d within.
     (and_from (is_wanted h files piece) (piece.id == piece.id) is (eq-eqb piece.id piece.id refl)))
 
 -- new docks have nothing of the wanted pieces
-new_without : (h : HeaderValue) (pieces : List Piece) (files : List ℕ) (file : ℕ) → Contains files file → HasAllBut (wanted h files pieces) (new_dock h pieces file)
+pub new_without : (h : HeaderValue) (pieces : List Piece) (files : List ℕ) (file : ℕ) → Contains files file → HasAllBut (wanted h files pieces) (new_dock h pieces file)
 new_without h pieces files file among =
     let left : List Piece = wanted h files pieces in
     All-map (λ a. is_some a.runs ≡ not (has_id left a.piece)) awaited_of (reaching h file pieces)

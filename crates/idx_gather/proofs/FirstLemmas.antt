@@ -6,7 +6,7 @@ use Rattle.std.proofs.lemmas.List.{length-append, length-map, map-append}
 use Rattle.std.proofs.lemmas.List.Elements.{All-cons, All-contains_itself, All-head, All-map, All-nil, All-same, All-tail, All-take, All-weaker}
 use Rattle.idx_outside.specs.Files.{entry_shown, known_files, known_with, shown}
 use Rattle.idx_outside.specs.declared.mem_file.MemFile.{MemFile}
-use Rattle.idx_header.specs.Header.{HeaderValue, IsHeader, volume_bytes}
+use Rattle.idx_header.specs.Header.{HeaderValue, IsHeader}
 use Rattle.idx_header.specs.Names.{file_name}
 use Rattle.idx_layout.specs.declared.layout.Layout.TheVariants.{Hz}
 use Rattle.idx_layout.specs.Files.{file_bytes, length_of_file}
@@ -24,7 +24,6 @@ use Rattle.idx_seal.specs.Files.{dock_file}
 use Rattle.idx_volumes.specs.Volumes.{HaveOneFile, IsVolumeOf}
 use Rattle.idx_volumes.proofs.DockLemmas.{dock_volume}
 use Rattle.idx_volumes.proofs.JoinLemmas.{join}
-use Rattle.idx_gather.specs.Gather.{HasVolume}
 use Rattle.idx_gather.specs.States.{AreDocks, AreFilesSoFar, AreFirstFiles, AreFull, HaveSamples, IsDockOf, IsOpening, TellsFile}
 use Rattle.idx_gather.specs.Windows.{run_count}
 use Rattle.idx_gather.proofs.PairLemmas.{All-back, All-front, All-of_map, kept_apart, pairs_head, pairs_of_map, pairs_tail, pairs_take}
@@ -34,16 +33,16 @@ use Rattle.idx_gather.proofs.ToldLemmas.{told_known, zip_append}
 
 -- ---- lists
 
-maps_agree : {X Y : Type 0} (f g : X → Y) (xs : List X) → All (λ x. f x ≡ g x) xs → map f xs ≡ map g xs
+pub maps_agree : {X Y : Type 0} (f g : X → Y) (xs : List X) → All (λ x. f x ≡ g x) xs → map f xs ≡ map g xs
 maps_agree f g [] all = refl
 maps_agree f g (x ∷ xs) all =
     ap (λ y. y ∷ map f xs) (All-head (λ x. f x ≡ g x) x xs all) ∙ ap (λ ys. g x ∷ ys) (maps_agree f g xs (All-tail (λ x. f x ≡ g x) x xs all))
 
-pairs_back : {X : Type 0} (R : X → X → Type 0) (xs ys : List X) → AllPairs R (xs ++ ys) → AllPairs R ys
+pub pairs_back : {X : Type 0} (R : X → X → Type 0) (xs ys : List X) → AllPairs R (xs ++ ys) → AllPairs R ys
 pairs_back R [] ys all = all
 pairs_back R (x ∷ xs) ys all = pairs_back R xs ys (pairs_tail R x (xs ++ ys) all)
 
-pairs_across : {X : Type 0} (R : X → X → Type 0) (xs ys : List X) → AllPairs R (xs ++ ys) → All (λ x. All (R x) ys) xs
+pub pairs_across : {X : Type 0} (R : X → X → Type 0) (xs ys : List X) → AllPairs R (xs ++ ys) → All (λ x. All (R x) ys) xs
 pairs_across R [] ys all = All-nil (λ x. All (R x) ys)
 pairs_across R (x ∷ xs) ys all =
     All-cons (λ x. All (R x) ys) x xs (All-back (R x) xs ys (pairs_head R x (xs ++ ys) all)) (pairs_across R xs ys (pairs_tail R x (xs ++ ys) all))
@@ -96,7 +95,7 @@ told_bytes h raw v d at are is same none given =
     (λ r here. subst (λ (g : HeaderValue). HasSamples g (sample_of g v) r) (sym same) (one_of (HasSamples h (sample_of h v)) (runs_in d.awaited) r samples here)))
 
 -- a volume with the files of the docks, which is that of the raw input where this is told
-grown : (told : Option (List ℕ)) (h : HeaderValue) (docks : List DockValue) (v : List (List (List ℕ))) → IfSome told (λ raw. v ≡ volume_of_raw h raw) → IsVolumeOf h v →
+pub grown : (told : Option (List ℕ)) (h : HeaderValue) (docks : List DockValue) (v : List (List (List ℕ))) → IfSome told (λ raw. v ≡ volume_of_raw h raw) → IsVolumeOf h v →
     All IsDock docks → All (λ d. d.header ≡ h) docks → All (λ d. Contains (file_numbers (placing_of h)) d.file) docks → AllPairs (λ a b. a.file ≢ b.file) docks → AreFull docks →
     ((raw : List ℕ) → told ≡ Some raw → HaveSamples h (raw_sample h raw) docks) →
     (u : List (List (List ℕ))) × (IsGrown h docks v u × IfSome told (λ raw. u ≡ volume_of_raw h raw))
@@ -119,7 +118,7 @@ grown (Some raw) h docks v at is are of_h among apart full samples = (
 -- ---- files
 
 -- the files of docks are those of a volume that has them
-files_of_docks : (h : HeaderValue) (step : ℕ) (u : List (List (List ℕ))) (docks : List DockValue) → All (λ d. dock_bytes d ≡ file_bytes Hz (placing_of h) u d.file) docks →
+pub files_of_docks : (h : HeaderValue) (step : ℕ) (u : List (List (List ℕ))) (docks : List DockValue) → All (λ d. dock_bytes d ≡ file_bytes Hz (placing_of h) u d.file) docks →
     map (step_file Hz h u step) (map (λ d. d.file) docks) ≡ map (dock_file h step) docks
 files_of_docks h step u [] own = refl
 files_of_docks h step u (d ∷ docks) own =
@@ -127,7 +126,7 @@ files_of_docks h step u (d ∷ docks) own =
     ∙ ap (λ rest. dock_file h step d ∷ rest) (files_of_docks h step u docks (All-tail (λ e. dock_bytes e ≡ file_bytes Hz (placing_of h) u e.file) d docks own))
 
 -- the numbers of files differ
-numbers_apart : (l : Placing) → AllPairs (λ x y. x ≢ y) (file_numbers l)
+pub numbers_apart : (l : Placing) → AllPairs (λ x y. x ≢ y) (file_numbers l)
 numbers_apart l = kept_apart (λ file. list_any (λ block. is_present l block && (file_of l block == file)) (range_with_len 0 (block_count l))) 0 (block_count l)
 
 -- ---- new docks
@@ -137,24 +136,13 @@ none_runs [] = refl
 none_runs (p ∷ ps) = none_runs ps
 
 -- what was delivered to new docks has any samples: it is nothing
-new_have : (h g : HeaderValue) (sample : ℕ → List ℕ → List ℕ) (pieces : List Piece) (files : List ℕ) (docks : List DockValue) → docks ≡ map (new_dock g pieces) files →
+pub new_have : (h g : HeaderValue) (sample : ℕ → List ℕ → List ℕ) (pieces : List Piece) (files : List ℕ) (docks : List DockValue) → docks ≡ map (new_dock g pieces) files →
     HaveSamples h sample docks
 new_have h g sample pieces files docks made =
     All-same (λ (d : DockValue). All (HasSamples h sample) (runs_in d.awaited)) docks (map (new_dock g pieces) files) made
     (All-map (λ (d : DockValue). All (HasSamples h sample) (runs_in d.awaited)) (new_dock g pieces) files
     (λ k d within. All-same (HasSamples h sample) (runs_in (map awaited_of (reaching g (get_or files k d) pieces))) []
     (none_runs (reaching g (get_or files k d) pieces)) (All-nil (HasSamples h sample))))
-
--- what was delivered since has the samples of the raw input
-pub have_since : (e g h k : HeaderValue) (now told : Option (List ℕ)) (new docks : List DockValue) (pieces : List Piece) (files : List ℕ) → e ≡ h → g ≡ h → now ≡ told →
-    HasVolume h told → new ≡ map (new_dock k pieces) files →
-    ((bytes : List ℕ) → now ≡ Some bytes → length bytes ≡ volume_bytes e → HaveSamples e (raw_sample e bytes) new → HaveSamples e (raw_sample e bytes) docks) →
-    (raw : List ℕ) → told ≡ Some raw → HaveSamples g (raw_sample g raw) docks
-have_since e g h k now told new docks pieces files first last same has made samples raw is =
-    let whole : HasVolume h (Some raw) = subst (λ (o : Option (List ℕ)). HasVolume h o) is has in
-    let many : length raw ≡ volume_bytes e = subst (λ (x : HeaderValue). length raw ≡ volume_bytes x) (sym first) whole in
-    subst (λ (x : HeaderValue). HaveSamples x (raw_sample x raw) docks) (first ∙ sym last)
-    (samples raw (same ∙ is) many (new_have e k (raw_sample e raw) pieces files new made))
 
 -- ---- the next window
 
@@ -257,25 +245,8 @@ module _ (h : HeaderValue) (step room : ℕ) (pieces : List Piece) (files : List
       not_told : (raw : List ℕ) → ◌≡◌ {A = Option (List ℕ)} None (Some raw) → ⊥
       not_told raw e = cc
 
-  -- the step has the files of the window behind the first ones
-  pub first_more : files ≡ file_numbers (placing_of h) → length sealed ≤ length files → AreDocks h room pieces (drop (length sealed) files) done left docks →
-      All IsDock docks → AreFull docks → ((raw : List ℕ) → told ≡ Some raw → HaveSamples h (raw_sample h raw) docks) → AreFirstFiles h step known told files sealed →
-      AreFirstFiles h step known told files (sealed ++ known_files known (map (dock_file h step) docks))
-  first_more is within are docks_are full samples first =
-      let v : List (List (List ℕ)) = first.volume in
-      let all = has_window is within are docks_are full samples v first.is first.told_is in
-      record {
-        volume = all.0;
-        is = all.1.volume;
-        told_is = all.1.told_is;
-        same =
-            ap (λ entries. entries ++ known_files known (map (dock_file h step) docks)) first.same
-            ∙ sym (map-append (entry_shown (known_with known)) (map (step_file Hz h v step) (take (length sealed) files)) (map (dock_file h step) docks))
-            ∙ ap (known_files known) (with_window within are v all.0 all.1);
-      }
-
 -- the same of what equals these
-moved : (h g : HeaderValue) (step s : ℕ) (known k : Option (List MemFile)) (told : Option (List ℕ)) (files fs : List ℕ) (sealed entries : List (List ℕ × Option (List ℕ))) →
+pub moved : (h g : HeaderValue) (step s : ℕ) (known k : Option (List MemFile)) (told : Option (List ℕ)) (files fs : List ℕ) (sealed entries : List (List ℕ × Option (List ℕ))) →
     h ≡ g → step ≡ s → known ≡ k → files ≡ fs → sealed ≡ entries → AreFirstFiles h step known told files sealed → AreFirstFiles g s k told fs entries
 moved h g step s known k told files fs sealed entries hg ss ks all same first =
     subst (λ (x : List (List ℕ × Option (List ℕ))). AreFirstFiles g s k told fs x) same
@@ -283,24 +254,6 @@ moved h g step s known k told files fs sealed entries hg ss ks all same first =
     (subst (λ (x : Option (List MemFile)). AreFirstFiles g s x told files sealed) ks
     (subst (λ (x : ℕ). AreFirstFiles g x known told files sealed) ss
     (subst (λ (x : HeaderValue). AreFirstFiles x step known told files sealed) hg first))))
-
-module _ {L : Type 0} (contents : L → Option (List ℕ)) (h g : HeaderValue) (step s ranks room : ℕ) (pieces : List Piece) (files fs : List ℕ) (leaves now next : List (List ℕ × L)) (docks : List DockValue)
-    (done : ℕ) (left : List Piece) (known k : Option (List MemFile)) (told : Option (List ℕ)) where
-  -- after a window the files so far are the first ones
-  pub first_next : g ≡ h → s ≡ step → k ≡ known → fs ≡ files → now ≡ leaves → IsOpening g s ranks room pieces fs (map (λ leaf. leaf.0) now) →
-      AreDocks g room pieces (drop (length now) fs) done left docks → All IsDock docks → AreFull docks → ((raw : List ℕ) → told ≡ Some raw → HaveSamples g (raw_sample g raw) docks) →
-      shown contents next ≡ shown contents now ++ known_files k (map (dock_file g s) docks) → AreFirstFiles h step known told files (shown contents leaves) →
-      AreFirstFiles h step known told files (shown contents next)
-  first_next gh ss ks all same opening are docks_are full samples after first =
-      let sealed : List (List ℕ × Option (List ℕ)) = shown contents now in
-      let many : length sealed ≡ length now = length-map now (entry_shown contents) in
-      let first_of : List ℕ × L → List ℕ = λ leaf. leaf.0 in
-      let within : length sealed ≤ length fs = omega (arith, many, opening.few, length-map now first_of) in
-      let before : AreFirstFiles g s k told fs sealed =
-      moved h g step s known k told files fs (shown contents leaves) sealed (sym gh) (sym ss) (sym ks) (sym all) (ap (shown contents) (sym same)) first in
-      moved g h s step k known told fs files (sealed ++ known_files k (map (dock_file g s) docks)) (shown contents next) gh ss ks all (sym after)
-      (first_more g s room pieces fs sealed docks done left k told opening.files_are within
-      (subst (λ (n : ℕ). AreDocks g room pieces (drop n fs) done left docks) (sym many) are) docks_are full samples before)
 
 -- and they are those of some volume, as far as they tell their bytes
 pub so_far_next : {L : Type 0} (contents : L → Option (List ℕ)) (h : HeaderValue) (step ranks room : ℕ) (pieces : List Piece) (files : List ℕ) (leaves more next : List (List ℕ × L)) (docks : List DockValue)

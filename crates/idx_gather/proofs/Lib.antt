@@ -14,4 +14,7 @@ pub mod ToldLemmas
 pub mod FirstLemmas
 pub mod SealAllLemmas
 pub mod FillLemmas
+pub mod StreamLemmas
+pub mod SealedLemmas
+pub mod ClosingLemmas
 pub mod GatherLemmas

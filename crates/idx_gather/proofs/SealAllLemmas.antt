@@ -56,3 +56,12 @@ idle_again h g n m start before after header number within first =
     subst (λ (k : ℕ). drop (rank_count h.box k) after ≡ drop (rank_count h.box k) before) number
     (subst (λ (x : HeaderValue). drop (rank_count x.box m) after ≡ drop (rank_count x.box m) before) header within)
     ∙ first
+
+-- a cause that goes by what equals these
+pub caused_moved : (h g : HeaderValue) (told raw : Option (List ℕ)) (start before after : List ℕ) (first mid last : ℕ) (fault : GatherFault) → g ≡ h → raw ≡ told → before ≡ start → mid ≡ first →
+    IsCaused g raw before after mid last fault → IsCaused h told start after first last fault
+caused_moved h g told raw start before after first mid last fault header same starts counts cause =
+    subst (λ (n : ℕ). IsCaused h told start after n last fault) counts
+    (subst (λ (xs : List ℕ). IsCaused h told xs after mid last fault) starts
+    (subst (λ (o : Option (List ℕ)). IsCaused h o before after mid last fault) same
+    (subst (λ (x : HeaderValue). IsCaused x raw before after mid last fault) header cause)))

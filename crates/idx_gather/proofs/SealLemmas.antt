@@ -29,7 +29,7 @@ length_take (suc n) [] within = absurd (omega arith)
 length_take (suc n) (x ∷ xs) within = ap suc (length_take n xs (omega (arith, within)))
 
 -- some file makes the first run of some
-run_some : {X : Type 0} (size : X → ℕ) (room : ℕ) (xs : List X) → 0 < length xs → 0 < run_count size room xs
+pub run_some : {X : Type 0} (size : X → ℕ) (room : ℕ) (xs : List X) → 0 < length xs → 0 < run_count size room xs
 run_some size room [] some = absurd (omega arith)
 run_some size room (x ∷ xs) some = omega arith
 

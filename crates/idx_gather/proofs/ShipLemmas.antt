@@ -52,7 +52,7 @@ apart_ids (p ∷ front) back apart id here = by_test (id == p.id) refl (apart_id
         let wrong : true ≡ false = sym here ∙ ap (has_id back) (eqb-true id p.id same) ∙ none in absurd (cc)
     by_test false same rest = rest
 
-apart_back : (front back : List Piece) → AllPairs Apart (front ++ back) → (id : ℕ) → has_id front id ≡ true → has_id back id ≡ false
+pub apart_back : (front back : List Piece) → AllPairs Apart (front ++ back) → (id : ℕ) → has_id front id ≡ true → has_id back id ≡ false
 apart_back front back apart id here = by_test (has_id back id) refl
   where
     by_test : (b : Bool) → has_id back id ≡ b → has_id back id ≡ false
@@ -69,7 +69,7 @@ or_true : (b : Bool) → (b || true) ≡ true
 or_true true = refl
 or_true false = refl
 
-none_is : (runs : Option (List Run)) → is_some runs ≡ false → runs ≡ None
+pub none_is : (runs : Option (List Run)) → is_some runs ≡ false → runs ≡ None
 none_is None none = refl
 none_is (Some runs) none = let wrong : true ≡ false = none in absurd (cc)
 
@@ -84,7 +84,7 @@ module _ (p q : ℕ → Bool) where
   abbrev After : Awaited → Type 0
   After a = is_some a.runs ≡ not (q a.piece)
 
-  flags_left : (old new : List Awaited) → ((id : ℕ) → p id ≡ true → q id ≡ false) → map undelivered new ≡ map undelivered old →
+  pub flags_left : (old new : List Awaited) → ((id : ℕ) → p id ≡ true → q id ≡ false) → map undelivered new ≡ map undelivered old →
       map (λ a. is_some a.runs) new ≡ map (λ a. is_some a.runs || p a.piece) old → All Before old → All After new
   flags_left old [] apart same flags all = All-nil After
   flags_left [] (b ∷ news) apart same flags all = let wrong : undelivered b ∷ map undelivered news ≡ [] = same in absurd (cc)
@@ -98,12 +98,12 @@ module _ (p q : ℕ → Bool) where
       (one_flag (is_some a.runs) (p a.piece) (q a.piece) (is_some b.runs) (apart a.piece) (All-head Before a olds all) flag ∙ ap (λ n. not (q n)) (sym id))
       (flags_left olds news apart rest others (All-tail Before a olds all))
 
-either_id : (batch left : List Piece) (id : ℕ) → has_id (batch ++ left) id ≡ (has_id batch id || has_id left id)
+pub either_id : (batch left : List Piece) (id : ℕ) → has_id (batch ++ left) id ≡ (has_id batch id || has_id left id)
 either_id batch left id = list_any-append (λ (piece : Piece). id == piece.id) batch left
 
 -- ---- the division
 
-ids_apart : (h : HeaderValue) (pieces : List Piece) → IsDivision h pieces → AllPairs Apart pieces
+pub ids_apart : (h : HeaderValue) (pieces : List Piece) → IsDivision h pieces → AllPairs Apart pieces
 ids_apart h pieces is =
     (new_ready h pieces [] is (All-nil (Contains (file_numbers (placing_of h)))) (λ i j d less within. absurd (omega arith))).apart
 

@@ -1,7 +1,7 @@
 -- Sealed files that are those of the step of some volume, as far as they tell their bytes.
 use Rattle.std.proofs.Common.{◌≡◌, ℕ, zero, suc, ◌<◌, true, false, List, [], ◌∷◌, ◌++◌, length, map, take, refl, sym, ap, subst, ◌∙◌, arith, Option, Some, None}
 use Rattle.std.proofs.Props.{props}
-use Rattle.std.specs.Prelude.{All, IfSome, replicate, slice_get}
+use Rattle.std.specs.Prelude.{IfSome, replicate, slice_get}
 use Rattle.std.specs.List.{AllZip}
 use Rattle.std.specs.Option.{is_some}
 use Rattle.std.proofs.lemmas.List.{length-map, length-replicate, take_all}
@@ -29,7 +29,7 @@ zip_append R [] more (y ∷ ys) others first last = absurd first
 zip_append R (x ∷ xs) more [] others first last = absurd first
 zip_append R (x ∷ xs) more (y ∷ ys) others first last = (first.0, zip_append R xs more ys others first.1 last)
 
-zip_count : {X Y : Type 0} (R : X → Y → Type 0) (xs : List X) (ys : List Y) → AllZip R xs ys → length ys ≡ length xs
+pub zip_count : {X Y : Type 0} (R : X → Y → Type 0) (xs : List X) (ys : List Y) → AllZip R xs ys → length ys ≡ length xs
 zip_count R [] [] all = refl
 zip_count R [] (y ∷ ys) all = absurd all
 zip_count R (x ∷ xs) [] all = absurd all
@@ -85,7 +85,7 @@ all_files h step files sealed numbers all so_far = record {
 -- ---- the step
 
 -- they are as the writer lays out
-paths_told : (h : HeaderValue) (step : ℕ) (v : List (List (List ℕ))) (leaves : List (List ℕ × Option (List ℕ))) (numbers : List ℕ) → AllZip TellsFile leaves (map (step_file Hz h v step) numbers) →
+pub paths_told : (h : HeaderValue) (step : ℕ) (v : List (List (List ℕ))) (leaves : List (List ℕ × Option (List ℕ))) (numbers : List ℕ) → AllZip TellsFile leaves (map (step_file Hz h v step) numbers) →
     map (λ leaf. leaf.0) leaves ≡ map (file_name h step) numbers
 paths_told h step v [] [] all = refl
 paths_told h step v [] (n ∷ numbers) all = absurd all

@@ -1,4 +1,5 @@
 pub mod Gather
 pub mod Windows
 pub mod States
+pub mod Streams
 pub mod Causes

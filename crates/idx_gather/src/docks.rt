@@ -69,7 +69,7 @@ fn are_full(docks: &[Dock]) -> bool
 }
 
 /// The docks of some files of a division of the box, and its pieces that have a point in one of these.
-fn make_window(
+pub(crate) fn make_window(
     alloc: Global,
     header: &Header,
     pieces: &Vec<Piece>,

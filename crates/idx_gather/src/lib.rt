@@ -4,6 +4,8 @@
 
 mod batch;
 mod batches;
+mod begun;
+mod closing;
 mod committing;
 mod docking;
 mod docks;
@@ -18,6 +20,9 @@ mod sealed;
 mod sealing;
 mod sealing_all;
 mod starting;
+mod stream;
+mod stream_sealing;
+mod streaming;
 mod wanted;
 mod window;
 

@@ -52,7 +52,7 @@ pub(crate) fn open_row<B: Bay>(
     Ok(())
 }
 
-/// A job for a dock, with the path and an empty draft of its file.
+/// A job for a dock, which takes its buffer, with the path and an empty draft of its file.
 fn open_file<B: Bay>(
     alloc: Global,
     header: &Header,
@@ -67,6 +67,8 @@ fn open_file<B: Bay>(
     ensures answers { Answers result (B.faults bay.old) (B.faults bay.new) (B.failed bay.old) (B.failed bay.new) }
     ensures kept { Keeps B.header B.files B.begun B.admits B.faults bay.old bay.new }
 {
+    let mut dock = dock;
+    dock.reserve(alloc)?;
     let path = header.file_name(alloc, step, dock.file())?;
     let draft = bay.create(path.as_slice())?;
     Ok(Job {

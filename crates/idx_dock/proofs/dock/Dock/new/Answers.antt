@@ -22,4 +22,4 @@ invariant_of-result c =
     let h = c.args.header.now in
     let made = dock_made h c.in_ok-copy.field-0 c.args.pieces.now.items c.args.file c.in_ok-awaited.awaited.items c.blocks_per_file.ensures.valid c.in_ok-copy.ensures (file_exists h c.args.file c.requires.file) c.requires.division
     (c.in_ok-awaited.ensures ∙ ap (λ (xs : List Piece). map awaited_of (reaching h c.args.file xs)) c.deref.ensures.value) in
-    (made, record { counts_is = c.in_ok-passed.ensures.len ∙ c.len.ensures; empty = c.in_ok-with_capacity.ensures.items })
+    (made, record { counts_is = c.in_ok-passed.ensures.len ∙ c.len.ensures; empty = c.new.ensures.items })

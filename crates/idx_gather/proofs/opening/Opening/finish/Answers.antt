@@ -1,4 +1,4 @@
-use Rattle.std.proofs.Common.{ℕ, List, length, map, take, ap, ◌∙◌, arith}
+use Rattle.std.proofs.Common.{length, map, take, ap, ◌∙◌, arith}
 use Rattle.std.proofs.Math.Logic.{∥∥₁_map}
 use Rattle.std.proofs.lemmas.List.{length-map, take_all}
 use Rattle.idx_outside.specs.Files.{entry_shown, shown}
