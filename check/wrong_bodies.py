@@ -1,12 +1,12 @@
 #!/usr/bin/env python3
-"""Tries the wrong bodies of `check/wrong`, which the gate leaves out, on a copy of the repository.
+"""Tries the wrong bodies of `check/wrong`, which the merge check leaves out, on a copy of the repository.
 
     check/wrong_bodies.py [NAME..]
 
-Each folder of `check/wrong` has the name of a crate, and in it edits as those of `crates/NAME/must-fail`, which the gate tries:
+Each folder of `check/wrong` has the name of a crate, and in it edits as those of `crates/NAME/must-fail`, which the merge check tries:
 `file: FILE`, then pairs of `old: LINE` and `new: LINE`. The prover has to refuse the crate with each of them. Those of named crates
 are tried, with no name those of all. It runs `rt ci` on these crates, prints what that prints, and has its status: 0 where each was
-refused. Where the gate has passed on this machine no library is proved again; a crate is proved once for its edits, and each of two or
+refused. Where the merge check has passed on this machine no library is proved again; a crate is proved once for its edits, and each of two or
 more takes up to a minute beside.
 """
 import shutil

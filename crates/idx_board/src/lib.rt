@@ -1,4 +1,4 @@
-//! The steps of a dataset that stand, loaded and published in a hall.
+//! All timesteps of a dataset that are there, opened and published in a hall.
 #![tactic(auto)]
 
 mod board;

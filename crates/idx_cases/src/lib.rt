@@ -1,4 +1,4 @@
-//! Laws of the top call, and tests of runs whose threads wait for each other.
+//! A law of `run`, a question asked twice; and tests of runs whose threads wait for each other.
 #![tactic(auto)]
 
 #[cfg(test)]

@@ -1,4 +1,4 @@
-//! The commands of idxtool: what each does with a raw volume, a dataset, a sink and a door, and how it ends.
+//! `run`, and the commands: what each does with raw volumes, a dataset, an output and doors, and how it ends.
 #![tactic(auto)]
 
 mod causes;

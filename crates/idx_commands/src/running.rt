@@ -31,9 +31,10 @@ use std::sync::Wait;
 use std::thread::Threads;
 
 /// Does what the words ask for, and says how it ended: as `run_cut`, `run_info` and `run_query` do, and likewise for
-/// `convert` and `serve`. The first refusal ends it. `convert` uses the first of `raws`, one for each rank, each of which is
-/// a worker thread, and `drill` four worker threads and the sink alone. `serve` uses the first of `readers` and of `doors`, one for each worker, each of which is a thread; it
-/// returns when each of these doors hands out no more links or fails.
+/// `convert`, `serve` and `drill`. The first refusal ends it. `convert` uses the first of `raws`, one for each rank,
+/// each in a worker thread, and a `serve` that publishes a timestep the first 256. `serve` uses the first of `readers`
+/// and of `doors`, one for each worker thread, and returns when each of these doors hands out no more connections or
+/// fails. `drill` uses four worker threads, and of the objects `out` alone.
 pub fn run<
     V: Source + Send,
     B: Bay + Send,

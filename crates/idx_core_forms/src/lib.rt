@@ -1,5 +1,5 @@
-//! Finished files that are kept in memory: files that are written there, a reader that never fails, and the steps that such
-//! files make.
+//! Finished files of a timestep that are kept in memory, a reader of them that never fails, and the timestep that they
+//! make.
 #![tactic(auto)]
 
 mod edition;

@@ -1,5 +1,5 @@
-//! A dataset is served at a door: its header is read, the steps that stand are published, and the links are served one after
-//! another.
+//! The work of `serve`: a dataset is served at several doors, each by a worker thread. Its header is read, the
+//! timesteps that are there are published, and each door's connections are served one after another.
 #![tactic(auto)]
 
 mod host_fault;

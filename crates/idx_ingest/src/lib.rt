@@ -1,4 +1,4 @@
-//! A step is gathered, and published in a hall that others serve meanwhile.
+//! A timestep is written, and published in a hall while others serve it.
 #![tactic(auto)]
 
 mod ingest_end;

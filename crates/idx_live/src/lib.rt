@@ -1,4 +1,4 @@
-//! A dataset is served by workers while a step of it is gathered out of raw volumes and published beside them.
+//! Worker threads serve a dataset while a timestep of it is gathered out of raw volumes and published beside them.
 #![tactic(auto)]
 
 mod beginning;

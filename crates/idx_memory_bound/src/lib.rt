@@ -1,4 +1,4 @@
-//! What is read of a batch of pieces has no more bytes than the room, or is of one piece: laws of the definitions.
+//! Laws: what is read of a batch of pieces has no more bytes than the room, or is of one piece.
 #![tactic(auto)]
 
 mod laws;

@@ -1,4 +1,4 @@
-//! A dataset is served over links: each head is answered out of the published steps of a hall that is taken in turn.
+//! Replies to requests, out of published timesteps that are taken in turn; and the connections of one door.
 #![tactic(auto)]
 
 mod answering;

@@ -1,4 +1,4 @@
-//! Many workers serve one dataset side by side, out of one hall that they take in turn.
+//! Several worker threads serve one dataset side by side, each with connections of its own, out of one hall.
 #![tactic(auto)]
 
 mod job;

@@ -1,6 +1,5 @@
-//! Writes the samples of a region of a raw volume or of a dataset between two levels, what the header of a dataset says,
-//! or a step of a dataset out of a raw volume; or answers questions for the samples of a dataset over HTTP; or tries all of
-//! this in memory.
+//! The program: it gives the words of the command line, files, standard output and sockets to `run`, and prints how the
+//! run ended.
 #![tactic(auto)]
 
 ghost use Rattle.std.specs.Prelude.{◌<◌, vec_len};
