@@ -92,6 +92,17 @@ module _ {U X : Type 0} where
   pub content_placed : (s : ℕ) (cs : List (Option X)) (es : List (ℕ × U)) (now : List (ℕ × Option X)) → placed cs es ≡ now → IsSome (lookup (nat_eq s) now) → content_at cs s ≡ option_flatten (lookup (nat_eq s) now)
   content_placed s cs es now e h = subst (λ (l : List (ℕ × Option X)). IsSome (lookup (nat_eq s) l) → content_at cs s ≡ option_flatten (lookup (nat_eq s) l)) e (λ p. sym (ap option_flatten (lookup_placed s cs es p))) h
 
+  -- what a slot of the order holds, by the order
+  pub held_placed : (s : ℕ) (cs : List (Option X)) (es : List (ℕ × U)) → IsSome (lookup (nat_eq s) es) → content_at cs s ≡ option_flatten (lookup (nat_eq s) (placed cs es))
+  held_placed s cs es h = content_placed s cs es (placed cs es) refl (still es h)
+    where
+      still : (es : List (ℕ × U)) → IsSome (lookup (nat_eq s) es) → IsSome (lookup (nat_eq s) (placed cs es))
+      still [] h = h
+      still (e ∷ es) h = (elim (nat_eq s e.0) as (λ b. nat_eq s e.0 ≡ b → IsSome (cond b (Some (content_at cs e.0)) (lookup (nat_eq s) (placed cs es)))) [
+        | true ↦ λ b. refl
+        | false ↦ λ b. still es (rw b at h)
+      ]) refl
+
   remove_placed : (test : ℕ → Bool) (cs : List (Option X)) (es : List (ℕ × U)) → remove_entry test (placed cs es) ≡ placed cs (remove_entry test es)
   remove_placed test cs [] = refl
   remove_placed test cs (e ∷ es) = elim (test e.0) as (λ b. cond b (placed cs es) ((e.0, content_at cs e.0) ∷ remove_entry test (placed cs es)) ≡ placed cs (cond b es (e ∷ remove_entry test es))) [

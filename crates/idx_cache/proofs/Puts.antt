@@ -1,16 +1,18 @@
 -- What a put does to the pairs of a packed list of slots.
 use Rattle.std.proofs.Common.{◌≡◌, ℕ, suc, ◌-◌, ◌<◌, ◌≤◌, Bool, true, false, cond, List, [], ◌∷◌, ◌++◌, length, take, nat_eq, Option, Some, None, IsSome, refl, sym, ap, ◌∙◌, subst, arith, length-append, slice_get}
 use Rattle.std.specs.List.{IsDistinct}
-use Rattle.std.specs.Option.{option_map, option_map_or}
+use Rattle.std.specs.Option.{option_flatten, option_map, option_map_or}
 use Rattle.std.specs.Map.{lookup, remove_entry, keys_of}
 use Rattle.std.specs.Cmp.{IsEquivalence, nat_eq_equiv}
 use Rattle.std.proofs.lemmas.Map.Keys.{IsDistinct-head, IsDistinct-tail}
 use Rattle.std.proofs.lemmas.Bool.Decides.{nat_tests}
 use Rattle.std.proofs.lemmas.Grind.{common_steps}
+use Rattle.std.proofs.lemmas.Option.{slice_get_past}
+use Rattle.lru.proofs.Pairs.{slice_get-cut}
 use Rattle.lru.specs.LruCache.{last_entry}
-use Rattle.idx_cache.specs.Cached.{Cached, cached, put_pair}
+use Rattle.idx_cache.specs.Cached.{Cached, cached, fallen_out, put_pair}
 use Rattle.idx_cache.specs.Slotted.{Slotted, homes, filled, IsPacked, Holds}
-use Rattle.idx_cache.proofs.Keyed.{same_remove, lookup_apart, remove_absent}
+use Rattle.idx_cache.proofs.Keyed.{same_lookup, same_remove, lookup_apart, remove_absent}
 use Rattle.idx_cache.proofs.SlotKeys.{slot_is, length_filled}
 use Rattle.idx_cache.proofs.Ties.{key_of, length_slots, lookup_without}
 
@@ -154,6 +156,15 @@ module _ {K V : Type 0} (E : K → K → Bool) where
       let n : length (fs ++ (s, Some p) ∷ []) ≡ suc (length (filled fs)) = omega (arith, packed_full fs s p packed, length-append fs ((s, Some p) ∷ [])) in
       rw (remove_absent (E k) (filled (fs ++ (s, Some p) ∷ [])) none, filled_snoc fs s p, n) (ap (λ l. (k, v) ∷ l) (sym (but_last (filled fs) p)))
 
+  -- what the last slot holds has no room any more behind a new pair
+  fallen_last : (k : K) (v : V) (s : ℕ) (fs : Slotted K V) (c : Option (K × V)) → IsPacked (fs ++ (s, c) ∷ []) → option_map (λ p. p.1) c ≡ option_map (λ p. p.1) (slice_get ((k, v) ∷ filled (fs ++ (s, c) ∷ [])) (length (fs ++ (s, c) ∷ [])))
+  fallen_last k v s fs None packed =
+      let n : length (fs ++ (s, None) ∷ []) ≡ suc (length fs) = omega (arith, length-append fs ((s, None) ∷ [])) in
+      rw (n, filled_snoc_none fs s, slice_get_past (filled fs) (length fs) (length_filled fs)) refl
+  fallen_last k v s fs (Some p) packed =
+      let n : length (fs ++ (s, Some p) ∷ []) ≡ suc (length (filled fs)) = omega (arith, packed_full fs s p packed, length-append fs ((s, Some p) ∷ [])) in
+      rw (n, filled_snoc fs s p, slice_get-cut (filled fs) p []) refl
+
 module _ {K V : Type 0} {E : K → K → Bool} (laws : IsEquivalence E) where
   -- a put on a key that is there
   pub hit_view : (k : K) (v : V) (s : ℕ) (es : Slotted K V) → lookup (E k) (homes es) ≡ Some s → IsDistinct nat_eq (keys_of es) → IsDistinct E (keys_of (homes es)) →
@@ -164,6 +175,15 @@ module _ {K V : Type 0} {E : K → K → Bool} (laws : IsEquivalence E) where
       let rest : filled (remove_entry (nat_eq s) es) ≡ remove_entry (E k) (filled es) =
       (slot_is laws s on.stored on.value es on.there keys).filled_rest ∙ sym (same_remove (λ x. laws.congr k on.stored x on.same) (filled es)) in
       put_view E k v s es (rw (← rest) (sym (whole ((k, v) ∷ filled (remove_entry (nat_eq s) es)) (length es) (omega (arith, len, length_filled (remove_entry (nat_eq s) es)))))) len
+
+  -- what falls out is the key's value
+  pub hit_fallen : (k : K) (v : V) (s : ℕ) (es : Slotted K V) → lookup (E k) (homes es) ≡ Some s → IsDistinct nat_eq (keys_of es) → IsDistinct E (keys_of (homes es)) →
+      (old : Cached K V) → cached (filled es) (length es) ≡ old → option_map (λ p. p.1) (option_flatten (lookup (nat_eq s) es)) ≡ fallen_out E old.cap (k, v) old.pairs
+  hit_fallen k v s es h slots keys old o =
+      let on = slot_of E k s es h slots in
+      let value : lookup (E k) (filled es) ≡ Some on.value =
+      same_lookup (λ x. laws.congr k on.stored x on.same) (filled es) ∙ (slot_is laws s on.stored on.value es on.there keys).value in
+      subst (λ (x : Cached K V). option_map (λ p. p.1) (option_flatten (lookup (nat_eq s) es)) ≡ fallen_out E x.cap (k, v) x.pairs) o (rw (on.there, value) refl)
 
   -- a put on another key takes the last slot
   module _ (k : K) (v : V) (s : ℕ) (es : Slotted K V) (last : option_map (λ e. e.0) (last_entry es) ≡ Some s) (slots : IsDistinct nat_eq (keys_of es)) (keys : IsDistinct E (keys_of (homes es))) (gone : lookup (E k) (homes es) ≡ None) where
@@ -186,3 +206,10 @@ module _ {K V : Type 0} {E : K → K → Bool} (laws : IsEquivalence E) where
 
     pub miss_view : IsPacked es → (new : Slotted K V) → new ≡ (s, Some (k, v)) ∷ remove_entry (nat_eq s) es → (old : Cached K V) → cached (filled es) (length es) ≡ old → cached (filled new) (length new) ≡ cached (put_pair E old.cap (k, v) old.pairs) old.cap
     miss_view packed = put_view E k v s es (miss_pairs packed) (length_slots s cut.content es cut.there)
+
+    pub miss_fallen : IsPacked es → (old : Cached K V) → cached (filled es) (length es) ≡ old → option_map (λ p. p.1) (option_flatten (lookup (nat_eq s) es)) ≡ fallen_out E old.cap (k, v) old.pairs
+    miss_fallen packed old o =
+        let last_is : option_map (λ p. p.1) cut.content ≡ option_map (λ p. p.1) (slice_get ((k, v) ∷ filled es) (length es)) =
+        subst (λ (l : Slotted K V). option_map (λ p. p.1) cut.content ≡ option_map (λ p. p.1) (slice_get ((k, v) ∷ filled l) (length l))) (sym cut.parted) (fallen_last E k v s cut.front cut.content (subst IsPacked cut.parted packed)) in
+        subst (λ (x : Cached K V). option_map (λ p. p.1) (option_flatten (lookup (nat_eq s) es)) ≡ fallen_out E x.cap (k, v) x.pairs) o
+        (rw (cut.there, no_pair E k es gone) last_is)

@@ -1,7 +1,7 @@
 //! The cache: at most as many pairs as its capacity, the most recently used first.
 ghost use Rattle.std.specs.Prelude.{◌≡◌, ℕ, ◌<◌, ◌≤◌, [], length, min, is_some, option_copied, IfOk};
 ghost use Rattle.std.specs.Map.{keys_of};
-ghost use Rattle.idx_cache.specs.Cached.{cached, found, raised, put_pair, kept_after_evict, IsBounded};
+ghost use Rattle.idx_cache.specs.Cached.{cached, fallen_out, found, raised, put_pair, kept_after_evict, IsBounded};
 
 use crate::slots::Slots;
 use idx_outside::NoMemory;
@@ -86,15 +86,17 @@ impl<K: Ord + Copy + Drop, V: Drop> Cache<K, V> {
     }
 
     /// Removes the key's pair if there is one, puts the new one in front, and keeps the first pairs up to the capacity.
-    /// It is never refused, since all memory is there from the start.
-    pub fn put(&mut self, key: K, value: V)
-        ensures { self.new ≡ cached (put_pair K.eq self.old.cap (key, value) self.old.pairs) self.old.cap }
+    /// It is never refused, since all memory is there from the start. Answers the value that fell out, if one did: that
+    /// of the key, else that of the last pair, where there was no room for it any more.
+    pub fn put(&mut self, key: K, value: V) -> Option<V>
+        ensures pairs { self.new ≡ cached (put_pair K.eq self.old.cap (key, value) self.old.pairs) self.old.cap }
+        ensures fallen { result ≡ fallen_out K.eq self.old.cap (key, value) self.old.pairs }
     {
         match self.slots.find(key) {
             Some(slot) => self.slots.renew(slot, key, value),
             None => {
                 let slot = self.slots.last();
-                self.slots.write(slot, Some((key, value)));
+                self.slots.write(slot, Some((key, value)))
             }
         }
     }

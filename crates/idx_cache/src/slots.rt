@@ -13,6 +13,7 @@ use idx_outside::NoMemory;
 use lru::LruCache;
 use std::alloc::Global;
 use std::marker::Model;
+use std::mem::replace;
 use std::num::NonZeroUsize;
 
 /// As many slots as there may be pairs, each empty or with a pair, in the order of their last use.
@@ -159,31 +160,34 @@ impl<K: Ord + Copy + Drop, V: Drop> Slots<K, V> {
         }
     }
 
-    /// Replaces the value of the slot's key, and makes the slot the most recently used. The index stays.
-    pub fn renew(&mut self, slot: u32, key: K, value: V)
+    /// Replaces the value of the slot's key, and makes the slot the most recently used. The index stays. Answers the
+    /// value that was there.
+    pub fn renew(&mut self, slot: u32, key: K, value: V) -> Option<V>
         requires { Holds K.eq self.old slot key }
-        ensures { self.new ≡ (slot, Some (key, value)) ∷ remove_entry (nat_eq slot) self.old }
+        ensures slots { self.new ≡ (slot, Some (key, value)) ∷ remove_entry (nat_eq slot) self.old }
+        ensures value { result ≡ option_map (λ p. p.1) (option_flatten (lookup (nat_eq slot) self.old)) }
     {
-        place(
+        value_of(place(
             &mut self.order,
             &mut self.contents,
             slot,
             Some((key, value)),
-        );
+        ))
     }
 
-    /// Replaces what the slot holds, and makes it the most recently used.
-    pub fn write(&mut self, slot: u32, content: Option<(K, V)>)
+    /// Replaces what the slot holds, and makes it the most recently used. Answers the value that was there.
+    pub fn write(&mut self, slot: u32, content: Option<(K, V)>) -> Option<V>
         requires present { IsSome (lookup (nat_eq slot) self.old) }
         requires fresh { IfSome content (λ p.
             lookup (K.eq p.0) (homes (remove_entry (nat_eq slot) self.old)) ≡ None) }
-        ensures { self.new ≡ (slot, content) ∷ remove_entry (nat_eq slot) self.old }
+        ensures slots { self.new ≡ (slot, content) ∷ remove_entry (nat_eq slot) self.old }
+        ensures value { result ≡ option_map (λ p. p.1) (option_flatten (lookup (nat_eq slot) self.old)) }
     {
         let old = self.key_in(slot);
         let new = key_of(&content);
         self.index.release(old);
         self.index.claim(new, slot);
-        place(&mut self.order, &mut self.contents, slot, content);
+        value_of(place(&mut self.order, &mut self.contents, slot, content))
     }
 }
 
@@ -197,22 +201,33 @@ fn key_of<K: Copy, V>(content: &Option<(K, V)>) -> Option<K>
     }
 }
 
-// Replaces what the slot holds, and makes it the most recently used.
+// The value of a slot's content.
+fn value_of<K: Drop, V>(content: Option<(K, V)>) -> Option<V>
+    ensures { result ≡ option_map (λ p. p.1) content }
+{
+    match content {
+        Some((_, value)) => Some(value),
+        None => None,
+    }
+}
+
+// Replaces what the slot holds, and makes it the most recently used. Answers what it held.
 fn place<T: Drop>(
     order: &mut LruCache<u32, ()>,
     contents: &mut Vec<Option<T>>,
     slot: u32,
     content: Option<T>,
-)
+) -> Option<T>
     requires present { IsSome (lookup (nat_eq slot) order.old.entries) }
     requires within { IsWithin (length contents.old.items) order.old.entries }
     ensures front { placed contents.new.items order.new.entries ≡
         (slot, content) ∷ remove_entry (nat_eq slot) (placed contents.old.items order.old.entries) }
     ensures within { IsWithin (length contents.new.items) order.new.entries }
+    ensures was { result ≡ option_flatten (lookup (nat_eq slot) (placed contents.old.items order.old.entries)) }
 {
     let _valid = order.len();
     order.promote(&slot);
-    contents[slot as usize] = content;
+    replace(&mut contents[slot as usize], content)
 }
 
 // Empties the slots behind the first `kept` of the order, up to the first that is empty.

@@ -35,6 +35,13 @@ impl Block {
         &self.bytes
     }
 
+    /// The bytes alone.
+    pub(crate) fn into_bytes(self) -> Arc<Bytes>
+        ensures { arc_value result ≡ self }
+    {
+        self.bytes
+    }
+
     /// The block once more, with the same bytes in the same place.
     pub(crate) fn share(&self) -> Result<Block, NoMemory>
         ensures { IfOk result (λ block. block ≡ self.now) }

@@ -6,6 +6,7 @@ ghost use Rattle.idx_hall.specs.Hall.{name_eq, name_of, named, named_pairs, of_o
 ghost use Rattle.idx_hall.specs.Calls.{pairs_of};
 
 use crate::block::Block;
+use crate::spare::Spare;
 use crate::{BlockName, Key};
 use idx_cache::Cache;
 use idx_outside::{Bytes, NoMemory};
@@ -49,9 +50,10 @@ pub(crate) fn touch_all(cache: &mut Cache<BlockName, Block>, post: u64, keys: &[
     }
 }
 
-/// Puts blocks of a post, in order.
+/// Puts blocks of a post, in order. What falls out becomes spare, while there is room.
 pub(crate) fn put_blocks(
     cache: &mut Cache<BlockName, Block>,
+    spare: &mut Spare,
     post: u64,
     loaded: Vec<(Key, Arc<Bytes>)>,
 )
@@ -59,7 +61,7 @@ pub(crate) fn put_blocks(
         cached (put_all name_eq cache.old.cap (named_pairs post (pairs_of loaded.items)) cache.old.pairs) cache.old.cap }
 {
     for (key, bytes) in loaded {
-        cache.put(BlockName { post, key }, Block::new(bytes));
+        spare.keep(cache.put(BlockName { post, key }, Block::new(bytes)));
     }
 }
 
@@ -96,7 +98,7 @@ pub(crate) fn copied(
     let mut copy = Cache::new(alloc, cache.capacity() as u32)?;
     for place in (0..names.len()).rev() {
         if let Some(block) = cache.peek(names[place]) {
-            copy.put(names[place], block.share()?);
+            drop(copy.put(names[place], block.share()?));
         }
     }
     Ok(copy)

@@ -10,6 +10,7 @@ use crate::block::Block;
 use crate::board::{append, newest_of, share_all};
 use crate::caching::{copied, drop_time, put_blocks, touch_all};
 use crate::published::Published;
+use crate::spare::Spare;
 use crate::{BlockName, Key, Looked, PublishRefusal, Standing};
 use idx_cache::Cache;
 use idx_outside::{Blocks, Bytes, NoMemory};
@@ -19,13 +20,15 @@ use std::sync::Arc;
 
 /// The published steps of a dataset, numbered from 0, and the cache of their blocks. Seen as the shape of the steps,
 /// the list of the steps, and the list of the cached blocks, the most recently used first. All memory that the cache
-/// will ever need is taken at the start, and blocks are shared, not copied.
+/// will ever need is taken at the start, and blocks are shared, not copied. Up to 256 blocks that fell out of the cache
+/// are kept aside, since a look brings some of them along (`Looked::take_spare`), so that their memory is used again.
 #[derive(Drop)]
 pub struct Hall<E: Blocks> {
     blocks: u64,
     lengths: Vec<u64>,
     board: Vec<Published<E>>,
     cache: Cache<BlockName, Block>,
+    spare: Spare,
 }
 
 impl<E: Blocks> Model for Hall<E> {
@@ -69,11 +72,13 @@ impl<E: Blocks + Drop> Hall<E> {
             hall (record { blocks = blocks; lengths = lengths.items }) [] (cached [] capacity)) }
     {
         let cache = Cache::new(alloc, capacity)?;
+        let spare = Spare::of_hall(alloc, capacity as u64, &lengths)?;
         Ok(Hall {
             blocks,
             lengths,
             board: Vec::new(alloc),
             cache,
+            spare,
         })
     }
 
@@ -182,14 +187,20 @@ impl<E: Blocks + Drop> Hall<E> {
         ensures shape { self.new.shape ≡ self.old.shape }
         ensures board { self.new.board ≡ self.old.board }
     {
-        looked.note(&self.board[post as usize], &self.cache, post, keys)?;
+        looked.note(
+            &self.board[post as usize],
+            &self.cache,
+            &mut self.spare,
+            post,
+            keys,
+        )?;
         touch_all(&mut self.cache, post, keys);
         Ok(())
     }
 
     /// Puts loaded blocks of a post into the cache, in order, where that post is the newest of its time; else all of
     /// them are stale and are dropped. Answers how many were stale. The least recently used ones go where the capacity
-    /// is passed. It is never refused, and takes no memory.
+    /// is passed, and are kept aside for their memory, while there is room. It is never refused, and takes no memory.
     pub fn fill(&mut self, post: u64, loaded: Vec<(Key, Arc<Bytes>)>) -> u64
         requires blocks { (p : Post) × ((slice_get self.old.board post ≡ Some p) ×
             All (IsBlockOf self.old.shape p) (pairs_of loaded.items)) }
@@ -197,7 +208,7 @@ impl<E: Blocks + Drop> Hall<E> {
         ensures stale { result ≡ stale_of post (length loaded.items) self.old }
     {
         if self.is_newest(post) {
-            put_blocks(&mut self.cache, post, loaded);
+            put_blocks(&mut self.cache, &mut self.spare, post, loaded);
             0
         } else {
             loaded.len() as u64
@@ -212,7 +223,8 @@ impl<E: Blocks + Drop> Hall<E> {
         self.board[post as usize].edition()
     }
 
-    /// A hall with the same shape, posts and cached blocks, in their order. Steps and blocks are shared, not copied.
+    /// A hall with the same shape, posts and cached blocks, in their order. Steps and blocks are shared, not copied; no
+    /// block is kept aside.
     /// Answers `NoMemory` where there is no room for it.
     pub fn copy(&self, alloc: Global) -> Result<Hall<E>, NoMemory>
         ensures { IfOk result (λ h. h ≡ self.now) }
@@ -220,19 +232,23 @@ impl<E: Blocks + Drop> Hall<E> {
         let lengths = Vec::from_slice(alloc, &self.lengths)?;
         let board = share_all(alloc, &self.board)?;
         let cache = copied(alloc, &self.cache)?;
+        let spare = Spare::of_hall(alloc, self.cache.capacity(), &self.lengths)?;
         Ok(Hall {
             blocks: self.blocks,
             lengths,
             board,
             cache,
+            spare,
         })
     }
 
-    /// Drops the n least recently used blocks, or all, and tells how many went.
+    /// Drops the n least recently used blocks, or all, and tells how many went. The blocks that were kept aside for
+    /// their memory are dropped too.
     pub fn evict(&mut self, n: u64) -> u64
         ensures gone { result ≡ min n (length self.old.cache.pairs) }
         ensures kept { self.new ≡ after_evict n self.old }
     {
+        self.spare.clear();
         self.cache.evict(n)
     }
 

@@ -12,6 +12,7 @@ mod laws;
 mod looked;
 mod publish_refusal;
 mod published;
+mod spare;
 mod standing;
 
 pub use block_name::BlockName;

@@ -8,6 +8,7 @@ ghost use Rattle.idx_hall.specs.Looked.{LookedValue, looked_up, not_looked};
 use crate::block::Block;
 use crate::caching::note_all;
 use crate::published::Published;
+use crate::spare::Spare;
 use crate::{BlockName, Key};
 use idx_cache::Cache;
 use idx_outside::{Blocks, Bytes, NoMemory};
@@ -15,12 +16,14 @@ use std::alloc::Global;
 use std::marker::Model;
 use std::sync::Arc;
 
-/// What a look finds: the step that it looked in, and for each key the cached block or nothing.
+/// What a look finds: the step that it looked in, and for each key the cached block or nothing. It also brings spare
+/// blocks, at most as many as keys were missed: blocks that fell out of the cache, whose memory may be used again.
 #[derive(Drop)]
 pub struct Looked<E: Blocks> {
     published: Option<Published<E>>,
     blocks: Vec<Option<Block>>,
     room: u64,
+    spare: Spare,
 }
 
 impl<E: Blocks> Model for Looked<E> {
@@ -43,15 +46,18 @@ impl<E: Blocks + Drop> Looked<E> {
             published: None,
             blocks: Vec::with_capacity(alloc, room as usize)?,
             room,
+            spare: Spare::new(alloc, room)?,
         })
     }
 
     /// Notes the step, which is the post of this number, and, for each key in order, the block that the cache has of it
-    /// in that post, if it has one. After `NoMemory` nothing is noted.
+    /// in that post, if it has one; for each that it has not, a spare block comes along, while there are any. After
+    /// `NoMemory` nothing is noted.
     pub(crate) fn note(
         &mut self,
         published: &Published<E>,
         cache: &Cache<BlockName, Block>,
+        spare: &mut Spare,
         post: u64,
         keys: &[Key],
     ) -> Result<(), NoMemory>
@@ -68,6 +74,7 @@ impl<E: Blocks + Drop> Looked<E> {
             return Err(NoMemory);
         }
         self.published = Some(published);
+        self.spare.keep_of(spare, &self.blocks);
         Ok(())
     }
 
@@ -105,5 +112,12 @@ impl<E: Blocks + Drop> Looked<E> {
             Some(block) => Some(block.bytes()),
             None => None,
         }
+    }
+
+    /// The spare blocks that the looks brought. What they hold is of no use. Takes no memory, and later looks bring none.
+    pub fn take_spare(&mut self) -> Vec<Arc<Bytes>>
+        ensures { self.new ≡ self.old }
+    {
+        self.spare.take_all()
     }
 }

@@ -9,12 +9,13 @@ use std::marker::Model;
 use std::sync::Arc;
 
 /// The blocks that a round loads, each in memory of its own. Those are kept which a cache of so many blocks still has
-/// behind the last of them; the others share a buffer.
+/// behind the last of them; the others share a buffer. Memory of spare blocks is used before fresh one is taken.
 #[derive(Drop)]
 pub(crate) struct Loading {
     alloc: Global,
     bytes: usize,
-    spare: Option<Vec<u8>>,
+    shared: Option<Vec<u8>>,
+    spare: Vec<Arc<Bytes>>,
     skip: u64,
     loaded: Vec<(Key, Arc<Bytes>)>,
 }
@@ -36,7 +37,8 @@ impl Loading {
         Ok(Loading {
             alloc,
             bytes,
-            spare: None,
+            shared: None,
+            spare: Vec::new(alloc),
             skip: 0,
             loaded: Vec::with_capacity(alloc, blocks as usize)?,
         })
@@ -49,14 +51,38 @@ impl Loading {
         self.skip = blocks.saturating_sub(room);
     }
 
-    /// A buffer for a block.
+    /// Has the memory of these blocks used, of which nobody needs what they hold.
+    pub(crate) fn reuse(&mut self, spare: Vec<Arc<Bytes>>)
+        ensures { self.new ≡ self.old }
+    {
+        self.spare = spare;
+    }
+
+    /// A buffer for a block. What it holds is of no use.
     pub(crate) fn buffer(&mut self) -> Result<Vec<u8>, NoMemory>
         ensures many { IfOk result (λ buffer. length buffer.items ≡ self.old.bytes) }
         ensures same { self.new ≡ self.old }
     {
-        let mut buffer = self.spare.take().unwrap_or(Vec::new(self.alloc));
+        let mut buffer = match self.shared.take() {
+            Some(buffer) => buffer,
+            None => self.used_again(),
+        };
         buffer.resize(self.bytes, 0)?;
         Ok(buffer)
+    }
+
+    /// The memory of a spare block, where that has as many bytes and no other owner; else none.
+    fn used_again(&mut self) -> Vec<u8>
+        ensures { self.new ≡ self.old }
+    {
+        if let Some(block) = self.spare.pop() {
+            if block.len() == self.bytes {
+                if let Ok(bytes) = Arc::try_unwrap(block) {
+                    return bytes.into_vec();
+                }
+            }
+        }
+        Vec::new(self.alloc)
     }
 
     /// Keeps a block in its buffer, unless it is to be skipped.
@@ -65,7 +91,7 @@ impl Loading {
     {
         if self.skip > 0 {
             self.skip -= 1;
-            self.spare = Some(buffer);
+            self.shared = Some(buffer);
             return Ok(());
         }
         let bytes = Arc::new(self.alloc, Bytes::from_vec(buffer))?;

@@ -71,8 +71,8 @@ pub(crate) fn first_round<E: Blocks + Drop, T: Turn<Hall<E>>, R: Reader<E::Leaf>
     ensures given { T.given turn.new ≡ None }
 {
     let part = Part::new(plan, 0, many);
-    let (mut looked, loading) = room_for(alloc, many, header.block_bytes(ask.field) as usize)?;
-    let seen = look_up(turn, ask.time, part.keys(), &mut looked)?;
+    let (mut looked, mut loading) = room_for(alloc, many, header.block_bytes(ask.field) as usize)?;
+    let seen = look_up(turn, ask.time, part.keys(), &mut looked, &mut loading)?;
     match make_round(
         header, ask, plan, &part, seen, turn, reader, &looked, loading, out,
     ) {
@@ -123,8 +123,8 @@ pub(crate) fn next_round<E: Blocks + Drop, T: Turn<Hall<E>>, R: Reader<E::Leaf>>
     ensures given { T.given turn.new ≡ None }
 {
     let part = Part::new(plan, first, many);
-    let (mut looked, loading) = room_for(alloc, many, header.block_bytes(ask.field) as usize)?;
-    let seen = look_again(turn, ask.time, post, part.keys(), &mut looked)?;
+    let (mut looked, mut loading) = room_for(alloc, many, header.block_bytes(ask.field) as usize)?;
+    let seen = look_again(turn, ask.time, post, part.keys(), &mut looked, &mut loading)?;
     match make_round(
         header, ask, plan, &part, seen, turn, reader, &looked, loading, out,
     ) {

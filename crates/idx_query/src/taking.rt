@@ -8,6 +8,7 @@ ghost use Rattle.idx_turn.specs.Stands.{Begins, MadeHolds};
 ghost use Rattle.idx_query.specs.Steps.{HasLooked, IsSeen, held_for};
 
 use crate::QueryFault;
+use crate::loading::Loading;
 use idx_hall::{Hall, Key, Looked};
 use idx_outside::{Blocks, Bytes, NoMemory};
 use idx_turn::Turn;
@@ -20,12 +21,14 @@ pub(crate) struct Seen {
     pub(crate) room: u64,
 }
 
-/// Takes the hall, looks for the blocks of some keys of one time in the newest step of the time, and gives it back.
+/// Takes the hall, looks for the blocks of some keys of one time in the newest step of the time, and gives it back. The
+/// spare blocks that the look brings are for loading what is missing.
 pub(crate) fn look_up<E: Blocks + Drop, T: Turn<Hall<E>>>(
     turn: &mut T,
     time: u64,
     keys: &[Key],
     looked: &mut Looked<E>,
+    loading: &mut Loading,
 ) -> Result<Seen, QueryFault>
     requires given { T.given turn.old ≡ None }
     requires keys { All (λ key. key.time ≡ time) keys.now }
@@ -49,25 +52,28 @@ pub(crate) fn look_up<E: Blocks + Drop, T: Turn<Hall<E>>>(
     ensures may_add { T.may_add turn.new ≡ T.may_add turn.old }
     ensures lock { T.lock turn.new ≡ T.lock turn.old }
     ensures given { T.given turn.new ≡ None }
+    ensures loading { loading.new ≡ loading.old }
 {
     let mut held = turn.take();
     let found = held.get_mut().look(time, keys, looked);
     let board = held.get().board_len();
     let room = held.get().capacity();
     turn.give(held);
+    loading.reuse(looked.take_spare());
     match found? {
         Some(post) => Ok(Seen { post, room }),
         None => Err(QueryFault::NotPublished { board }),
     }
 }
 
-/// Takes the hall, looks for the blocks of some keys in the step of this number, and gives it back.
+/// Takes the hall, looks for the blocks of some keys in the step of this number, and gives it back, as `look_up` does.
 pub(crate) fn look_again<E: Blocks + Drop, T: Turn<Hall<E>>>(
     turn: &mut T,
     time: u64,
     post: u64,
     keys: &[Key],
     looked: &mut Looked<E>,
+    loading: &mut Loading,
 ) -> Result<Seen, NoMemory>
     requires given { T.given turn.old ≡ None }
     requires post { (p : Post) × IsPostOf (T.seen turn.old) time post p }
@@ -88,11 +94,13 @@ pub(crate) fn look_again<E: Blocks + Drop, T: Turn<Hall<E>>>(
     ensures may_add { T.may_add turn.new ≡ T.may_add turn.old }
     ensures lock { T.lock turn.new ≡ T.lock turn.old }
     ensures given { T.given turn.new ≡ None }
+    ensures loading { loading.new ≡ loading.old }
 {
     let mut held = turn.take();
     let found = held.get_mut().look_at(post, keys, looked);
     let room = held.get().capacity();
     turn.give(held);
+    loading.reuse(looked.take_spare());
     found?;
     Ok(Seen { post, room })
 }

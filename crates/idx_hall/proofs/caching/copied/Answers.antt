@@ -8,7 +8,7 @@ loop-place-preserved-in-Some c =
     let few : c.loop-place.place ≤ length c.in_ok-names.names.items = omega (arith, c.loop-place.auto.place, c.len-place.ensures) in
     let done = put-next c.args.cache.now c.in_ok-names.names.items c.loop-place.place c.len-valid.ensures.valid some few c.in_ok-names.ensures c.loop-place.copy c.put.new.self
     c.index.result.now c.index-in-Some.result.now c.in-Some.block.now c.in_ok-share.field-0 c.index.ensures c.index-in-Some.ensures c.in-Some.ensures c.in_ok-share.ensures
-    c.loop-place.invariant.pairs c.loop-place.invariant.room c.put.ensures in
+    c.loop-place.invariant.pairs c.loop-place.invariant.room c.put.ensures.pairs in
     record { pairs = done.pairs; room = done.room }
 
 pub loop-place-preserved : goal.loop-place-preserved

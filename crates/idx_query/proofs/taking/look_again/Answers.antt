@@ -8,7 +8,7 @@ use Rattle.idx_hall.specs.Looked.{LookedValue}
 use Rattle.idx_hall.specs.Calls.{AreBlocksOf, IsStepOf}
 use Rattle.idx_hall.proofs.HallLemmas.{length-noted_keys}
 use Rattle.idx_turn.proofs.BeginsLemmas.{begins_at}
-use Rattle.idx_query.specs.Steps.{IsEditionOf}
+use Rattle.idx_query.specs.Steps.{HasLooked, IsEditionOf}
 use Rattle.idx_query.proofs.TakeLemmas.{edition-of, given-back}
 use Rattle.idx_query.proofs.taking.look_again.Goals as goal
 
@@ -38,7 +38,7 @@ returns-clause-looked g c =
     let shape : h.shape ≡ g.T.Turn.shape c.args.turn.now = ap (λ (x : HallValue). x.shape) c.get_mut.ensures.value ∙ c.take-held.ensures.value_shape in
     let step : IsStepOf g.E.Blocks.time g.E.Blocks.shape g.E.Blocks.has g.E.Blocks.stored h c.args.post noted_is.0 =
     subst (λ (o : Option g.row.E.Denot). IfSome o (IsStepOf g.E.Blocks.time g.E.Blocks.shape g.E.Blocks.has g.E.Blocks.stored h c.args.post)) edition c.in_ok-found.ensures.step in
-    record {
+    subst (λ (l : LookedValue g.row.E.Denot). HasLooked g.E.Blocks.time g.E.Blocks.shape g.E.Blocks.has g.E.Blocks.stored (g.T.Turn.shape c.args.turn.now) (g.T.Turn.seen c.give.new.self) c.args.time c.args.post c.args.keys.now l) (sym c.take_spare.ensures) (record {
       post = post;
       at = record { at = subst (λ (b : List Post). slice_get b c.args.post ≡ Some post) seen on; time = c.requires.post.1.time };
       blocks = subst (λ (s : Shape). AreBlocksOf s post c.args.keys.now c.look_at-found.new.looked.found) shape (c.in_ok-found.ensures.blocks post on);
@@ -47,4 +47,4 @@ returns-clause-looked g c =
       here = edition;
       is = subst (λ (s : Shape). IsEditionOf g.E.Blocks.time g.E.Blocks.shape g.E.Blocks.has g.E.Blocks.stored s post noted_is.0) shape
           (edition-of g.E.Blocks.time g.E.Blocks.shape g.E.Blocks.has g.E.Blocks.stored h c.args.post post noted_is.0 on step);
-    }
+    })

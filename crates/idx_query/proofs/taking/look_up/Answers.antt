@@ -6,7 +6,7 @@ use Rattle.idx_hall.specs.Hall.{HallValue}
 use Rattle.idx_hall.specs.Looked.{LookedValue}
 use Rattle.idx_hall.specs.Calls.{AreBlocksOf, IsStepOf}
 use Rattle.idx_hall.proofs.HallLemmas.{length-noted_keys}
-use Rattle.idx_query.specs.Steps.{IsEditionOf}
+use Rattle.idx_query.specs.Steps.{HasLooked, IsEditionOf}
 use Rattle.idx_query.proofs.TakeLemmas.{edition-of, given-back, holding}
 use Rattle.idx_query.proofs.taking.look_up.Goals as goal
 
@@ -35,7 +35,7 @@ returns-in-Some-clause-looked g c =
     let shape : h.shape ≡ g.T.Turn.shape c.args.turn.now = ap (λ (x : HallValue). x.shape) c.get_mut.ensures.value ∙ c.take-held.ensures.value_shape in
     let step : IsStepOf g.E.Blocks.time g.E.Blocks.shape g.E.Blocks.has g.E.Blocks.stored h c.in-Some.post noted_is.0 =
     subst (λ (o : Option g.row.E.Denot). IfSome o (IsStepOf g.E.Blocks.time g.E.Blocks.shape g.E.Blocks.has g.E.Blocks.stored h c.in-Some.post)) edition (holding _ c.in_ok-post.field-0 c.in-Some.post c.in_ok-post.ensures.step c.in-Some.is) in
-    record {
+    subst (λ (l : LookedValue g.row.E.Denot). HasLooked g.E.Blocks.time g.E.Blocks.shape g.E.Blocks.has g.E.Blocks.stored (g.T.Turn.shape c.args.turn.now) (g.T.Turn.seen c.give.new.self) c.args.time c.in-Some.post c.args.keys.now l) (sym c.take_spare.ensures) (record {
       post = there.0;
       at = record { at = subst (λ (b : List Post). slice_get b c.in-Some.post ≡ Some there.0) seen there.1.at; time = there.1.time };
       blocks = subst (λ (s : Shape). AreBlocksOf s there.0 c.args.keys.now c.look-found.new.looked.found) shape there.2;
@@ -44,4 +44,4 @@ returns-in-Some-clause-looked g c =
       here = edition;
       is = subst (λ (s : Shape). IsEditionOf g.E.Blocks.time g.E.Blocks.shape g.E.Blocks.has g.E.Blocks.stored s there.0 noted_is.0) shape
           (edition-of g.E.Blocks.time g.E.Blocks.shape g.E.Blocks.has g.E.Blocks.stored h c.in-Some.post there.0 noted_is.0 there.1.at step);
-    }
+    })

@@ -1,5 +1,5 @@
 use Rattle.std.proofs.Common.{◌≡◌, IsSome, sym, ap, ◌∙◌, subst, nat_eq, Option, Some, ◌∷◌, ◌+◌, length, cond}
-use Rattle.std.specs.Option.{option_map_or, option_to_list}
+use Rattle.std.specs.Option.{option_flatten, option_map, option_map_or, option_to_list}
 use Rattle.std.specs.Map.{lookup, remove_entry}
 use Rattle.idx_cache.specs.Slotted.{Slotted, placed, IsTied}
 use Rattle.idx_cache.proofs.Placed.{present_placed}
@@ -30,5 +30,10 @@ invariant_of-self g c = (
   c.place.ensures.within,
 )
 
-pub returns : goal.returns
-returns g c = c.place.ensures.front ∙ ap (λ (l : Slotted g.row.K.Denot g.row.V.Denot). (c.args.slot, c.args.content) ∷ remove_entry (nat_eq c.args.slot) l) c.self.view_is
+pub returns-clause-slots : goal.returns-clause-slots
+returns-clause-slots g c = c.place.ensures.front ∙ ap (λ (l : Slotted g.row.K.Denot g.row.V.Denot). (c.args.slot, c.args.content) ∷ remove_entry (nat_eq c.args.slot) l) c.self.view_is
+
+pub returns-clause-value : goal.returns-clause-value
+returns-clause-value g c =
+    c.value_of.ensures ∙ ap (λ (o : Option (g.row.K.Denot × g.row.V.Denot)). option_map (λ p. p.1) o)
+    (c.place.ensures.was ∙ ap (λ (l : Slotted g.row.K.Denot g.row.V.Denot). option_flatten (lookup (nat_eq c.args.slot) l)) c.self.view_is)

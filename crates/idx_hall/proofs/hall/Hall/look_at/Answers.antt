@@ -13,7 +13,10 @@ use Rattle.idx_hall.proofs.NewestLemmas.{step_at}
 use Rattle.idx_hall.proofs.hall.Hall.look_at.Goals as goal
 
 pub invariant_of-self : goal.invariant_of-self
-invariant_of-self g c = (look-holds _ _ _ _ c.self.invariant.0 c.args.post c.args.keys.now c.touch_all.ensures, c.self.invariant.1, subst (λ (x : Cached BlockName (List ℕ)). x.cap ≤ 65536) (sym c.touch_all.ensures) c.self.invariant.2)
+invariant_of-self g c = c.self.invariant
+
+pub invariant_of-self-2 : goal.invariant_of-self-2
+invariant_of-self-2 g c = (look-holds _ _ _ _ c.self.invariant.0 c.args.post c.args.keys.now c.touch_all.ensures, c.self.invariant.1, subst (λ (x : Cached BlockName (List ℕ)). x.cap ≤ 65536) (sym c.touch_all.ensures) c.self.invariant.2)
 
 pub returns-clause-blocks : goal.returns-clause-blocks
 returns-clause-blocks g c = λ p at.

@@ -1,0 +1,105 @@
+ghost use Rattle.std.specs.Prelude.{◌≡◌, ◌≤◌, IfOk};
+
+use crate::block::Block;
+use idx_outside::{Bytes, NoMemory};
+use std::alloc::Global;
+use std::marker::Model;
+use std::mem::replace;
+use std::sync::Arc;
+
+/// Blocks that fell out of a cache, kept so that their memory is used again; seen as how many there is room for. All
+/// memory for the list of them is taken at the start.
+#[derive(Drop)]
+pub(crate) struct Spare {
+    blocks: Vec<Arc<Bytes>>,
+    room: usize,
+}
+
+impl Model for Spare {
+    ghost use Rattle.std.specs.Prelude.{ℕ, ◌≤◌, length, vec_capacity};
+
+    ghost Value = { ℕ };
+
+    ghost view = { λ s. s.room };
+
+    ghost invariant = { λ s. (length s.blocks.items ≤ s.room) × (s.room ≤ vec_capacity s.blocks) };
+}
+
+/// How many spare blocks there are at most.
+const MOST_SPARE: u64 = 256;
+
+/// How many bytes the spare blocks of a hall have at most, where one block alone has no more.
+const SPARE_BYTES: u64 = 1 << 26;
+
+impl Spare {
+    /// No block, with room for so many, or for 256 where that is less.
+    pub(crate) fn new(alloc: Global, blocks: u64) -> Result<Spare, NoMemory>
+        ensures { IfOk result (λ spare. spare ≤ 256) }
+    {
+        let room = blocks.min(MOST_SPARE) as usize;
+        Ok(Spare {
+            blocks: Vec::with_capacity(alloc, room)?,
+            room,
+        })
+    }
+
+    /// No block, with room for those of a hall: for as many as may be cached, and for no more than have 2^26 bytes, or for
+    /// one where that has more. A block of each field has so many bytes.
+    pub(crate) fn of_hall(alloc: Global, capacity: u64, lengths: &[u64]) -> Result<Spare, NoMemory>
+        ensures { IfOk result (λ spare. spare ≤ 256) }
+    {
+        let largest = lengths.iter().copied().max().unwrap_or(1).max(1);
+        let fitting = (SPARE_BYTES / largest).max(1);
+        Spare::new(alloc, capacity.min(fitting))
+    }
+
+    /// Keeps a block, if one is given and there is room for it. Takes no memory.
+    pub(crate) fn keep(&mut self, block: Option<Block>)
+        ensures { self.new ≡ self.old }
+    {
+        if let Some(block) = block {
+            if self.blocks.len() < self.room {
+                let kept = self.blocks.push(block.into_bytes()).is_ok();
+                prove!(kept);
+            }
+        }
+    }
+
+    /// Keeps a block of others, if there is one, for each that was not found.
+    pub(crate) fn keep_of(&mut self, others: &mut Spare, found: &[Option<Block>])
+        ensures room { self.new ≡ self.old }
+        ensures others { others.new ≡ others.old }
+    {
+        for block in found {
+            if block.is_none() {
+                self.keep(others.take());
+            }
+        }
+    }
+
+    /// Takes out the block that was kept last.
+    fn take(&mut self) -> Option<Block>
+        ensures { self.new ≡ self.old }
+    {
+        match self.blocks.pop() {
+            Some(bytes) => Some(Block::new(bytes)),
+            None => None,
+        }
+    }
+
+    /// Takes all blocks out, and the room with them. Takes no memory.
+    pub(crate) fn take_all(&mut self) -> Vec<Arc<Bytes>>
+        ensures { self.new ≡ 0 }
+    {
+        let none = Vec::new(*self.blocks.allocator());
+        self.room = 0;
+        replace(&mut self.blocks, none)
+    }
+
+    /// Drops all blocks, and keeps the room.
+    pub(crate) fn clear(&mut self)
+        ensures { self.new ≡ self.old }
+    {
+        self.blocks.clear();
+    }
+}

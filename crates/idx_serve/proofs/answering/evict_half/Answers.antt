@@ -1,0 +1,10 @@
+use Rattle.std.proofs.Common.{ap, ◌∙◌}
+use Rattle.idx_hall.specs.Hall.{HallValue}
+use Rattle.idx_query.proofs.TakeLemmas.{given-back}
+use Rattle.idx_serve.proofs.answering.evict_half.Goals as goal
+
+pub give-requires : goal.give-requires
+give-requires g c =
+    given-back _ _ c.take-held.result.shape c.evict.new.self.shape c.take-held.result.board c.evict.new.self.board c.take-held.ensures.given
+    (ap (λ (h : HallValue). h.shape) c.evict.ensures.kept ∙ ap (λ (h : HallValue). h.shape) c.get_mut.ensures.value)
+    (ap (λ (h : HallValue). h.board) c.evict.ensures.kept ∙ ap (λ (h : HallValue). h.board) c.get_mut.ensures.value)
