@@ -89,7 +89,7 @@ apart_kept s docks apart = λ i j d less within same.
     ap (λ (x : DockValue). x.file) (get_or-map (with_one s) docks j d d (omega arith)) ∙ file_kept s (get_or docks j d) in
     apart i j d less (omega arith) (sym first ∙ same ∙ second)
 
-map_both : (f g : DockValue → DockValue) (docks : List DockValue) → map f (map g docks) ≡ map (λ d. f (g d)) docks
+pub map_both : (f g : DockValue → DockValue) (docks : List DockValue) → map f (map g docks) ≡ map (λ d. f (g d)) docks
 map_both f g [] = refl
 map_both f g (d ∷ docks) = ap (λ ds. f (g d) ∷ ds) (map_both f g docks)
 

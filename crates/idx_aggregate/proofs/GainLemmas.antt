@@ -59,7 +59,7 @@ pub both_ids : (done left : List Load) (id : ℕ) → (has_id (pieces_in done) i
 both_ids done left id =
     sym (list_any-append (λ (piece : Piece). id == piece.id) (pieces_in done) (pieces_in left)) ∙ ap (λ pieces. has_id pieces id) (sym (pieces-append done left))
 
-none_has : (id : ℕ) (pieces : List Piece) → All (λ piece. id ≢ piece.id) pieces → has_id pieces id ≡ false
+pub none_has : (id : ℕ) (pieces : List Piece) → All (λ piece. id ≢ piece.id) pieces → has_id pieces id ≡ false
 none_has id [] other = refl
 none_has id (p ∷ pieces) other =
     ap (λ b. b || has_id pieces id) (ne_eqb id p.id (All-head P p pieces other)) ∙ none_has id pieces (All-tail P p pieces other)

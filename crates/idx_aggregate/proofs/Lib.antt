@@ -3,6 +3,6 @@ pub mod AwaitedLemmas
 pub mod GainLemmas
 pub mod ShipLemmas
 pub mod DeliveryLemmas
-pub mod RowLemmas
+pub mod WorkerLemmas
 pub mod ReadyLemmas
 pub mod HeldLemmas

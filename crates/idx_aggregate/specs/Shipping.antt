@@ -39,6 +39,12 @@ pub record AreMade (h : HeaderValue) (load : Load) (made : List Shipment) : Type
   pub samples : (sample : ℕ → List ℕ → List ℕ) → AreSamples h sample → HoldsLoad h sample load →
       HoldsSamples h sample filled.piece.region filled.bytes
 
+-- these are the shipments of some loads, load after load
+abbrev pub AreAllMade : HeaderValue → List Load → List Shipment → Type 0
+AreAllMade h [] made = made ≡ []
+AreAllMade h (load ∷ loads) made =
+    (first : List Shipment) × ((others : List Shipment) × ((made ≡ first ++ others) × (AreMade h load first × AreAllMade h loads others)))
+
 -- some loads are still to be shipped, and docks have gained the others
 pub record AreShipping (h : HeaderValue) (loads left : List Load) (old docks : List DockValue) : Type 0 where
   pub done : List Load

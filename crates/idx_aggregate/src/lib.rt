@@ -5,8 +5,8 @@
 mod delivery;
 mod job;
 mod laws;
-mod row;
 mod shipping;
+mod workers;
 
 pub use laws::{docks_become_complete, docks_stay_ready, gains_add_up, new_docks_are_ready};
 pub use shipping::ship_loads;

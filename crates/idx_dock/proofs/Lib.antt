@@ -1,6 +1,7 @@
 pub mod DockLemmas
 pub mod NextLemmas
 pub mod WriteLemmas
+pub mod TurnLemmas
 pub mod ContentLemmas
 pub mod ApartLemmas
 pub mod CompleteLemmas

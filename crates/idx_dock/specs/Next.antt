@@ -43,6 +43,11 @@ IsNext h field from runs (Some r) =
     (is_left h field from r ≡ true) × IsOneOf runs r
     × AllByRecursion (λ q. is_left h field from q ≡ true → r.first ≤ q.first) runs
 
+-- there is a run, and it begins at the address or before it
+abbrev pub BeginsBy : ℕ → Option Run → Type 0
+BeginsBy from None = ⊥
+BeginsBy from (Some r) = r.first ≤ from
+
 -- that of two runs which begins first
 abbrev pub earlier_of : Option Run → Option Run → Option Run
 earlier_of None other = other

@@ -89,8 +89,11 @@ fn put_field<D: Draft>(
     ensures path { D.path draft.new ≡ D.path draft.old }
 {
     reset(passed);
+    let mut turn = 0;
     for block in file_blocks(header, file) {
-        put_block(header, file, field, block, awaited, passed, buffer, draft)?;
+        put_block(
+            header, file, field, block, awaited, passed, &mut turn, buffer, draft,
+        )?;
     }
     Ok(())
 }
@@ -112,7 +115,7 @@ fn block_samples(header: &Header) -> u64
 }
 
 /// Writes a block of a field behind what the draft and the buffer have so far. Of each piece so many runs are known to
-/// end before the block.
+/// end before the block. `turn` is the piece whose run is probably the next one.
 fn put_block<D: Draft>(
     header: &Header,
     file: u64,
@@ -120,6 +123,7 @@ fn put_block<D: Draft>(
     block: u64,
     awaited: &[Awaited],
     passed: &mut [usize],
+    turn: &mut usize,
     buffer: &mut Vec<u8>,
     draft: &mut D,
 ) -> Result<(), Outage>
@@ -142,7 +146,7 @@ fn put_block<D: Draft>(
     let end = from + samples;
     while from < end {
         from = put_some(
-            header, file, field, from, end, awaited, passed, buffer, draft,
+            header, file, field, from, end, awaited, passed, turn, buffer, draft,
         )?;
     }
     Ok(())
@@ -158,6 +162,7 @@ fn put_some<D: Draft>(
     end: u64,
     awaited: &[Awaited],
     passed: &mut [usize],
+    turn: &mut usize,
     buffer: &mut Vec<u8>,
     draft: &mut D,
 ) -> Result<u64, Outage>
@@ -177,7 +182,7 @@ fn put_some<D: Draft>(
     ensures once { OnErr result (D.faults draft.new ≡ counted (D.faults draft.old)) }
     ensures path { D.path draft.new ≡ D.path draft.old }
 {
-    let Some(run) = next_run(header, file, field, from, awaited, passed) else {
+    let Some(run) = next_run(header, file, field, from, awaited, passed, turn) else {
         return put_gap(header, field, from, end, buffer, draft);
     };
     if run.first > from {

@@ -1,18 +1,19 @@
 //! Which of the delivered runs is written next.
-ghost use Rattle.std.specs.Prelude.{◌≡◌, ℕ, ◌+◌, ◌*◌, ◌^◌, ◌<◌, ◌≤◌, All, List, length, slice_get, slice_index_or, true};
+ghost use Rattle.std.specs.Prelude.{◌≡◌, ℕ, ◌+◌, ◌*◌, ◌^◌, ◌<◌, ◌≤◌, All, IsTrue, List, length, slice_get, slice_index_or, true};
 ghost use Rattle.std.specs.Option.{option_copied};
 ghost use Rattle.idx_header.specs.Header.{IsHeader, block_count};
 ghost use Rattle.idx_pieces.specs.declared.run.Run.{Run as RunValue};
 ghost use Rattle.idx_pieces.specs.Runs.{IsRun, run_length};
 ghost use Rattle.idx_dock.specs.Content.{runs_in};
-ghost use Rattle.idx_dock.specs.Next.{ArePassed, AreWritable, IsNext, IsPassed, RiseIn, earlier_of, is_left, runs_of};
+ghost use Rattle.idx_dock.specs.Next.{ArePassed, AreWritable, BeginsBy, IsNext, IsPassed, RiseIn, earlier_of, is_left, runs_of};
 
 use crate::Awaited;
 use idx_header::Header;
 use idx_pieces::Run;
 
 /// The run that is written next: the least, by its first address, of those with a sample of a field at an address or
-/// behind it. Of each piece so many runs are known to have none.
+/// behind it. Of each piece so many runs are known to have none. The piece whose turn it is, by its place, is asked first:
+/// where its run has the sample at the address, no other run has, and then it is the next piece's turn.
 pub(crate) fn next_run<'a>(
     header: &Header,
     file: u64,
@@ -20,6 +21,40 @@ pub(crate) fn next_run<'a>(
     from: u64,
     awaited: &'a [Awaited],
     passed: &mut [usize],
+    turn: &mut usize,
+) -> Option<&'a Run>
+    requires writable { AreWritable header.now file awaited.now }
+    requires passed { ArePassed header.now field from awaited.now passed.old }
+    ensures next { IsNext header.now field from (runs_in awaited.now) (option_copied result) }
+    ensures passed { ArePassed header.now field from awaited.now passed.new }
+{
+    let place = *turn;
+    if place < awaited.len() {
+        let run = next_of_piece(
+            header,
+            file,
+            field,
+            from,
+            &awaited[place],
+            &mut passed[place],
+        );
+        if begins_by(run, from) {
+            *turn = place + 1;
+            return run;
+        }
+    }
+    least_run(header, file, field, from, awaited, passed, turn)
+}
+
+/// The same, out of the runs of all pieces.
+fn least_run<'a>(
+    header: &Header,
+    file: u64,
+    field: u32,
+    from: u64,
+    awaited: &'a [Awaited],
+    passed: &mut [usize],
+    turn: &mut usize,
 ) -> Option<&'a Run>
     requires writable { AreWritable header.now file awaited.now }
     requires passed { ArePassed header.now field from awaited.now passed.old }
@@ -29,9 +64,23 @@ pub(crate) fn next_run<'a>(
     let mut next = None;
     for i in 0..awaited.len() {
         let run = next_of_piece(header, file, field, from, &awaited[i], &mut passed[i]);
+        if begins_by(run, from) {
+            *turn = i + 1;
+            return run;
+        }
         next = earlier(next, run);
     }
     next
+}
+
+/// Whether there is a run, and it begins at an address or before it.
+fn begins_by(run: Option<&Run>, from: u64) -> bool
+    ensures { IsTrue result → BeginsBy from (option_copied run.entry) }
+{
+    match run {
+        Some(run) => run.first <= from,
+        None => false,
+    }
 }
 
 /// The same of the runs of one piece.

@@ -1,4 +1,5 @@
 pub mod CutLemmas
+pub mod PrefixLemmas
 pub mod InFileLemmas
 pub mod MadeLemmas
 pub mod SampleLemmas

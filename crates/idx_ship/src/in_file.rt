@@ -3,9 +3,10 @@ ghost use Rattle.std.specs.List.{range_with_len};
 ghost use Rattle.idx_geom.specs.Region.{upper_ends};
 ghost use Rattle.idx_hz.specs.Mask.{HasAddress, IsMask};
 ghost use Rattle.idx_pieces.specs.Runs.{has_address};
-ghost use Rattle.idx_ship.specs.Spans.{AreAdded, block_addresses};
+ghost use Rattle.idx_ship.specs.Spans.{AreAdded, IsPrefix, block_addresses};
 
-use crate::cut::cut;
+use crate::cut::{cut, cut_narrowed};
+use crate::prefix::{Prefix, prefix_of};
 use crate::span::Span;
 use idx_geom::Region;
 use idx_hz::Mask;
@@ -14,8 +15,8 @@ use idx_outside::NoMemory;
 use std::alloc::Global;
 
 /// The spans of the addresses that the points of a box have in a file, rising. Blocks have 2^bits addresses, and the file
-/// `per_file` of them, from block `file` on. It takes a few tests for each span and each digit of the number of
-/// addresses.
+/// `per_file` of them, from block `file` on. It takes a few tests for each block and each level; where the box is not a
+/// whole box of one prefix, up to a few for each span and each digit.
 pub(crate) fn spans_in_file(
     alloc: Global,
     mask: &Mask,
@@ -32,9 +33,10 @@ pub(crate) fn spans_in_file(
     ensures { IfOk result (λ spans. AreAdded mask.now (filter (has_address mask.now region.now)
         (range_with_len (file * 2 ^ bits) (per_file * 2 ^ bits))) [] spans.items) }
 {
+    let prefix = prefix_of(mask, region);
     let mut spans = Vec::new(alloc);
     for block in blocks_in(mask, region, bits, file, file + per_file) {
-        cut_block(mask, region, bits, block, &mut spans)?;
+        cut_block(mask, region, &prefix, bits, block, &mut spans)?;
     }
     Ok(spans)
 }
@@ -44,12 +46,14 @@ pub(crate) fn spans_in_file(
 fn cut_block(
     mask: &Mask,
     region: &Region,
+    prefix: &Prefix,
     bits: u32,
     block: u64,
     spans: &mut Vec<Span>,
 ) -> Result<(), NoMemory>
     requires mask { IsMask mask.now }
     requires address { HasAddress mask.now (upper_ends region.now) }
+    requires prefix { IsPrefix mask.now region.now prefix.now }
     requires bits { bits ≤ length mask.now }
     requires few { bits ≤ 20 }
     requires exists { block < 2 ^ (length mask.now - bits) }
@@ -57,11 +61,11 @@ fn cut_block(
         spans.old.items spans.new.items) }
 {
     if block > 0 {
-        return cut(mask, region, bits, block, spans);
+        return cut_narrowed(mask, region, prefix, bits, block, spans);
     }
     cut(mask, region, 0, 0, spans)?;
     for level in 0..bits {
-        cut(mask, region, level, 1, spans)?;
+        cut_narrowed(mask, region, prefix, level, 1, spans)?;
     }
     Ok(())
 }

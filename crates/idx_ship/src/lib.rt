@@ -7,6 +7,7 @@ mod encoding;
 mod examples;
 mod in_file;
 mod piece_length;
+mod prefix;
 mod run;
 mod span;
 

@@ -5,7 +5,7 @@ use Rattle.idx_pieces.specs.Samples.{region_bytes}
 use Rattle.idx_pieces.specs.declared.parcel.Parcel.{Parcel}
 use Rattle.idx_pieces.specs.declared.piece.Piece.{Piece}
 use Rattle.idx_aggregate.proofs.HeldLemmas.{has_length}
-use Rattle.idx_aggregate.proofs.RowLemmas.{piece_inside}
+use Rattle.idx_aggregate.proofs.WorkerLemmas.{piece_inside}
 use Rattle.idx_aggregate.proofs.job.make.Goals as goal
 
 pub encode-requires-clause-inside : goal.encode-requires-clause-inside

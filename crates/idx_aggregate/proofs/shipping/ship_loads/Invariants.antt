@@ -1,9 +1,5 @@
-use Rattle.std.specs.VecDeque.{deque_len}
-use Rattle.idx_aggregate.specs.Shipping.{AreShipping}
+use Rattle.idx_aggregate.specs.Jobs.{AreDelivering}
 use Rattle.idx_aggregate.proofs.shipping.ship_loads.Given as goal
 
-abbrev pub invariant-rows : goal.invariant-rows
-invariant-rows g l = AreShipping l.header l.initial.left.items l.left.items l.initial.docks.items l.docks.items
-
-abbrev pub decreases-rows : goal.decreases-rows
-decreases-rows g l = deque_len l.left
+abbrev pub invariant-loop-job : goal.invariant-loop-job
+invariant-loop-job g l = AreDelivering l.header l.fn.loads.items l.job-iterator.rest.items l.fn.docks.items l.docks.items

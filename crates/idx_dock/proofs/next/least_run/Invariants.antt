@@ -2,7 +2,7 @@ use Rattle.std.proofs.Common.{take}
 use Rattle.std.specs.Option.{option_copied}
 use Rattle.idx_dock.specs.Content.{runs_in}
 use Rattle.idx_dock.specs.Next.{ArePassed, IsNext}
-use Rattle.idx_dock.proofs.next.next_run.Given as goal
+use Rattle.idx_dock.proofs.next.least_run.Given as goal
 
 -- the next run of the pieces so far
 abbrev pub invariant-loop-i : goal.invariant-loop-i
