@@ -12,7 +12,7 @@ mod shown;
 mod usage;
 mod work_line;
 
-pub use buffer::long_buffer;
+pub use buffer::{long_buffer, room_keeper};
 pub use notice::{Notice, standing_steps, write_notice};
 pub use numbers::{links_of, ranks_of, share_of, workers_of};
 pub use paths::{dataset_path, door_address, raw_path};

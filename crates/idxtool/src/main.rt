@@ -5,6 +5,7 @@
 ghost use Rattle.std.specs.Prelude.{◌<◌, vec_len};
 
 mod announced_door;
+mod kept_room;
 mod outside;
 mod work_line;
 
@@ -12,6 +13,7 @@ use idx_commands::{Cause, Done, run};
 use idx_progress::WatchedBay;
 use idx_real::{Sockets, StdSink};
 use idx_report::{clear_work, report, text_asked_for, write_text};
+use kept_room::kept_room;
 use outside::{
     StdDoor, dataset_files, file_readers, last_fault, raw_files, refused_header, tcp_doors,
 };
@@ -85,6 +87,7 @@ fn run_over_files<T: Threads + Wait + Sync, R: Sockets + Send>(
     let mut readers = file_readers(rt, words)?;
     let mut out = StdSink::new(rt.stdout());
     let mut bay = WatchedBay::new(rt.alloc(), files, show_work(rt, words));
+    let _room = kept_room(rt, words);
     let done = run(
         threads,
         rt.alloc(),
