@@ -1,3 +1,4 @@
 pub mod SumLemmas
 pub mod CountLemmas
 pub mod LoadLemmas
+pub mod OpenLemmas
