@@ -5,8 +5,6 @@ use Rattle.std.specs.Option.{option_map_or}
 use Rattle.std.specs.Map.{lookup}
 use Rattle.idx_outside.specs.Files.{files_of}
 use Rattle.idx_outside.specs.declared.mem_file.MemFile.{MemFile}
-use Rattle.idx_geom.specs.Region.{points}
-use Rattle.idx_hz.specs.Address.{hz_address}
 use Rattle.idx_hz.specs.Answer.{answer}
 use Rattle.idx_header.specs.Header.{HeaderValue, at_revision, sample_bytes_of, volume_bytes}
 use Rattle.idx_header.specs.Names.{file_name}
@@ -18,7 +16,7 @@ use Rattle.idx_layout.specs.Placing.{file_numbers, present_blocks}
 use Rattle.idx_layout.specs.Shape.{shape_of}
 use Rattle.idx_layout.specs.Step.{volume_of_raw}
 use Rattle.idx_layout.specs.declared.layout.Layout.TheVariants.{Hz}
-use Rattle.idx_pieces.specs.Pieces.{piece_of, pieces_of}
+use Rattle.idx_pieces.specs.Pieces.{pieces_of}
 use Rattle.idx_pieces.specs.Runs.{file_addresses, sample_at_address}
 use Rattle.idx_pieces.specs.Samples.{raw_sample}
 use Rattle.idx_dock.specs.Dock.{piece_at_address, reaching}

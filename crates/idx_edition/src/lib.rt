@@ -1,4 +1,4 @@
-//! One step's files as blocks: which blocks the files have, and where in them each stands.
+//! The files of one published timestep: which blocks they have, and where in them each block stands.
 #![tactic(auto)]
 
 mod edition;

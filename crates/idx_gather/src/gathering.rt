@@ -18,8 +18,8 @@ use idx_outside::{Bay, Blocks, Gate, Source};
 use std::alloc::Global;
 use std::thread::Threads;
 
-/// So many bytes of files, and of samples on their way to them, are kept in memory at a time, but for one file and one
-/// piece: 2^28.
+/// So many bytes of samples on their way to files are kept in memory at a time, but for one piece, and, where files are
+/// written by windows, so many bytes of files, but for one file: 2^28.
 pub fn gather_room() -> u64
     ensures { result ≡ 2 ^ 28 }
 {
@@ -29,11 +29,11 @@ pub fn gather_room() -> u64
 /// Writes a step from a raw volume and makes it stand in the bay, in the folder that was last begun: exactly its files,
 /// byte for byte as the format defines them, with the samples of each block in hierarchical order. There is one rank for
 /// each of the raw volumes, which all give the same bytes: each rank reads its part of the box from its own, in a thread of
-/// its own. The files do not depend on how many ranks there are. The raw volumes are read once, by pieces of as many
-/// bytes as fit into 2^28 together, or one, and each file is written as soon as it misses nothing; but where more than
-/// 2^30 bytes of files would be begun and not complete at a time, or there are more than 65,536 files, they are read once
-/// for each window of as many files as take 2^28 bytes together, or one. The answer is the step as blocks, out of the
-/// files that now stand; making it costs no read.
+/// its own. The files do not depend on how many ranks there are. Each piece of the raw volumes is read once, in batches of
+/// as many pieces as fit into 2^28 bytes together, or one, and each file is written as soon as it misses nothing; but
+/// where more than 2^30 bytes of files would be begun and not complete at a time, or there are more than 65,536 files,
+/// each piece is read once for each window of as many files as take 2^28 bytes together, or one. The answer is the step
+/// as blocks, out of the files that now stand; making it costs no read.
 ///
 /// After a refusal no file stands that did not before. A store's fault may come of the commit itself: then the step stands
 /// whole or not at all.

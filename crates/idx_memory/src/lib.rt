@@ -1,5 +1,5 @@
-//! Forms in memory of what lies outside: those that fail at given calls and tell what they hold, and those that never
-//! fail and tell nothing.
+//! What lies outside, in memory: files, outputs and connections that fail at chosen calls and tell what they hold, and
+//! ones that never fail and tell nothing.
 #![tactic(auto)]
 
 mod fault_script;

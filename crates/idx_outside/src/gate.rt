@@ -1,4 +1,4 @@
-/// What a worker has finished.
+/// What a worker thread has finished.
 #[derive(Clone, Copy, Debug, PartialEq, Eq)]
 pub enum GatePlace {
     /// It has cut its part of the input into parcels.
@@ -13,7 +13,7 @@ pub enum GatePlace {
     Answered,
 }
 
-/// Where workers report what they have finished, so that a test can hold one of them there.
+/// Where worker threads report what they have finished, so that a test can hold one of them there.
 pub trait Gate: Sync {
     /// The worker of this number, counted from 0, has finished this. The call may wait.
     fn pass(&self, place: GatePlace, worker: u32);

@@ -1,5 +1,6 @@
-//! What lies outside: sources of bytes, sinks for bytes, bays, where datasets stand, readers of their files, and doors
-//! with the links that they hand out, each with a count of its faults.
+//! Traits of what lies outside the program, each with a count of its faults: an input file (`Source`), an output (`Sink`),
+//! the folder of a dataset (`Bay`) with the files that are written there and read again, and a listening socket (`Door`)
+//! with the connections that it hands out (`Link`).
 #![tactic(auto)]
 
 mod bay;

@@ -1,6 +1,5 @@
-//! The real forms of what lies outside: a file as a source, a writer of std, as standard output, as a sink, and the
-//! folder of a header file as a bay, with the files that are written there and read again, and connections over TCP
-//! with the doors that they come by.
+//! What lies outside, for real: a file as input, standard output, the folder of a header file with the files that are
+//! written there and read again, and listening sockets over TCP with their connections.
 #![tactic(auto)]
 
 mod fault;

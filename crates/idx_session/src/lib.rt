@@ -1,4 +1,4 @@
-//! A link is served: its heads are answered one after another, by whatever makes the replies.
+//! A connection is served: its requests are answered one after another, by whatever makes the replies.
 #![tactic(auto)]
 
 mod answered;

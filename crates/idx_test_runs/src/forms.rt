@@ -1,15 +1,14 @@
 //! The forms in memory that a run goes over.
-ghost use Rattle.std.specs.Prelude.{◌≡◌, IfOk, vec_len};
-
 use crate::object::Object;
 use crate::setting::{Coming, Setting, copies, copy};
-use idx_memory::{MemBay, MemDoor, MemLink, MemReader, MemSink, MemSource};
+use crate::volume::Volume;
+use idx_memory::{MemBay, MemDoor, MemLink, MemReader, MemSink};
 use std::alloc::{AllocError, Global};
 
-/// A raw volume, a bay, readers, a sink and doors.
+/// Raw volumes, a bay, readers, a sink and doors.
 #[derive(Drop)]
 pub struct Forms {
-    pub raws: Vec<MemSource>,
+    pub raws: Vec<Volume>,
     pub bay: MemBay,
     pub readers: Vec<MemReader>,
     pub out: MemSink,
@@ -17,9 +16,7 @@ pub struct Forms {
 }
 
 /// The forms of a setting.
-pub fn forms_of(alloc: Global, setting: &Setting) -> Result<Forms, AllocError>
-    ensures { IfOk result (λ forms. vec_len forms.raws ≡ 1) }
-{
+pub fn forms_of(alloc: Global, setting: &Setting) -> Result<Forms, AllocError> {
     Ok(Forms {
         raws: raws_of(alloc, setting)?,
         bay: bay_of(alloc, setting)?,
@@ -29,12 +26,13 @@ pub fn forms_of(alloc: Global, setting: &Setting) -> Result<Forms, AllocError>
     })
 }
 
-fn raws_of(alloc: Global, setting: &Setting) -> Result<Vec<MemSource>, AllocError>
-    ensures { IfOk result (λ raws. vec_len raws ≡ 1) }
-{
-    let bytes = copy(alloc, &setting.raw)?;
-    let calls = setting.calls(alloc, Object::Raw)?;
-    Ok(vec![in alloc; MemSource::new(bytes, calls)]?)
+fn raws_of(alloc: Global, setting: &Setting) -> Result<Vec<Volume>, AllocError> {
+    let mut raws = Vec::new(alloc);
+    for number in 0..setting.raws {
+        let bytes = copy(alloc, &setting.raw)?;
+        raws.push(Volume::new(bytes, setting.calls(alloc, Object::Raw(number))?))?;
+    }
+    Ok(raws)
 }
 
 fn bay_of(alloc: Global, setting: &Setting) -> Result<MemBay, AllocError> {
@@ -59,9 +57,14 @@ fn readers_of(alloc: Global, setting: &Setting) -> Result<Vec<MemReader>, AllocE
 /// The doors of a setting; where there is none, one without links whose first call fails.
 fn doors_of(alloc: Global, setting: &Setting) -> Result<Vec<MemDoor>, AllocError> {
     let mut doors = Vec::new(alloc);
-    for (number, links) in setting.doors.iter().enumerate() {
+    for (number, coming) in setting.doors.iter().enumerate() {
         let calls = setting.calls(alloc, Object::Door(number as u64))?;
-        doors.push(MemDoor::new(links_of(alloc, links)?, calls))?;
+        let links = if number == 0 {
+            first_links(alloc, setting, coming)?
+        } else {
+            links_of(alloc, coming)?
+        };
+        doors.push(MemDoor::new(links, calls))?;
     }
     if doors.is_empty() {
         let first = Vec::from_slice(alloc, &[1])?;
@@ -70,12 +73,37 @@ fn doors_of(alloc: Global, setting: &Setting) -> Result<Vec<MemDoor>, AllocError
     Ok(doors)
 }
 
+/// The links of the first door, whose calls fail as the setting says too.
+fn first_links(
+    alloc: Global,
+    setting: &Setting,
+    coming: &[Coming],
+) -> Result<Vec<MemLink>, AllocError> {
+    let mut links = Vec::new(alloc);
+    for (number, link) in coming.iter().enumerate() {
+        let mut calls = setting.calls(alloc, Object::Link(number as u64))?;
+        calls.push(link.fail)?;
+        links.push(link_of(alloc, link, calls)?)?;
+    }
+    Ok(links)
+}
+
 fn links_of(alloc: Global, coming: &[Coming]) -> Result<Vec<MemLink>, AllocError> {
     let mut links = Vec::new(alloc);
     for link in coming {
-        let input = copy(alloc, &link.input)?;
         let calls = Vec::from_slice(alloc, &[link.fail])?;
-        links.push(MemLink::new(input, Vec::new(alloc), calls))?;
+        links.push(link_of(alloc, link, calls)?)?;
     }
     Ok(links)
+}
+
+/// A link whose input comes in pieces of the length that it has, the last one less.
+fn link_of(alloc: Global, link: &Coming, calls: Vec<u64>) -> Result<MemLink, AllocError> {
+    let input = copy(alloc, &link.input)?;
+    if link.piece == 0 {
+        return Ok(MemLink::new(input, Vec::new(alloc), calls));
+    }
+    let whole = link.input.len() as u64 / link.piece;
+    let pieces = vec![in alloc; link.piece; (whole as usize).saturating_add(1)]?;
+    Ok(MemLink::new(input, pieces, calls))
 }

@@ -3,11 +3,14 @@
 
 mod bytes_text;
 mod forms;
+mod link_rows;
 mod object;
 mod outcome;
+mod replies;
 mod row;
 mod running;
 mod setting;
+mod volume;
 
 use anyhow::{Context, Result};
 use row::follow;

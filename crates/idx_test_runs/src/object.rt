@@ -1,15 +1,16 @@
 //! The objects of a run whose calls can fail.
-use anyhow::{Result, bail};
+use anyhow::{Context, Result, bail};
 
-/// The raw volume, the bay, the sink, or a draft, a reader or a door by its number, counted from 0.
+/// The bay, the sink, or a raw volume, a draft, a reader, a door or a link of the first door by its number, counted from 0.
 #[derive(Clone, Copy, PartialEq, Eq)]
 pub enum Object {
-    Raw,
     Bay,
     Sink,
+    Raw(u64),
     Draft(u64),
     Reader(u64),
     Door(u64),
+    Link(u64),
 }
 
 /// A call that fails: of which object, and its number, counted from 1.
@@ -19,18 +20,33 @@ pub struct Fail {
     pub call: u64,
 }
 
-/// The object of this name.
+/// The object of this name: a word, and its number behind it, if it has one.
 pub fn object_of(name: &str) -> Result<Object> {
     match name {
-        "raw" => Ok(Object::Raw),
         "bay" => Ok(Object::Bay),
         "sink" => Ok(Object::Sink),
-        "draft0" => Ok(Object::Draft(0)),
-        "draft1" => Ok(Object::Draft(1)),
-        "reader0" => Ok(Object::Reader(0)),
-        "reader1" => Ok(Object::Reader(1)),
-        "door0" => Ok(Object::Door(0)),
-        "door1" => Ok(Object::Door(1)),
-        _ => bail!("no such object"),
+        "raw" => Ok(Object::Raw(0)),
+        _ => numbered(name),
     }
+}
+
+fn numbered(name: &str) -> Result<Object> {
+    if let Some(number) = name.strip_prefix("raw") {
+        Ok(Object::Raw(number_of(number)?))
+    } else if let Some(number) = name.strip_prefix("draft") {
+        Ok(Object::Draft(number_of(number)?))
+    } else if let Some(number) = name.strip_prefix("reader") {
+        Ok(Object::Reader(number_of(number)?))
+    } else if let Some(number) = name.strip_prefix("door") {
+        Ok(Object::Door(number_of(number)?))
+    } else if let Some(number) = name.strip_prefix("link") {
+        Ok(Object::Link(number_of(number)?))
+    } else {
+        bail!("no such object")
+    }
+}
+
+/// The number that a text says.
+pub fn number_of(text: &str) -> Result<u64> {
+    text.parse::<u64>().context("a number")
 }

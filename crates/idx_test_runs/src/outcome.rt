@@ -1,6 +1,7 @@
 //! What is printed of a run.
 use crate::bytes_text::{push_escaped, push_words};
 use crate::forms::Forms;
+use crate::replies::{push_entries, push_written};
 use crate::setting::{Setting, is_same};
 use idx_commands::Done;
 use idx_memory::{MemDoor, MemReader};
@@ -8,7 +9,8 @@ use idx_outside::MemFile;
 use std::alloc::AllocError;
 
 /// Appends how a run ended and what it left: the status and the line of the cause, how many reads it made, what it wrote,
-/// the header where it is another one, the files that stand behind those that stood, and what was written to the links.
+/// the header where it is another one, the files that stand behind those that stood, and what was written to the links. With the
+/// counts and the entries of links where the setting says so.
 pub fn push_outcome(
     text: &mut String,
     done: Done,
@@ -17,6 +19,9 @@ pub fn push_outcome(
 ) -> Result<(), AllocError> {
     writeln!(text, "status {} {}", done.status, done.cause)?;
     push_reads(text, &forms.readers)?;
+    if setting.has_counts {
+        push_counts(text, forms)?;
+    }
     push_output(text, forms.out.written().as_slice())?;
     let header = forms.bay.header_text().as_slice();
     if header != setting.header.as_slice() {
@@ -24,7 +29,13 @@ pub fn push_outcome(
     }
     push_files(text, forms.bay.committed(), &setting.files)?;
     for (number, door) in forms.doors.iter().enumerate() {
-        push_door(text, number, door)?;
+        push_handed(text, number, door)?;
+        for (link, entries) in door.finished().iter() {
+            push_written(text, link)?;
+            if setting.has_entries {
+                push_entries(text, entries)?;
+            }
+        }
     }
     Ok(())
 }
@@ -33,6 +44,19 @@ pub fn push_outcome(
 fn push_reads(text: &mut String, readers: &[MemReader]) -> Result<(), AllocError> {
     if let [reader] = readers {
         writeln!(text, "reads {}", reader.reads())?;
+    }
+    Ok(())
+}
+
+/// Appends how many bytes each raw volume was asked for, how many calls changed the bay, and which call of it failed last.
+fn push_counts(text: &mut String, forms: &Forms) -> Result<(), AllocError> {
+    text.push_str("asked")?;
+    for raw in forms.raws.iter() {
+        write!(text, " {}", raw.asked())?;
+    }
+    writeln!(text, "\nchanges {}", forms.bay.changes())?;
+    if let Some(call) = forms.bay.failed() {
+        writeln!(text, "failed {call:?}")?;
     }
     Ok(())
 }
@@ -93,13 +117,10 @@ fn push_file(text: &mut String, file: &MemFile) -> Result<(), AllocError> {
     Ok(())
 }
 
-/// Appends how many links a door handed out, and what was written to each that came back.
-fn push_door(text: &mut String, number: usize, door: &MemDoor) -> Result<(), AllocError> {
+/// Appends how many links a door handed out.
+fn push_handed(text: &mut String, number: usize, door: &MemDoor) -> Result<(), AllocError> {
     if !door.handed().is_empty() {
         writeln!(text, "door{number} handed {}", door.handed().len())?;
-    }
-    for back in door.finished().iter() {
-        push_field(text, "link ", back.0.written().as_slice())?;
     }
     Ok(())
 }

@@ -1,10 +1,11 @@
 //! The rows of a table.
 use crate::bytes_text::bytes_of;
-use crate::object::{Fail, object_of};
+use crate::link_rows::change_links;
+use crate::object::{Fail, number_of, object_of};
 use crate::outcome::push_field;
-use crate::running::{run_each, run_once};
-use crate::setting::{Coming, Setting, copy};
-use anyhow::{Context, Result, bail};
+use crate::running::{run_alike, run_each, run_once};
+use crate::setting::{Setting, copy};
+use anyhow::{Context, Result};
 use idx_outside::{Bytes, MemFile};
 use std::alloc::Global;
 use std::sync::Wait;
@@ -25,6 +26,7 @@ pub fn follow<T: Threads + Wait + Sync>(
             Ok(String::new(alloc))
         }
         "each" => each(rt, alloc, setting, rest),
+        "alike" => alike(rt, alloc, setting, rest),
         "show" => shown(alloc, setting),
         _ => {
             change(alloc, setting, word, rest)?;
@@ -45,6 +47,20 @@ fn each<T: Threads + Wait + Sync>(
     run_each(rt, alloc, setting, (object, name), number_of(count)?)
 }
 
+/// Each call of an object from one to another fails in turn, and all these runs end alike: the object, the first of these calls
+/// and the last one.
+fn alike<T: Threads + Wait + Sync>(
+    rt: &T,
+    alloc: Global,
+    setting: &mut Setting,
+    rest: &str,
+) -> Result<String> {
+    let (name, rest) = rest.split_once(' ').context("an object and two calls")?;
+    let (first, last) = rest.split_once(' ').context("two calls")?;
+    let calls = (number_of(first)?, number_of(last)?);
+    run_alike(rt, alloc, setting, (object_of(name)?, name), calls)
+}
+
 /// The header that stands.
 fn shown(alloc: Global, setting: &Setting) -> Result<String> {
     let mut report = String::new(alloc);
@@ -59,6 +75,10 @@ fn change(alloc: Global, setting: &mut Setting, word: &str, rest: &str) -> Resul
         "case" => begin(alloc, setting, rest),
         "words" => set_words(alloc, setting, rest),
         "raw" => set_raw(alloc, setting, rest),
+        "samples" => {
+            setting.raw = bytes_of(alloc, rest)?;
+            Ok(())
+        }
         "header" => set_header(alloc, setting, rest),
         "file" => add_file(alloc, setting, rest),
         "fails" => add_fail(setting, rest),
@@ -66,25 +86,16 @@ fn change(alloc: Global, setting: &mut Setting, word: &str, rest: &str) -> Resul
     }
 }
 
-/// The same of the readers and the doors.
+/// The same of how many objects there are, and of what is printed.
 fn change_sides(alloc: Global, setting: &mut Setting, word: &str, rest: &str) -> Result<()> {
     match word {
-        "readers" => {
-            setting.readers = number_of(rest)?;
-            Ok(())
-        }
-        "door" => {
-            setting.doors.push(Vec::new(alloc))?;
-            Ok(())
-        }
-        "link" => add_link(alloc, setting, rest),
-        "head" => add_head(setting, rest),
-        _ => bail!("no such row"),
+        "raws" => setting.raws = number_of(rest)?,
+        "readers" => setting.readers = number_of(rest)?,
+        "counts" => setting.has_counts = true,
+        "entries" => setting.has_entries = true,
+        _ => return change_links(alloc, setting, word, rest),
     }
-}
-
-fn number_of(text: &str) -> Result<u64> {
-    text.parse::<u64>().context("a number")
+    Ok(())
 }
 
 /// A new case of this name begins.
@@ -139,23 +150,5 @@ fn add_fail(setting: &mut Setting, rest: &str) -> Result<()> {
     let (name, call) = rest.split_once(' ').context("an object and a call")?;
     let (object, call) = (object_of(name)?, number_of(call)?);
     setting.fails.push(Fail { object, call })?;
-    Ok(())
-}
-
-/// A link to the last door is given by the number of its call that fails, or 0.
-fn add_link(alloc: Global, setting: &mut Setting, rest: &str) -> Result<()> {
-    let fail = number_of(rest)?;
-    let input = Vec::new(alloc);
-    let door = setting.doors.last_mut().context("no door")?;
-    door.push(Coming { input, fail })?;
-    Ok(())
-}
-
-/// A head comes on the last link. An empty line ends it.
-fn add_head(setting: &mut Setting, rest: &str) -> Result<()> {
-    let door = setting.doors.last_mut().context("no door")?;
-    let link = door.last_mut().context("no link")?;
-    link.input.extend_from_slice(rest.as_bytes())?;
-    link.input.extend_from_slice(b"\r\n\r\n")?;
     Ok(())
 }

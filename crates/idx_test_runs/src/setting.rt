@@ -3,39 +3,48 @@ use crate::object::{Fail, Object};
 use idx_outside::{Bytes, MemFile};
 use std::alloc::{AllocError, Global};
 
-/// A link that is to come: its input, and the number of its call that fails, or 0.
+/// A link that is to come: its input, how many bytes of it come at a time, or 0 for as many as fit, and the number of its call
+/// that fails, or 0.
 #[derive(Drop)]
 pub struct Coming {
     pub input: Vec<u8>,
+    pub piece: u64,
     pub fail: u64,
 }
 
-/// What a run meets: the words, the raw volume, the header and the files that stand, the calls that fail, the links that
-/// come to each door, and how many readers there are.
+/// What a run meets: the words, the bytes of the raw volume and how many there are of it, the header and the files that stand,
+/// the calls that fail, the links that come to each door, and how many readers there are. And whether counts are printed of it,
+/// and the entries of links.
 #[derive(Drop)]
 pub struct Setting {
     pub name: String,
     pub words: Vec<String>,
     pub raw: Vec<u8>,
+    pub raws: u64,
     pub header: Vec<u8>,
     pub files: Vec<MemFile>,
     pub fails: Vec<Fail>,
     pub doors: Vec<Vec<Coming>>,
     pub readers: u64,
+    pub has_counts: bool,
+    pub has_entries: bool,
 }
 
 impl Setting {
-    /// No words are given, nothing stands, nothing fails, and there is one reader.
+    /// No words are given, nothing stands, nothing fails, and there are one raw volume and one reader.
     pub fn new(alloc: Global) -> Setting {
         Setting {
             name: String::new(alloc),
             words: Vec::new(alloc),
             raw: Vec::new(alloc),
+            raws: 1,
             header: Vec::new(alloc),
             files: Vec::new(alloc),
             fails: Vec::new(alloc),
             doors: Vec::new(alloc),
             readers: 1,
+            has_counts: false,
+            has_entries: false,
         }
     }
 

@@ -1,4 +1,4 @@
-//! Numbers, regions and the lines of a header's text, as they stand in words and texts.
+//! Numbers and boxes as they stand in words, and the lines of a header's text.
 #![tactic(auto)]
 
 mod box_text;

@@ -1,4 +1,4 @@
-//! Volumes that the files of a step agree with one by one make one volume: laws of the definitions.
+//! Laws of the definitions: where each file of a timestep agrees with some volume, one volume agrees with them all.
 #![tactic(auto)]
 
 mod laws;

@@ -1,5 +1,0 @@
-//! The cache, tried on small worked values.
-#![tactic(auto)]
-
-#[cfg(test)]
-mod cache;

@@ -1,2 +1,0 @@
-pub mod LateLemmas
-pub mod ShapeLemmas

@@ -1,0 +1,3 @@
+pub mod LateLemmas
+pub mod ShapeLemmas
+mod StepLemmas

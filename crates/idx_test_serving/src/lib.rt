@@ -1,0 +1,17 @@
+//! Heads, and datasets that are served, tried over links in memory.
+#![tactic(auto)]
+
+#[cfg(test)]
+mod dataset;
+#[cfg(test)]
+mod ends;
+#[cfg(test)]
+mod heads;
+#[cfg(test)]
+mod questions;
+#[cfg(test)]
+mod replies;
+#[cfg(test)]
+mod serving;
+#[cfg(test)]
+mod workers;
