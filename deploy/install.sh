@@ -1,0 +1,34 @@
+#!/bin/sh
+# Installs idxtool below PREFIX: the program, its manual page, its completion for bash, the viewer for browsers, the systemd
+# unit and an nginx site to copy. `install.sh --remove PREFIX` takes these files away again. DESTDIR, if it is set, goes
+# before every path.
+#
+#     deploy/install.sh /usr/local
+#
+# The program is crates/idxtool/out/idxtool, or what the environment variable IDXTOOL says.
+set -eu
+here=$(cd "$(dirname "$0")" && pwd)
+remove=
+if [ "${1-}" = --remove ]; then remove=yes; shift; fi
+if [ $# -ne 1 ]; then echo "usage: install.sh [--remove] PREFIX" >&2; exit 1; fi
+case $1 in /*) prefix=${1%/} ;; *) echo "install.sh: PREFIX has to begin with a /" >&2; exit 1 ;; esac
+top=${DESTDIR-}$prefix
+program=${IDXTOOL:-$here/../crates/idxtool/out/idxtool}
+unit=lib/systemd/system/idxtool@.service
+
+if [ -n "$remove" ]; then
+    rm -f "$top/bin/idxtool" "$top/share/man/man1/idxtool.1" "$top/share/bash-completion/completions/idxtool" \
+        "$top/$unit" "$top/share/doc/idxtool/nginx-idx.conf" "$top/share/idxtool/index.html"
+    exit 0
+fi
+if ! [ -x "$program" ]; then
+    echo "install.sh: there is no program at $program; build it, or set IDXTOOL to its path" >&2
+    exit 1
+fi
+install -D -m 755 "$program" "$top/bin/idxtool"
+install -D -m 644 "$here/idxtool.1" "$top/share/man/man1/idxtool.1"
+install -D -m 644 "$here/idxtool.bash" "$top/share/bash-completion/completions/idxtool"
+install -D -m 644 "$here/nginx-idx.conf" "$top/share/doc/idxtool/nginx-idx.conf"
+install -D -m 644 "$here/../web/index.html" "$top/share/idxtool/index.html"
+install -D -m 644 "$here/idxtool@.service" "$top/$unit"
+sed -i "s|@PREFIX@|$prefix|" "$top/$unit"
