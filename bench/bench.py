@@ -21,6 +21,7 @@ import statistics
 import subprocess
 import sys
 import tempfile
+import threading
 import time
 from collections.abc import Callable
 from contextlib import ExitStack
@@ -85,8 +86,14 @@ def timed(words: list[str], output: "Path | None" = None) -> Time:
     before = resource.getrusage(resource.RUSAGE_CHILDREN)
     with open(output or os.devnull, "wb") as out:
         begin = time.perf_counter()
-        subprocess.run(words, stdin=subprocess.DEVNULL, stdout=out, check=True, timeout=SECONDS)
+        process = subprocess.Popen(words, stdin=subprocess.DEVNULL, stdout=out)
+        late = threading.Timer(SECONDS, process.kill)
+        late.start()
+        status = process.wait()  # a wait with a timeout looks only now and then, at times that double
         wall = time.perf_counter() - begin
+        late.cancel()
+    if status != 0:
+        raise subprocess.CalledProcessError(status, words)
     after = resource.getrusage(resource.RUSAGE_CHILDREN)
     return Time(1000 * wall, 1000 * (after.ru_utime + after.ru_stime - before.ru_utime - before.ru_stime))
 
