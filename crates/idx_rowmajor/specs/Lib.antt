@@ -1,0 +1,9 @@
+pub mod RowPlace
+pub mod Rows
+pub mod Digits
+pub mod Bits
+pub mod Reverse
+pub mod Targets
+pub mod Exchange
+pub mod Tables
+pub mod Involutions
