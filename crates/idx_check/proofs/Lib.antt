@@ -1,0 +1,17 @@
+pub mod DifferenceLemmas
+pub mod ContentLemmas
+pub mod WantedLemmas
+pub mod NumbersLemmas
+pub mod NatLemmas
+pub mod AddressLemmas
+pub mod BetweenLemmas
+pub mod PieceLemmas
+pub mod StrayLemmas
+pub mod StoredLemmas
+pub mod VerdictLemmas
+pub mod PadLemmas
+pub mod TableLemmas
+pub mod RunLemmas
+pub mod FieldLemmas
+pub mod StepLemmas
+pub mod ClearLemmas

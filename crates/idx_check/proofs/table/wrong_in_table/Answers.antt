@@ -1,0 +1,91 @@
+use Rattle.std.proofs.Common.{◌≡◌, ◌≢◌, ℕ, ◌+◌, ◌-◌, ◌%◌, ◌^◌, ◌<◌, ◌≤◌, min, List, length, refl, sym, ap, ◌∙◌, subst, arith, rules}
+use Rattle.std.specs.Prelude.{IfSome, Option}
+use Rattle.idx_outside.specs.Cause.{AskedFor}
+use Rattle.idx_table.specs.Table.{table_bytes}
+use Rattle.idx_table.specs.declared.row.Row.{Row}
+use Rattle.idx_layout.specs.Files.{row_count}
+use Rattle.idx_layout.specs.OfHeader.{placing_of}
+use Rattle.idx_layout.specs.Placing.{Placing}
+use Rattle.idx_check.specs.Piece.{AskedUpTo, IsOnTheWay}
+use Rattle.idx_check.proofs.PieceLemmas.{asked_begins, asked_ends, asked_nothing, way_ends}
+use Rattle.idx_check.proofs.TableLemmas.{agrees_to, front_agrees, front_differs, if_none, looked_all, looked_first, looked_next, looked_within, row_agrees, row_differs}
+use Rattle.idx_check.proofs.table.wrong_in_table.Goals as goal
+
+pub returns-in-Some-clause-found : goal.returns-in-Some-clause-found
+returns-in-Some-clause-found g c =
+    let l : Placing = placing_of c.args.header.now in
+    front_differs (g.L.Leaf.contents c.args.leaf.now) l c.args.file c.in-Some.place (table_bytes (row_count l)) c.in_ok-place.field-0 c.in-Some.is (omega arith)
+    c.in_ok-place.ensures.found
+
+pub loop-row-init : goal.loop-row-init
+loop-row-init g c =
+    let l : Placing = placing_of c.args.header.now in
+    record {
+      looked = looked_first l c.args.file c.into_iter-row-iterator.result (c.into_iter-row-iterator.ensures.into_iter_gives ∙ c.file_rows-row-items.ensures.rows);
+      agree = front_agrees (g.L.Leaf.contents c.args.leaf.now) l c.args.file c.in_ok-place.field-0 c.in_default.is c.in_ok-place.ensures.found;
+      way = subst (λ (n : ℕ). IsOnTheWay (g.L.Leaf.contents c.args.leaf.now) c.wrong_in_row.new.piece.bytes.items c.wrong_in_row.new.piece.used 40 40 (n - 40)) c.table_len.ensures.value
+          (if_none c.in_ok-place.field-0 c.in_default.is c.in_ok-place.ensures.way);
+      asked = if_none c.in_ok-place.field-0 c.in_default.is (c.in_ok-place.ensures.asked (g.R.Reader.asked c.args.reader.now)
+          (asked_begins (g.R.Reader.asked c.args.reader.now) (g.R.Reader.asked c.args.reader.now) c.args.piece.now.bytes.items c.args.piece.now.used 0 c.args.there c.requires.fresh (asked_nothing (g.R.Reader.asked c.args.reader.now) c.args.there)));
+      quiet = c.in_ok-place.ensures.quiet;
+    }
+
+pub wrong_in_row-requires-in-loop-row-clause-more :
+    goal.wrong_in_row-requires-in-loop-row-clause-more
+wrong_in_row-requires-in-loop-row-clause-more g c =
+    let l : Placing = placing_of c.args.header.now in
+    let within = looked_within l c.args.file c.loop-row.row-iterator c.next.new.self c.in-Some-row.row c.loop-row.at c.loop-row.invariant.looked c.in-Some-row.ensures.steps in
+    omega (arith, within, c.table_len.ensures.value)
+
+pub wrong_in_row-requires-in-loop-row-clause-way :
+    goal.wrong_in_row-requires-in-loop-row-clause-way
+wrong_in_row-requires-in-loop-row-clause-way g c =
+    subst (λ (n : ℕ). IsOnTheWay (g.L.Leaf.contents c.args.leaf.now) c.loop-row.piece.bytes.items c.loop-row.piece.used 40 c.loop-row.at (n - c.loop-row.at)) (sym c.table_len.ensures.value) c.loop-row.invariant.way
+
+pub returns-in-Some-2-clause-found : goal.returns-in-Some-2-clause-found
+returns-in-Some-2-clause-found g c =
+    let l : Placing = placing_of c.args.header.now in
+    let before = c.loop-row.invariant in
+    row_differs l c.args.file c.loop-row.row-iterator c.next.new.self c.in-Some-row.row c.loop-row.at before.looked c.in-Some-row.ensures.steps (g.L.Leaf.contents c.args.leaf.now) c.in-Some-2.place (table_bytes (row_count l))
+    c.in_ok-place-2.field-0 c.in-Some-2.is (looked_within l c.args.file c.loop-row.row-iterator c.next.new.self c.in-Some-row.row c.loop-row.at before.looked c.in-Some-row.ensures.steps)
+    before.agree c.in_ok-place-2.ensures.found
+
+pub overflow_add-at : goal.overflow_add-at
+overflow_add-at g c =
+    let l : Placing = placing_of c.args.header.now in
+    let within = looked_within l c.args.file c.loop-row.row-iterator c.next.new.self c.in-Some-row.row c.loop-row.at c.loop-row.invariant.looked c.in-Some-row.ensures.steps in
+    omega (arith, within, c.table_len.ensures.value, c.table_len.ensures.few)
+
+pub loop-row-preserved : goal.loop-row-preserved
+loop-row-preserved g c =
+    let l : Placing = placing_of c.args.header.now in
+    let before = c.loop-row.invariant in
+    let first = c.in-Some-row.ensures.steps in
+    record {
+      looked = looked_next l c.args.file c.loop-row.row-iterator c.next.new.self c.in-Some-row.row c.loop-row.at before.looked first;
+      agree = row_agrees l c.args.file c.loop-row.row-iterator c.next.new.self c.in-Some-row.row c.loop-row.at before.looked first (g.L.Leaf.contents c.args.leaf.now) c.in_ok-place-2.field-0 c.in_default-2.is before.agree c.in_ok-place-2.ensures.found;
+      way = subst (λ (n : ℕ). IsOnTheWay (g.L.Leaf.contents c.args.leaf.now) c.wrong_in_row-in-loop-row.new.piece.bytes.items c.wrong_in_row-in-loop-row.new.piece.used 40 (c.loop-row.at + 40) (n - (c.loop-row.at + 40))) c.table_len.ensures.value
+          (if_none c.in_ok-place-2.field-0 c.in_default-2.is c.in_ok-place-2.ensures.way);
+      asked = if_none c.in_ok-place-2.field-0 c.in_default-2.is (c.in_ok-place-2.ensures.asked (g.R.Reader.asked c.args.reader.now) before.asked);
+      quiet = c.in_ok-place-2.ensures.quiet ∙ before.quiet;
+    }
+
+pub returns-clause-found : goal.returns-clause-found
+returns-clause-found g c =
+    let l : Placing = placing_of c.args.header.now in
+    agrees_to (g.L.Leaf.contents c.args.leaf.now) l c.args.file 0 c.loop-row.at (table_bytes (row_count l))
+    (looked_all l c.args.file c.loop-row.row-iterator c.loop-row.at c.loop-row.invariant.looked c.in-None.ensures.steps.0) c.loop-row.invariant.agree
+
+pub returns-clause-fresh : goal.returns-clause-fresh
+returns-clause-fresh g c =
+    let l : Placing = placing_of c.args.header.now in
+    let all = looked_all l c.args.file c.loop-row.row-iterator c.loop-row.at c.loop-row.invariant.looked c.in-None.ensures.steps.0 in
+    way_ends (g.L.Leaf.contents c.args.leaf.now) c.loop-row.piece.bytes.items c.loop-row.piece.used 40 c.loop-row.at (table_bytes (row_count l) - c.loop-row.at) c.loop-row.invariant.way (omega (arith, all))
+
+pub returns-clause-asked : goal.returns-clause-asked
+returns-clause-asked g c =
+    let l : Placing = placing_of c.args.header.now in
+    let all = looked_all l c.args.file c.loop-row.row-iterator c.loop-row.at c.loop-row.invariant.looked c.in-None.ensures.steps.0 in
+    let fresh = way_ends (g.L.Leaf.contents c.args.leaf.now) c.loop-row.piece.bytes.items c.loop-row.piece.used 40 c.loop-row.at (table_bytes (row_count l) - c.loop-row.at) c.loop-row.invariant.way (omega (arith, all)) in
+    subst (λ (n : ℕ). AskedFor (g.R.Reader.asked c.args.reader.now) (g.R.Reader.asked c.loop-row.reader) (min n c.args.there)) all
+    (asked_ends (g.R.Reader.asked c.args.reader.now) (g.R.Reader.asked c.loop-row.reader) c.loop-row.piece.bytes.items c.loop-row.piece.used c.loop-row.at c.args.there fresh c.loop-row.invariant.asked)

@@ -1,0 +1,11 @@
+pub mod Difference
+pub mod Wanted
+pub mod Verdict
+pub mod Cause
+pub mod Stray
+pub mod Piece
+pub mod Form
+pub mod Worked
+pub mod Refused
+pub mod Checked
+pub mod Clear
