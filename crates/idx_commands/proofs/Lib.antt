@@ -5,6 +5,7 @@ pub mod CutLemmas
 pub mod InfoLemmas
 pub mod ConvertLemmas
 pub mod QueryLemmas
+pub mod CheckLemmas
 pub mod ServeLemmas
 pub mod DrillLemmas
 pub mod SiteNameLemmas

@@ -14,8 +14,8 @@ use Rattle.idx_words.specs.ConvertValue.{ConvertValue}
 use Rattle.idx_words.specs.QueryValue.{QueryValue}
 use Rattle.idx_words.specs.ServeValue.{IngestValue, ServeValue}
 use Rattle.idx_words.specs.declared.command.Command.{Command}
-use Rattle.idx_words.specs.declared.command.Command.TheVariants.{Cut, Info, Convert, Query, Serve, Drill}
-use Rattle.idx_words.specs.Words.{Give, GiveConvert, GiveCut, GiveDrill, GiveInfo, GiveQuery, GiveServe, IsConvert, IsCut, IsDrill, IsInfo, IsQuery, IsServe}
+use Rattle.idx_words.specs.declared.command.Command.TheVariants.{Cut, Info, Convert, Query, Check, Serve, Drill}
+use Rattle.idx_words.specs.Words.{Give, GiveCheck, GiveConvert, GiveCut, GiveDrill, GiveInfo, GiveQuery, GiveServe, IsCheck, IsConvert, IsCut, IsDrill, IsInfo, IsQuery, IsServe}
 use Rattle.idx_commands.specs.declared.causes.Cause.{Cause}
 use Rattle.idx_commands.specs.declared.causes.Cause.TheVariants as causes
 use Rattle.idx_commands.specs.Cause.{status_of}
@@ -23,19 +23,21 @@ use Rattle.idx_commands.specs.CutRun.{CutEnds, CutMeans}
 use Rattle.idx_commands.specs.InfoRun.{InfoEnds, InfoMeans}
 use Rattle.idx_commands.specs.ConvertRun.{ConvertEnds, ConvertMeans}
 use Rattle.idx_commands.specs.QueryRun.{IsBayOutage, IsReaderOutage, QueryEnds, QueryMeans}
+use Rattle.idx_commands.specs.CheckRun.{CheckEnds, CheckMeans}
 use Rattle.idx_commands.specs.ServeRun.{ServeMeans, workers_in}
 use Rattle.idx_commands.specs.LiveRun.{EndsServing, LiveMeans, seen_of}
 use Rattle.idx_commands.specs.DrillRun.{DrillEnds, DrillMeans}
 use Rattle.idx_commands.specs.Totals.{totals}
 use Rattle.idx_commands.specs.Known.{Known, known}
 use Rattle.idx_commands.specs.Seen.{BaySeen, IsUnchanged, raw_after, raw_before, raw_bytes, reader_counts}
-use Rattle.idx_commands.specs.Run.{AreNamed, CommandEnds, CountsFaults, GiveIngest, LeavesRest, RunSeen, Writes, WroteAnswer, WrotePrefix}
+use Rattle.idx_commands.specs.Run.{AreNamed, CommandEnds, CountsFaults, GiveIngest, GiveReading, LeavesRest, RunSeen, Writes, WroteAnswer, WrotePrefix}
 use Rattle.idx_commands.proofs.CauseLemmas.{done_is, door_fault_is, raw_fault_is, sink_fault_is, store_fault_is, usage_is}
 use Rattle.idx_commands.proofs.CutLemmas.{cut_silent}
 use Rattle.idx_commands.proofs.InfoLemmas.{info_silent}
 use Rattle.idx_commands.proofs.ConvertLemmas.{raw_cause, store_cause}
 use Rattle.idx_commands.proofs.DrillLemmas.{drill_silent}
 use Rattle.idx_commands.proofs.QueryLemmas.{query_silent, query_writes}
+use Rattle.idx_commands.proofs.CheckLemmas.{check_silent}
 use Rattle.idx_commands.proofs.ServeLemmas.{serve_silent, totals_begun, totals_written}
 use Rattle.idx_commands.proofs.LiveLemmas.{live_begun, live_not_usage, live_silent, live_written}
 use Rattle.idx_commands.proofs.HostedLemmas.{first_counts_fall, others_same}
@@ -52,6 +54,7 @@ name_of (Cut c) = codes "cut"
 name_of Info = codes "info"
 name_of (Convert c) = codes "convert"
 name_of (Query q) = codes "query"
+name_of (Check step) = codes "check"
 name_of (Serve v) = codes "serve"
 name_of (Drill n) = codes "drill"
 
@@ -72,8 +75,17 @@ same_serve a b same = ap (values_in a) same
 pub query_not_serve : codes "query" ≡ codes "serve" → ⊥
 query_not_serve same = false≢true (ap (λ name. bytes_eq name (codes "serve")) same)
 
+pub query_not_check : codes "query" ≡ codes "check" → ⊥
+query_not_check same = false≢true (ap (λ name. bytes_eq name (codes "check")) same)
+
 pub query_not_drill : codes "query" ≡ codes "drill" → ⊥
 query_not_drill same = false≢true (ap (λ name. bytes_eq name (codes "drill")) same)
+
+pub check_not_serve : codes "check" ≡ codes "serve" → ⊥
+check_not_serve same = false≢true (ap (λ name. bytes_eq name (codes "serve")) same)
+
+pub check_not_drill : codes "check" ≡ codes "drill" → ⊥
+check_not_drill same = false≢true (ap (λ name. bytes_eq name (codes "drill")) same)
 
 pub serve_not_drill : codes "serve" ≡ codes "drill" → ⊥
 serve_not_drill same = false≢true (ap (λ name. bytes_eq name (codes "drill")) same)
@@ -85,6 +97,7 @@ given_named (first ∷ words) (Cut c) name named given = sym named ∙ given.0
 given_named (first ∷ words) Info name named given = sym named ∙ given.0
 given_named (first ∷ words) (Convert c) name named given = sym named ∙ given.0
 given_named (first ∷ words) (Query q) name named given = sym named ∙ given.0
+given_named (first ∷ words) (Check step) name named given = sym named ∙ given.0
 given_named (first ∷ words) (Serve v) name named given = sym named ∙ given.0
 given_named (first ∷ words) (Drill n) name named given = sym named ∙ given.0
 
@@ -177,6 +190,10 @@ module _ {V B R K D L : Type 0} (words : List (List ℕ)) (seen : RunSeen V B R 
       QueryEnds q seen.bay seen.readers seen.sink cause
   of_query command only cause e q given = let all : E (Query q) cause = ended command only cause e (Query q) given in all.0
 
+  pub of_check : (command : Command) → Only command → (cause : Cause) → E command cause → (step : ℕ) → Give words (Check step) →
+      CheckEnds step seen.bay seen.readers seen.sink cause
+  of_check command only cause e step given = let all : E (Check step) cause = ended command only cause e (Check step) given in all.0
+
   pub of_serve : (command : Command) → Only command → (cause : Cause) → E command cause → (v : ServeValue) → Give words (Serve v) →
       Serving v.ingest v cause
   of_serve command only cause e v given = ended command only cause e (Serve v) given
@@ -221,6 +238,7 @@ module _ {V B R K D L : Type 0} (words : List (List ℕ)) (seen : RunSeen V B R 
   no_usage Info cause e one = let m = subst (InfoMeans seen.bay seen.sink) (usage_is cause one).1 e.0.means in m.0
   no_usage (Convert c) cause e one = subst (ConvertMeans c (known seen.raws seen.bay)) (usage_is cause one).1 e.0.means
   no_usage (Query q) cause e one = subst (QueryMeans q seen.bay (reader_counts seen.readers) seen.sink) (usage_is cause one).1 e.0.means
+  no_usage (Check step) cause e one = subst (CheckMeans step seen.bay (reader_counts seen.readers) seen.sink) (usage_is cause one).1 e.0.means
   no_usage (Serve v) cause e one = serving_no_usage v.ingest v cause e one
   no_usage (Drill n) cause e one = subst (DrillMeans n seen.sink) (usage_is cause one).1 e.0.means
 
@@ -231,6 +249,7 @@ module _ {V B R K D L : Type 0} (words : List (List ℕ)) (seen : RunSeen V B R 
   writes (Cut c) e = e.0.means.1
   writes Info e = e.0.means
   writes (Convert c) e = ap seen.sink.contents e.2
+  writes (Check step) e = e.0.means
   writes (Serve v) e = serving_written v.ingest v e
   writes (Drill n) e = e.0.means
   writes (Query q) e =
@@ -244,6 +263,7 @@ module _ {V B R K D L : Type 0} (words : List (List ℕ)) (seen : RunSeen V B R 
   writes_prefix (Cut c) e = e.0.means.2
   writes_prefix Info e = e.0.means.1
   writes_prefix (Convert c) e = e.0.means
+  writes_prefix (Check step) e = e.0.means.1
   writes_prefix (Serve v) e = serving_begun v.ingest v e
   writes_prefix (Drill n) e = e.0.means.1
   writes_prefix (Query q) e =
@@ -267,6 +287,7 @@ module _ {V B R K D L : Type 0} (words : List (List ℕ)) (seen : RunSeen V B R 
   silent Info cause e = info_silent seen.bay seen.sink cause e.0.means
   silent (Convert c) cause e = λ none nine. e.2
   silent (Query q) cause e = query_silent q seen.bay seen.readers seen.sink cause e.0.means
+  silent (Check step) cause e = check_silent step seen.bay seen.readers seen.sink cause e.0.means
   silent (Serve v) cause e = serving_silent v.ingest v cause e
   silent (Drill n) cause e = drill_silent n seen.sink cause e.0.means
 
@@ -288,7 +309,7 @@ module _ {V B R K D L : Type 0} (words : List (List ℕ)) (seen : RunSeen V B R 
         raw_fault = λ four. absurd (m causes.RawFault (raw_fault_is cause four));
         raw_used = λ four. absurd (m causes.RawFault (raw_fault_is cause four));
         store_fault = λ five. outage (e.0.store_outage five);
-        store_used = λ five. inr (inr (inr (v, gives)));
+        store_used = λ five. inr (inr (inr (inr (v, gives))));
         sink_fault = λ nine. (m causes.SinkFault (sink_fault_is cause nine)).0;
         door_fault = e.0.door_rose;
         door_used = λ twelve. (v, gives);
@@ -301,9 +322,9 @@ module _ {V B R K D L : Type 0} (words : List (List ℕ)) (seen : RunSeen V B R 
     where
       outage : IsBayOutage seen.bay ⊎ IsReaderOutage seen.bay seen.readers →
           Rose (seen.bay.faults seen.bay.old) (seen.bay.faults seen.bay.new)
-          ⊎ ((GiveQuery words ⊎ GiveServe words) × Rose (reader_count seen.readers.old) (reader_count seen.readers.new))
+          ⊎ (GiveReading words × Rose (reader_count seen.readers.old) (reader_count seen.readers.new))
       outage (inl bay) = inl bay.rose
-      outage (inr reader) = inr (inr (v, gives), reader.rose)
+      outage (inr reader) = inr (inr (inr (v, gives)), reader.rose)
 
       answered : (cause ≡ causes.DoorFault) ⊎ (cause ≡ causes.NoMemory) → (status_of cause ≡ 12) ⊎ (status_of cause ≡ 11)
       answered (inl door) = inl (ap status_of door)
@@ -312,7 +333,7 @@ module _ {V B R K D L : Type 0} (words : List (List ℕ)) (seen : RunSeen V B R 
     raw_fault = e.raw_rose;
     raw_used = λ four. inr (inr ingests);
     store_fault = λ five. outage (e.store_rose five);
-    store_used = λ five. inr (inr (inr (v, gives)));
+    store_used = λ five. inr (inr (inr (inr (v, gives))));
     sink_fault = e.sink_rose;
     door_fault = e.door_rose;
     door_used = λ twelve. (v, gives);
@@ -330,9 +351,9 @@ module _ {V B R K D L : Type 0} (words : List (List ℕ)) (seen : RunSeen V B R 
 
       outage : Rose (seen.bay.faults seen.bay.old) (seen.bay.faults seen.bay.new) ⊎ Rose (reader_count seen.readers.old) (reader_count seen.readers.new) →
           Rose (seen.bay.faults seen.bay.old) (seen.bay.faults seen.bay.new)
-          ⊎ ((GiveQuery words ⊎ GiveServe words) × Rose (reader_count seen.readers.old) (reader_count seen.readers.new))
+          ⊎ (GiveReading words × Rose (reader_count seen.readers.old) (reader_count seen.readers.new))
       outage (inl bay) = inl bay
-      outage (inr reader) = inr (inr (v, gives), reader)
+      outage (inr reader) = inr (inr (inr (v, gives)), reader)
 
       told : (other : Cause) → (cause ≡ other) ⊎ (cause ≡ causes.NoMemory) → (status_of cause ≡ status_of other) ⊎ (GiveIngest words × (status_of cause ≡ 11))
       told other (inl is) = inl (ap status_of is)
@@ -410,9 +431,32 @@ module _ {V B R K D L : Type 0} (words : List (List ℕ)) (seen : RunSeen V B R 
     where
       outage : IsBayOutage seen.bay ⊎ IsReaderOutage seen.bay seen.readers →
           Rose (seen.bay.faults seen.bay.old) (seen.bay.faults seen.bay.new)
-          ⊎ ((GiveQuery words ⊎ GiveServe words) × Rose (reader_count seen.readers.old) (reader_count seen.readers.new))
+          ⊎ (GiveReading words × Rose (reader_count seen.readers.old) (reader_count seen.readers.new))
       outage (inl bay) = inl bay.rose
       outage (inr reader) = inr (inl (q, gives), reader.rose)
+  counts_faults (Check step) gives cause e =
+      let m : (other : Cause) → cause ≡ other → CheckMeans step seen.bay (reader_counts seen.readers) seen.sink other =
+      λ other is. subst (CheckMeans step seen.bay (reader_counts seen.readers) seen.sink) is e.0.means in
+      record {
+        raw_fault = λ four. absurd (m causes.RawFault (raw_fault_is cause four));
+        raw_used = λ four. absurd (m causes.RawFault (raw_fault_is cause four));
+        store_fault = λ five. outage (e.0.store_outage five);
+        store_used = λ five. inr (inr (inr (inl (step, gives))));
+        sink_fault = λ nine. (m causes.SinkFault (sink_fault_is cause nine)).0;
+        door_fault = λ twelve. absurd (m causes.DoorFault (door_fault_is cause twelve));
+        door_used = λ twelve. absurd (m causes.DoorFault (door_fault_is cause twelve));
+        raw_answered = λ more. absurd (not_higher e.1 more);
+        store_answered = λ more. inl (ap status_of (e.0.store_answered more));
+        reader_answered = λ other more. ap status_of (e.0.reader_answered more);
+        sink_answered = λ more. ap status_of (e.0.sink_answered more);
+        door_answered = λ more. absurd (not_opened e.2 more);
+      }
+    where
+      outage : IsBayOutage seen.bay ⊎ IsReaderOutage seen.bay seen.readers →
+          Rose (seen.bay.faults seen.bay.old) (seen.bay.faults seen.bay.new)
+          ⊎ (GiveReading words × Rose (reader_count seen.readers.old) (reader_count seen.readers.new))
+      outage (inl bay) = inl bay.rose
+      outage (inr reader) = inr (inr (inl (step, gives)), reader.rose)
   counts_faults (Serve v) gives cause e = serving_counts v.ingest v refl gives cause e
   counts_faults (Drill n) gives cause e =
       let m : (other : Cause) → cause ≡ other → DrillMeans n seen.sink other = λ other is. subst (DrillMeans n seen.sink) is e.0.means in
@@ -445,6 +489,9 @@ module _ {V B R K D L : Type 0} (words : List (List ℕ)) (seen : RunSeen V B R 
   is_query : (command : Command) → Only command → GiveQuery words → IsQuery command
   is_query command only (q, given) = subst IsQuery (only (Query q) given) tt
 
+  is_check : (command : Command) → Only command → GiveCheck words → IsCheck command
+  is_check command only (step, given) = subst IsCheck (only (Check step) given) tt
+
   is_serve : (command : Command) → Only command → GiveServe words → IsServe command
   is_serve command only (v, given) = subst IsServe (only (Serve v) given) tt
 
@@ -475,10 +522,11 @@ module _ {V B R K D L : Type 0} (words : List (List ℕ)) (seen : RunSeen V B R 
         cut_alone = λ given. absurd (is_cut (Serve v) only given);
         info_alone = λ given. absurd (is_info (Serve v) only given);
         query_alone = λ given. absurd (is_query (Serve v) only given);
+        check_alone = λ given. absurd (is_check (Serve v) only given);
         serve_alone = λ given none. e.1;
         drill_alone = λ given. absurd (is_drill (Serve v) only given);
         drill_reads = λ given. absurd (is_drill (Serve v) only given);
-        query_reads = λ never other. absurd (other (v, gives));
+        reads = λ never. absurd (never (inr (inr (v, gives))));
         serve_opens = λ other. absurd (other (v, gives));
       }
   serving_rest (Some i) v asked gives only cause e =
@@ -504,10 +552,11 @@ module _ {V B R K D L : Type 0} (words : List (List ℕ)) (seen : RunSeen V B R 
         cut_alone = λ given. absurd (is_cut (Serve v) only given);
         info_alone = λ given. absurd (is_info (Serve v) only given);
         query_alone = λ given. absurd (is_query (Serve v) only given);
+        check_alone = λ given. absurd (is_check (Serve v) only given);
         serve_alone = λ given none. absurd (none ingests);
         drill_alone = λ given. absurd (is_drill (Serve v) only given);
         drill_reads = λ given. absurd (is_drill (Serve v) only given);
-        query_reads = λ never other. absurd (other (v, gives));
+        reads = λ never. absurd (never (inr (inr (v, gives))));
         serve_opens = λ other. absurd (other (v, gives));
       }
 
@@ -534,10 +583,11 @@ module _ {V B R K D L : Type 0} (words : List (List ℕ)) (seen : RunSeen V B R 
         cut_alone = λ given. e.1;
         info_alone = λ given. absurd (is_info (Cut c) only given);
         query_alone = λ given. absurd (is_query (Cut c) only given);
+        check_alone = λ given. absurd (is_check (Cut c) only given);
         serve_alone = λ given none. absurd (is_serve (Cut c) only given);
         drill_alone = λ given. absurd (is_drill (Cut c) only given);
         drill_reads = λ given. absurd (is_drill (Cut c) only given);
-        query_reads = λ never other. e.2;
+        reads = λ never. e.2;
         serve_opens = λ other. e.3;
       }
   leaves_rest Info gives only cause e =
@@ -562,10 +612,11 @@ module _ {V B R K D L : Type 0} (words : List (List ℕ)) (seen : RunSeen V B R 
         cut_alone = λ given. absurd (is_cut Info only given);
         info_alone = λ given. e.1;
         query_alone = λ given. absurd (is_query Info only given);
+        check_alone = λ given. absurd (is_check Info only given);
         serve_alone = λ given none. absurd (is_serve Info only given);
         drill_alone = λ given. absurd (is_drill Info only given);
         drill_reads = λ given. absurd (is_drill Info only given);
-        query_reads = λ never other. e.2;
+        reads = λ never. e.2;
         serve_opens = λ other. e.3;
       }
   leaves_rest (Convert c) gives only cause e =
@@ -590,10 +641,11 @@ module _ {V B R K D L : Type 0} (words : List (List ℕ)) (seen : RunSeen V B R 
         cut_alone = λ given. absurd (is_cut (Convert c) only given);
         info_alone = λ given. absurd (is_info (Convert c) only given);
         query_alone = λ given. absurd (is_query (Convert c) only given);
+        check_alone = λ given. absurd (is_check (Convert c) only given);
         serve_alone = λ given none. absurd (is_serve (Convert c) only given);
         drill_alone = λ given. absurd (is_drill (Convert c) only given);
         drill_reads = λ given. absurd (is_drill (Convert c) only given);
-        query_reads = λ never other. e.1;
+        reads = λ never. e.1;
         serve_opens = λ other. e.3;
       }
   leaves_rest (Query q) gives only cause e =
@@ -618,10 +670,40 @@ module _ {V B R K D L : Type 0} (words : List (List ℕ)) (seen : RunSeen V B R 
         cut_alone = λ given. absurd (is_cut (Query q) only given);
         info_alone = λ given. absurd (is_info (Query q) only given);
         query_alone = λ given. e.1;
+        check_alone = λ given. absurd (is_check (Query q) only given);
         serve_alone = λ given none. absurd (is_serve (Query q) only given);
         drill_alone = λ given. absurd (is_drill (Query q) only given);
         drill_reads = λ given. absurd (is_drill (Query q) only given);
-        query_reads = λ never other. absurd (never (q, gives));
+        reads = λ never. absurd (never (inl (q, gives)));
+        serve_opens = λ other. e.2;
+      }
+  leaves_rest (Check step) gives only cause e =
+      record {
+        raws = ap (map seen.raws.contents) e.1;
+        raw_counts = none_fell seen.raws.faults seen.raws.old seen.raws.new e.1;
+        other_raws = λ never none. others_same seen.raws.old seen.raws.new e.1;
+        idle_raws = λ asked given. (of_convert (Check step) only cause e asked given).raws_idle;
+        far_raws = λ ingest. absurd (is_serve (Check step) only (ingest.0, ingest.1.0));
+        other_readers = λ never. e.0.others;
+        idle_readers = λ v given. absurd (is_serve (Check step) only (v, given));
+        reader_list = e.0.reader_list;
+        reader_counts = first_counts_fall seen.readers.faults seen.readers.old seen.readers.new e.0.reader_list e.0.others e.0.reader_count;
+        bay_count = e.0.bay_count;
+        sink_count = e.0.sink_count;
+        idle_doors = λ v given. absurd (is_serve (Check step) only (v, given));
+        door_list = ap length e.2;
+        door_counts = none_fell seen.doors.faults seen.doors.old seen.doors.new e.2;
+        unchanged = λ never none. e.0.unchanged;
+        header = λ never. e.0.unchanged.header;
+        convert_silent = λ given. absurd (is_convert (Check step) only given);
+        cut_alone = λ given. absurd (is_cut (Check step) only given);
+        info_alone = λ given. absurd (is_info (Check step) only given);
+        query_alone = λ given. absurd (is_query (Check step) only given);
+        check_alone = λ given. e.1;
+        serve_alone = λ given none. absurd (is_serve (Check step) only given);
+        drill_alone = λ given. absurd (is_drill (Check step) only given);
+        drill_reads = λ given. absurd (is_drill (Check step) only given);
+        reads = λ never. absurd (never (inr (inl (step, gives))));
         serve_opens = λ other. e.2;
       }
   leaves_rest (Serve v) gives only cause e = serving_rest v.ingest v refl gives only cause e
@@ -647,9 +729,10 @@ module _ {V B R K D L : Type 0} (words : List (List ℕ)) (seen : RunSeen V B R 
         cut_alone = λ given. absurd (is_cut (Drill n) only given);
         info_alone = λ given. absurd (is_info (Drill n) only given);
         query_alone = λ given. absurd (is_query (Drill n) only given);
+        check_alone = λ given. absurd (is_check (Drill n) only given);
         serve_alone = λ given none. absurd (is_serve (Drill n) only given);
         drill_alone = λ given. e.2;
         drill_reads = λ given. e.1;
-        query_reads = λ never other. e.3;
+        reads = λ never. e.3;
         serve_opens = λ other. e.4;
       }

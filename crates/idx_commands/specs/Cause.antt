@@ -3,7 +3,7 @@ use Rattle.std.specs.Prelude.{ℕ, List, [], ◌∷◌, ◌++◌, codes}
 use Rattle.std.specs.Fmt.{decimal}
 use Rattle.idx_commands.specs.declared.causes.Cause.{Cause}
 use Rattle.idx_commands.specs.declared.causes.Cause.TheVariants as causes
-use Rattle.idx_commands.specs.KindText.{kind_text, table_kind_text}
+use Rattle.idx_commands.specs.KindText.{kind_text, table_kind_text, wrong_kind_text}
 
 abbrev pub status_of : Cause → ℕ
 status_of causes.Done = 0
@@ -25,6 +25,7 @@ status_of causes.SinkFault = 9
 status_of (causes.BadTable file row kind) = 10
 status_of causes.NoMemory = 11
 status_of causes.DoorFault = 12
+status_of (causes.NotSame file at why) = 16
 
 -- the line that is printed of a cause
 abbrev pub line_of : Cause → List ℕ
@@ -48,6 +49,8 @@ line_of (causes.BadTable file row kind) =
     codes "table file " ++ decimal file ++ codes " row " ++ decimal row ++ codes " " ++ table_kind_text kind
 line_of causes.NoMemory = codes "no memory"
 line_of causes.DoorFault = codes "door fault"
+line_of (causes.NotSame file at why) =
+    codes "not same file " ++ decimal file ++ codes " at " ++ decimal at ++ codes " " ++ wrong_kind_text why
 
 -- the line as it is written to standard error; 10 is the line feed
 abbrev pub message_of : Cause → List ℕ

@@ -1,9 +1,11 @@
--- The kinds of faults of a header, and of a file's table, by their names, as they are printed.
+-- The kinds of faults of a header, of a file's table, and of a file that is not the writer's, by their names, as they are printed.
 use Rattle.std.specs.Prelude.{ℕ, List, codes}
 use Rattle.idx_header.specs.declared.header_kind.HeaderKind.{HeaderKind}
 use Rattle.idx_header.specs.declared.header_kind.HeaderKind.TheVariants as kinds
 use Rattle.idx_table.specs.declared.table_fault.TableKind.{TableKind}
 use Rattle.idx_table.specs.declared.table_fault.TableKind.TheVariants as tables
+use Rattle.idx_check.specs.declared.verdict.WrongKind.{WrongKind}
+use Rattle.idx_check.specs.declared.verdict.WrongKind.TheVariants as wrongs
 
 abbrev pub kind_text : HeaderKind → List ℕ
 kind_text kinds.NotText = codes "NotText"
@@ -28,3 +30,8 @@ table_kind_text tables.RowMajor = codes "RowMajor"
 table_kind_text tables.WrongSize = codes "WrongSize"
 table_kind_text tables.OutsideFile = codes "OutsideFile"
 table_kind_text tables.NoMemory = codes "NoMemory"
+
+abbrev pub wrong_kind_text : WrongKind → List ℕ
+wrong_kind_text wrongs.Missing = codes "Missing"
+wrong_kind_text wrongs.Extra = codes "Extra"
+wrong_kind_text wrongs.Byte = codes "Byte"

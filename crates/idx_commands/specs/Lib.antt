@@ -9,6 +9,8 @@ pub mod CutRun
 pub mod Due
 pub mod ConvertRun
 pub mod QueryRun
+pub mod SameLine
+pub mod CheckRun
 pub mod DrillRun
 pub mod SiteName
 pub mod Totals

@@ -5,14 +5,16 @@ use Rattle.idx_outside.specs.Contents.{appended, AppendsPrefix}
 use Rattle.idx_outside.specs.Objects.{OthersUntouched, SameContents}
 use Rattle.idx_outside.specs.declared.mem_file.MemFile.{MemFile}
 use Rattle.idx_words.specs.declared.command.Command.{Command}
-use Rattle.idx_words.specs.declared.command.Command.TheVariants.{Cut, Info, Convert, Query, Serve, Drill}
-use Rattle.idx_words.specs.Words.{Give, GiveConvert, GiveCut, GiveDrill, GiveInfo, GiveQuery, GiveServe}
+use Rattle.idx_words.specs.declared.command.Command.TheVariants.{Cut, Info, Convert, Query, Check, Serve, Drill}
+use Rattle.idx_words.specs.Words.{Give, GiveCheck, GiveConvert, GiveCut, GiveDrill, GiveInfo, GiveQuery, GiveServe}
 use Rattle.idx_words.specs.ConvertValue.{ConvertValue}
 use Rattle.idx_words.specs.ServeValue.{ServeValue}
 use Rattle.idx_gather.specs.Gather.{NoneFalls}
 use Rattle.idx_convert.specs.Counts.{SomeHigher, SomeRose}
 use Rattle.idx_workers.specs.Workers.{KeepsBehind}
 use Rattle.idx_extract.specs.Extract.{Asks}
+use Rattle.idx_check.specs.Checked.{Checked}
+use Rattle.idx_check.specs.declared.verdict.Verdict.TheVariants.{Same}
 use Rattle.idx_commands.specs.declared.causes.Cause.{Cause}
 use Rattle.idx_commands.specs.Cause.{status_of}
 use Rattle.idx_commands.specs.CutOutput.{cut_output}
@@ -21,6 +23,8 @@ use Rattle.idx_commands.specs.InfoRun.{InfoEnds, KnownReads}
 use Rattle.idx_commands.specs.CutRun.{CutEnds}
 use Rattle.idx_commands.specs.ConvertRun.{ConvertEnds}
 use Rattle.idx_commands.specs.QueryRun.{AnswersStored, QueryEnds, question_of}
+use Rattle.idx_commands.specs.CheckRun.{CheckEnds}
+use Rattle.idx_commands.specs.SameLine.{same_line}
 use Rattle.idx_commands.specs.ServeRun.{workers_in}
 use Rattle.idx_commands.specs.LiveRun.{EndsServing}
 use Rattle.idx_commands.specs.DrillRun.{DrillEnds, drill_summary}
@@ -34,13 +38,16 @@ AreNamed (first ∷ words) name = first ≡ name
 
 -- What a command writes is what P holds of, where what it reads is known: a raw volume's bytes, or the header text of a bay,
 -- which then reads, and its committed files. Of a command that writes nothing, this holds in its place. A server writes a line with two
--- numbers, which its own record has. A drill reads nothing, and writes what its number says.
+-- numbers, which its own record has, and so does a check of files that are the writer's. A drill reads nothing, and writes what its number
+-- says.
 abbrev pub Writes : Command → Option (List ℕ) → Option (List ℕ) → Option (List MemFile) → (List ℕ → Type 0) → Type 0 → Type 0
 Writes (Cut c) raw header files P Nothing = IfSome raw (λ bytes. P (cut_output c bytes))
 Writes Info raw header files P Nothing = KnownReads header (λ h. P (summary h))
 Writes (Convert c) raw header files P Nothing = Nothing
 Writes (Query q) raw header files P Nothing =
     KnownReads header (λ h. Asks (question_of q) h (λ ask. IfSome files (AnswersStored h ask q.time P)))
+Writes (Check step) raw header files P Nothing =
+    (count : ℕ) × (bytes : ℕ) × Checked step header files (Same count bytes) × P (same_line count bytes)
 Writes (Serve v) raw header files P Nothing = (links : ℕ) × (replies : ℕ) × P (totals links replies)
 Writes (Drill n) raw header files P Nothing = P (drill_summary n)
 
@@ -79,6 +86,8 @@ CommandEnds seen (Convert c) cause =
     × (seen.doors.new ≡ seen.doors.old)
 CommandEnds seen (Query q) cause =
     QueryEnds q seen.bay seen.readers seen.sink cause × (seen.raws.new ≡ seen.raws.old) × (seen.doors.new ≡ seen.doors.old)
+CommandEnds seen (Check step) cause =
+    CheckEnds step seen.bay seen.readers seen.sink cause × (seen.raws.new ≡ seen.raws.old) × (seen.doors.new ≡ seen.doors.old)
 CommandEnds seen (Serve v) cause = EndsServing v.ingest v seen.raws seen.bay seen.readers seen.sink seen.doors cause
 CommandEnds seen (Drill n) cause =
     DrillEnds n seen.sink cause × (seen.raws.new ≡ seen.raws.old) × (seen.bay.new ≡ seen.bay.old)
@@ -88,14 +97,18 @@ CommandEnds seen (Drill n) cause =
 abbrev pub GiveIngest : List (List ℕ) → Type 0
 GiveIngest words = (v : ServeValue) × (Give words (Serve v) × IsSome v.ingest)
 
+-- The words are those of a command that reads files of a dataset.
+abbrev pub GiveReading : List (List ℕ) → Type 0
+GiveReading words = GiveQuery words ⊎ (GiveCheck words ⊎ GiveServe words)
+
 -- A fault of an object comes only where it was counted in this call, by a command that uses the object; and one that was counted
 -- is answered.
 pub record CountsFaults {V B R K D L : Type 0} (words : List (List ℕ)) (seen : RunSeen V B R K D L) (cause : Cause) : Type 0 where
   pub raw_fault : status_of cause ≡ 4 → SomeRose (raws_before seen.raws) (raws_after seen.raws)
   pub raw_used : status_of cause ≡ 4 → GiveCut words ⊎ (GiveConvert words ⊎ GiveIngest words)
   pub store_fault : status_of cause ≡ 5 → Rose (bay_before seen.bay) (bay_after seen.bay)
-      ⊎ ((GiveQuery words ⊎ GiveServe words) × Rose (reader_before seen.readers) (reader_after seen.readers))
-  pub store_used : status_of cause ≡ 5 → GiveInfo words ⊎ (GiveConvert words ⊎ (GiveQuery words ⊎ GiveServe words))
+      ⊎ (GiveReading words × Rose (reader_before seen.readers) (reader_after seen.readers))
+  pub store_used : status_of cause ≡ 5 → GiveInfo words ⊎ (GiveConvert words ⊎ GiveReading words)
   pub sink_fault : status_of cause ≡ 9 → Rose (sink_before seen.sink) (sink_after seen.sink)
   pub door_fault : status_of cause ≡ 12 → SomeRose (doors_before seen.doors) (doors_after seen.doors)
   pub door_used : status_of cause ≡ 12 → GiveServe words
@@ -137,15 +150,16 @@ pub record LeavesRest {V B R K D L : Type 0} (words : List (List ℕ)) (seen : R
   pub unchanged : ¬ GiveConvert words → ¬ GiveIngest words → IsUnchanged seen.bay
   pub header : ¬ GiveConvert words → seen.bay.header seen.bay.new ≡ seen.bay.header seen.bay.old
   pub convert_silent : GiveConvert words → seen.sink.new ≡ seen.sink.old
-  -- `cut` leaves the bay as it was, `info`, `query` and a `serve` that publishes no step the raw volumes, none but `query` and `serve` reads a leaf, and none
-  -- but `serve` uses a door; `drill` leaves the bay and the raw volumes as they were
+  -- `cut` leaves the bay as it was, `info`, `query`, `check` and a `serve` that publishes no step the raw volumes, none but `query`, `check` and
+  -- `serve` reads a leaf, and none but `serve` uses a door; `drill` leaves the bay and the raw volumes as they were
   pub cut_alone : GiveCut words → seen.bay.new ≡ seen.bay.old
   pub info_alone : GiveInfo words → seen.raws.new ≡ seen.raws.old
   pub query_alone : GiveQuery words → seen.raws.new ≡ seen.raws.old
+  pub check_alone : GiveCheck words → seen.raws.new ≡ seen.raws.old
   pub serve_alone : GiveServe words → ¬ GiveIngest words → seen.raws.new ≡ seen.raws.old
   pub drill_alone : GiveDrill words → seen.bay.new ≡ seen.bay.old
   pub drill_reads : GiveDrill words → seen.raws.new ≡ seen.raws.old
-  pub query_reads : ¬ GiveQuery words → ¬ GiveServe words → seen.readers.new ≡ seen.readers.old
+  pub reads : ¬ GiveReading words → seen.readers.new ≡ seen.readers.old
   pub serve_opens : ¬ GiveServe words → seen.doors.new ≡ seen.doors.old
 
 -- Nothing is asked of any object.

@@ -2,7 +2,8 @@ ghost use Rattle.std.specs.Prelude.{◌≡◌, ◌↔◌, IsTrue};
 ghost use Rattle.std.specs.Process.{exit_status};
 ghost use Rattle.idx_commands.specs.Cause.{status_of};
 
-use crate::kind_text::{kind_text, table_kind_text};
+use crate::kind_text::{kind_text, table_kind_text, wrong_kind_text};
+use idx_check::WrongKind;
 use idx_header::HeaderKind;
 use idx_table::TableKind;
 use std::fmt;
@@ -78,6 +79,13 @@ pub enum Cause {
     NoMemory,
     /// No links could be accepted, or no further ones.
     DoorFault,
+    /// A file of the step is not the writer's, the first one: that of this number, which is that of its first block, from this
+    /// place on, counted from the file's beginning.
+    NotSame {
+        file: u64,
+        at: u64,
+        why: WrongKind,
+    },
 }
 
 impl Cause {
@@ -123,6 +131,7 @@ impl Done {
             Cause::BadTable { .. } => 10,
             Cause::NoMemory => 11,
             Cause::DoorFault => 12,
+            Cause::NotSame { .. } => 16,
         };
         Done { status, cause }
     }
@@ -165,6 +174,9 @@ impl fmt::Display for Cause {
             }
             Cause::NoMemory => write!(f, "no memory"),
             Cause::DoorFault => write!(f, "door fault"),
+            Cause::NotSame { file, at, why } => {
+                write!(f, "not same file {file} at {at} {}", wrong_kind_text(*why))
+            }
         }
     }
 }

@@ -43,6 +43,7 @@ pub fn run_cut<V: Source, K: Sink>(
         Ok(Command::Info) => unreachable!(),
         Ok(Command::Convert(_)) => unreachable!(),
         Ok(Command::Query(_)) => unreachable!(),
+        Ok(Command::Check { .. }) => unreachable!(),
         Ok(Command::Serve(_)) => unreachable!(),
         Ok(Command::Drill { .. }) => unreachable!(),
         Err(misread) => Done::of(Cause::Usage { at: misread.at }),

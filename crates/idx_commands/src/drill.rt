@@ -38,6 +38,7 @@ pub(crate) fn run_drill<K: Sink, T: Threads + Sync>(
         Ok(Command::Info) => unreachable!(),
         Ok(Command::Convert(_)) => unreachable!(),
         Ok(Command::Query(_)) => unreachable!(),
+        Ok(Command::Check { .. }) => unreachable!(),
         Ok(Command::Serve(_)) => unreachable!(),
         Err(misread) => Done::of(Cause::Usage { at: misread.at }),
     }

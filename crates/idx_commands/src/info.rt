@@ -32,6 +32,7 @@ pub fn run_info<B: Bay, K: Sink>(alloc: Global, words: &[String], bay: &mut B, o
         Ok(Command::Cut(_)) => unreachable!(),
         Ok(Command::Convert(_)) => unreachable!(),
         Ok(Command::Query(_)) => unreachable!(),
+        Ok(Command::Check { .. }) => unreachable!(),
         Ok(Command::Serve(_)) => unreachable!(),
         Ok(Command::Drill { .. }) => unreachable!(),
         Err(misread) => Done::of(Cause::Usage { at: misread.at }),

@@ -1,6 +1,7 @@
 ghost use Rattle.std.specs.Prelude.{◌≡◌};
-ghost use Rattle.idx_commands.specs.KindText.{kind_text, table_kind_text};
+ghost use Rattle.idx_commands.specs.KindText.{kind_text, table_kind_text, wrong_kind_text};
 
+use idx_check::WrongKind;
 use idx_header::HeaderKind;
 use idx_table::TableKind;
 
@@ -37,5 +38,16 @@ pub fn table_kind_text(kind: TableKind) -> &'static str
         TableKind::WrongSize => "WrongSize",
         TableKind::OutsideFile => "OutsideFile",
         TableKind::NoMemory => "NoMemory",
+    }
+}
+
+/// The name of how a file is not the writer's.
+pub fn wrong_kind_text(kind: WrongKind) -> &'static str
+    ensures { result.now ≡ wrong_kind_text kind }
+{
+    match kind {
+        WrongKind::Missing => "Missing",
+        WrongKind::Extra => "Extra",
+        WrongKind::Byte => "Byte",
     }
 }

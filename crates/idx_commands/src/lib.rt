@@ -2,6 +2,7 @@
 #![tactic(auto)]
 
 mod causes;
+mod check;
 mod convert;
 mod cut;
 mod drill;

@@ -47,6 +47,7 @@ pub fn run_query<B: Bay, R: Reader<B::Leaf>, K: Sink>(
         Ok(Command::Cut(_)) => unreachable!(),
         Ok(Command::Info) => unreachable!(),
         Ok(Command::Convert(_)) => unreachable!(),
+        Ok(Command::Check { .. }) => unreachable!(),
         Ok(Command::Serve(_)) => unreachable!(),
         Ok(Command::Drill { .. }) => unreachable!(),
         Err(misread) => Done::of(Cause::Usage { at: misread.at }),

@@ -8,6 +8,7 @@ ghost use Rattle.idx_words.specs.QueryValue.{QueryValue};
 ghost use Rattle.idx_words.specs.ServeValue.{ServeValue};
 ghost use Rattle.idx_words.specs.Words.{Give, GiveCommand, GiveInfo, IsUsagePlace};
 ghost use Rattle.idx_commands.specs.Cause.{status_of};
+ghost use Rattle.idx_commands.specs.CheckRun.{CheckEnds};
 ghost use Rattle.idx_commands.specs.ConvertRun.{ConvertEnds};
 ghost use Rattle.idx_commands.specs.CutRun.{CutEnds};
 ghost use Rattle.idx_commands.specs.DrillRun.{DrillEnds};
@@ -18,6 +19,7 @@ ghost use Rattle.idx_commands.specs.Run.{CommandEnds, CountsFaults, LeavesRest, 
 ghost use Rattle.idx_commands.specs.Seen.{bay_seen, doors_seen, raws_seen, readers_seen, sink_seen};
 
 use crate::causes::{Cause, Done};
+use crate::check::run_check;
 use crate::convert::run_convert;
 use crate::cut::run_cut;
 use crate::drill::run_drill;
@@ -31,7 +33,7 @@ use std::sync::Wait;
 use std::thread::Threads;
 
 /// Does what the words ask for, and says how it ended: as `run_cut`, `run_info` and `run_query` do, and likewise for
-/// `convert`, `serve` and `drill`. The first refusal ends it. `convert` uses the first of `raws`, one for each rank,
+/// `convert`, `check`, `serve` and `drill`. The first refusal ends it. `convert` uses the first of `raws`, one for each rank,
 /// each in a worker thread, and a `serve` that publishes a timestep the first 256. `serve` uses the first of `readers`
 /// and of `doors`, one for each worker thread, and returns when each of these doors hands out no more connections or
 /// fails. `drill` uses four worker threads, and of the objects `out` alone.
@@ -85,6 +87,10 @@ where
         (bay_seen B.header B.files B.begun B.changes B.failed B.faults bay.old bay.new) result.cause }
     ensures query { (q : QueryValue) → Give (map string_bytes words.now) (Command.Query q) →
         QueryEnds q (bay_seen B.header B.files B.begun B.changes B.failed B.faults bay.old bay.new)
+        (readers_seen R.faults R.reads readers.old.items readers.new.items)
+        (sink_seen K.contents K.faults out.old out.new) result.cause }
+    ensures check { (step : ℕ) → Give (map string_bytes words.now) (Command.Check step) →
+        CheckEnds step (bay_seen B.header B.files B.begun B.changes B.failed B.faults bay.old bay.new)
         (readers_seen R.faults R.reads readers.old.items readers.new.items)
         (sink_seen K.contents K.faults out.old out.new) result.cause }
     ensures serve { (v : ServeValue) → Give (map string_bytes words.now) (Command.Serve v) →
@@ -176,6 +182,7 @@ where
         Command::Info => run_info(alloc, words, bay, out),
         Command::Convert(_) => run_convert(rt, alloc, words, raws, bay),
         Command::Query(_) => run_query(alloc, words, bay, readers, out),
+        Command::Check { time } => Done::of(run_check(alloc, *time, bay, readers, out)),
         Command::Serve(_) => run_serve(rt, alloc, words, raws, bay, readers, out, doors),
         Command::Drill { .. } => run_drill(rt, alloc, words, out),
     }

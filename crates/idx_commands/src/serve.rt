@@ -84,6 +84,7 @@ where
         Ok(Command::Info) => unreachable!(),
         Ok(Command::Convert(_)) => unreachable!(),
         Ok(Command::Query(_)) => unreachable!(),
+        Ok(Command::Check { .. }) => unreachable!(),
         Ok(Command::Drill { .. }) => unreachable!(),
         Err(misread) => Done::of(Cause::Usage { at: misread.at }),
     }

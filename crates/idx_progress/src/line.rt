@@ -4,8 +4,8 @@ use std::io::{self, Write};
 use std::sync::Arc;
 use std::time::{Clock, Instant};
 
-/// A line on a terminal that says how far a conversion is, and is written anew over itself at most ten times a second. All
-/// that write a step have it.
+/// A line on a terminal that says how far a conversion or a check is, and is written anew over itself at most ten times a
+/// second. All that write or read a step have it.
 #[derive(Drop)]
 pub struct Line<R: Clock + Copy, W: Write + Copy> {
     tally: Arc<Tally, Global>,
@@ -16,7 +16,7 @@ pub struct Line<R: Clock + Copy, W: Write + Copy> {
 }
 
 impl<R: Clock + Copy, W: Write + Copy> Line<R, W> {
-    /// A conversion that begins now. `None` where there is no clock, or no memory.
+    /// A conversion or a check that begins now. `None` where there is no clock, or no memory.
     pub fn begin(alloc: Global, rt: R, err: W) -> Option<Line<R, W>> {
         let since = Instant::now(&rt).ok()?;
         Some(Line {
@@ -28,7 +28,7 @@ impl<R: Clock + Copy, W: Write + Copy> Line<R, W> {
         })
     }
 
-    /// The same line, for another one that writes the step.
+    /// The same line, for another one that writes or reads the step.
     pub fn share(&self) -> Option<Line<R, W>> {
         Some(Line {
             tally: Arc::try_clone(&self.tally).ok()?,
@@ -44,18 +44,18 @@ impl<R: Clock + Copy, W: Write + Copy> Line<R, W> {
         self.tally.progress()
     }
 
-    /// So many files will be written, with so many bytes in all.
+    /// So many files there are in all, with so many bytes.
     pub fn expect(&self, files: u64, bytes: u64) {
         self.tally.expect(files, bytes);
     }
 
-    /// So many bytes more are written.
+    /// So many bytes more are written or read.
     pub fn add_bytes(&self, count: u64) {
         self.tally.add_bytes(count);
         self.show();
     }
 
-    /// A file more is sealed.
+    /// A file more is sealed, or was found.
     pub fn add_file(&self) {
         self.tally.add_file();
         self.show();
@@ -76,7 +76,7 @@ impl<R: Clock + Copy, W: Write + Copy> Line<R, W> {
     }
 }
 
-/// Writes over the line that stands how far a conversion is, so many milliseconds after it began.
+/// Writes over the line that stands how far a conversion or a check is, so many milliseconds after it began.
 pub fn write_progress<W: Write>(out: &mut W, progress: Progress, millis: u64) -> io::Result<()> {
     let Progress {
         files,

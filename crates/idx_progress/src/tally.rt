@@ -1,6 +1,6 @@
 use std::sync::atomic::{AtomicU64, Ordering};
 
-/// How much of a step is written, of how much, as all that write it tell it.
+/// How much of a step is written or read, of how much, as all that do it tell it.
 #[derive(Drop)]
 pub struct Tally {
     files: AtomicU64,
@@ -18,14 +18,14 @@ pub struct Progress {
     pub files: u64,
     /// How many bytes there will be in them.
     pub bytes: u64,
-    /// How many files are sealed.
+    /// How many files are sealed, or were found.
     pub sealed: u64,
-    /// How many bytes are written.
+    /// How many bytes are written or read.
     pub written: u64,
 }
 
 impl Tally {
-    /// Nothing is written, and it is not known how much will be.
+    /// Nothing is done, and it is not known how much will be.
     pub fn new() -> Tally {
         Tally {
             files: AtomicU64::new(0),
@@ -36,18 +36,18 @@ impl Tally {
         }
     }
 
-    /// So many files will be written, with so many bytes in all.
+    /// So many files there are in all, with so many bytes.
     pub fn expect(&self, files: u64, bytes: u64) {
         self.bytes.store(bytes, Ordering::SeqCst);
         self.files.store(files, Ordering::SeqCst);
     }
 
-    /// So many bytes more are written.
+    /// So many bytes more are written or read.
     pub fn add_bytes(&self, count: u64) {
         self.written.fetch_add(count, Ordering::SeqCst);
     }
 
-    /// A file more is sealed.
+    /// A file more is sealed, or was found.
     pub fn add_file(&self) {
         self.sealed.fetch_add(1, Ordering::SeqCst);
     }

@@ -10,7 +10,8 @@ use std::io::Write;
 use std::marker::Model;
 use std::time::Clock;
 
-/// A bay that tells a line, where there is one, how much of a step is written. A contract sees the bay.
+/// A bay that tells a line, where there is one, how much of a step is written, and which files of one are found. A contract
+/// sees the bay.
 #[derive(Drop)]
 pub struct WatchedBay<B: Bay + Drop, R: Clock + Copy, W: Write + Copy> {
     bay: B,
@@ -65,6 +66,16 @@ impl<B: Bay + Drop, R: Clock + Copy, W: Write + Copy> WatchedBay<B, R, W> {
         match &self.line {
             Some(line) => line.share(),
             None => None,
+        }
+    }
+
+    /// Tells that a file of a step was found, and before the first one how many files the step has.
+    fn tell_found(&self) {
+        if let Some(line) = &self.line {
+            if line.progress().files == 0 {
+                self.tell_sizes();
+            }
+            line.add_file();
         }
     }
 
@@ -133,7 +144,11 @@ impl<B: Bay + Drop, R: Clock + Copy, W: Write + Copy> Bay for WatchedBay<B, R, W
     }
 
     fn leaf(&mut self, path: &[u8]) -> Result<Option<B::Leaf>, BayFault> {
-        self.bay.leaf(path)
+        let found = self.bay.leaf(path)?;
+        if found.is_some() {
+            self.tell_found();
+        }
+        Ok(found)
     }
 
     fn commit(&mut self, folder: &[u8], leaves: &Vec<(Bytes, B::Leaf)>) -> Result<(), BayFault> {

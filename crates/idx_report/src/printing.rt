@@ -3,14 +3,15 @@ ghost use Rattle.std.specs.Process.{exit_status};
 ghost use Rattle.std.specs.Io.KnownBytes.{Appends, Keeps};
 ghost use Rattle.idx_commands.specs.Cause.{message_of};
 
+use crate::hints::Hints;
 use crate::paths::{dataset_path, raw_path};
 use crate::plain_words::{plain_table_words, plain_words};
 use crate::remedy::print_remedy;
 use crate::shown::Shown;
+use crate::wrong_file::print_wrong_file;
 use idx_commands::{Cause, Done, MAX_ANSWER, MAX_FILE, MAX_VOLUME};
 use idx_header::{Header, HeaderKind};
 use idx_outside::Bytes;
-use idx_real::Fault;
 use idx_table::TableKind;
 use idx_words::{Command, read_words};
 use std::alloc::Global;
@@ -20,21 +21,20 @@ use std::{fmt, io};
 
 /// Prints how a run ended, nothing where all was written, and gives the exit status. Behind the line of the cause stand
 /// lines that help: of a fault its place and the system's reason, of wrong words what is expected, of a refused header
-/// its place, what is wrong and what would do. `header` is the text of the header that stands, empty where it is not
-/// known. A message that cannot be printed changes nothing of how the run ended.
+/// its place, what is wrong and what would do, of a file that is not the writer's what stands there and what is wanted. A
+/// message that cannot be printed changes nothing of how the run ended.
 pub fn report<W: Write>(
     alloc: Global,
     err: &mut W,
     done: Done,
     words: &[String],
-    header: &[u8],
-    fault: Option<Fault<'_>>,
+    hints: Hints<'_>,
 ) -> ExitCode
     ensures status { exit_status result ≡ done.status }
     ensures silent { done.cause ≡ Cause.Done → Keeps (W.contents err.old) (W.contents err.new) }
 {
     if !done.cause.is_done() {
-        let _ = print_all(alloc, err, done.cause, words, header, fault);
+        let _ = print_all(alloc, err, done.cause, words, hints);
     }
     done.exit_code()
 }
@@ -44,12 +44,11 @@ fn print_all<W: Write>(
     err: &mut W,
     cause: Cause,
     words: &[String],
-    header: &[u8],
-    fault: Option<Fault<'_>>,
+    hints: Hints<'_>,
 ) -> io::Result<()> {
     print_cause(err, cause)?;
-    print_help(alloc, err, cause, words, header)?;
-    match fault {
+    print_help(alloc, err, cause, words, &hints)?;
+    match hints.fault {
         Some(fault) => writeln!(err, "  {}: {}", Shown(fault.path), fault.reason),
         None => Ok(()),
     }
@@ -75,13 +74,17 @@ fn print_help<W: Write>(
     err: &mut W,
     cause: Cause,
     words: &[String],
-    header: &[u8],
+    hints: &Hints<'_>,
 ) -> io::Result<()> {
     match cause {
         Cause::Usage { .. } => print_usage(err, words),
-        Cause::Header { line, kind } => print_header(alloc, err, words, header, line, kind),
+        Cause::Header { line, kind } => print_header(alloc, err, words, hints.header, line, kind),
+        Cause::NotPublished { .. } => print_not_published(err, words),
         Cause::TooLarge { .. } => print_too_large(err, words),
         Cause::BadTable { file, kind, .. } => print_bad_table(err, words, file, kind),
+        Cause::NotSame { file, at, why } => {
+            print_wrong_file(err, dataset_path(words), file, at, why, hints.wrong)
+        }
         _ => match help_of(cause) {
             Some(Help::Alone(text)) => writeln!(err, "  {text}"),
             Some(Help::OfRaw(text)) => writeln!(err, "  {}: {text}", Shown(raw_path(words))),
@@ -104,9 +107,6 @@ fn help_of(cause: Cause) -> Option<Help> {
             "the header there has other values than these words",
         )),
         Cause::NoStep { .. } => Some(Help::Alone("the step is none of those that TIME gives")),
-        Cause::NotPublished { .. } => Some(Help::OfDataset(
-            "the step has not been written, or is none of its steps",
-        )),
         Cause::OtherAxes => Some(Help::OfDataset(
             "its box has another number of axes than REGION; idxtool info says its box",
         )),
@@ -121,6 +121,20 @@ fn help_of(cause: Cause) -> Option<Help> {
         )),
         _ => None,
     }
+}
+
+/// Prints why a step does not stand.
+fn print_not_published<W: Write>(err: &mut W, words: &[String]) -> io::Result<()> {
+    let path = Shown(dataset_path(words));
+    let more = if is_command(words, "check") {
+        ", or it has no (time)"
+    } else {
+        ""
+    };
+    writeln!(
+        err,
+        "  {path}: the step has not been written, or is none of its steps{more}"
+    )
 }
 
 /// Prints how many bytes are too many.

@@ -71,6 +71,15 @@ idxtool: samples, headers and files of ViSUS IDX data, with proved answers
                a finer level for what a coarse version lacks
       BLOCKS   1 to 65536; no block is asked for twice, so it changes nothing
 
+  idxtool check DATASET TIME
+      says whether the files of a step, in its newest revision, are exactly those
+      that convert writes for some volume: it writes `same files N bytes B` to
+      standard output. Else it ends with status 16 and says which file is the
+      first that is not, and from which byte on
+
+      DATASET  the header file, as run.idx
+      TIME     the number of the step
+
   idxtool serve DATASET ADDRESS [--cache BLOCKS] [--workers WORKERS]
                 [--links LINKS] [--ingest STEP --raw RAW]
       answers, over HTTP at ADDRESS, GET /mod_visus?action=boxquery&dataset=NAME
@@ -110,7 +119,8 @@ has another size, 4 RAW could not be read, 5 DATASET could not be read or
 written, 6 all 256 revisions of the step stand or another header stands, 7 the
 step does not stand, 8 no such field, region, levels or step, or too many bytes,
 9 standard output did not take all, 10 a file of DATASET is damaged, 11 not
-enough memory, 12 ADDRESS cannot be listened at, or no further link comes.
+enough memory, 12 ADDRESS cannot be listened at, or no further link comes, 16 a
+file of the step is not as convert writes it.
 ";
 
 /// The text that a list of words asks for, if it is `--help` or `--version` alone.

@@ -12,3 +12,9 @@ pub fn write_work<W: Write>(out: &mut W, raw: &str, dataset: &str, ranks: u32) -
     let (raw, dataset) = (Shown(raw), Shown(dataset));
     write!(out, "  converting {raw} into {dataset}, {ranks} ranks")
 }
+
+/// Writes which step of a dataset is checked.
+pub fn write_check<W: Write>(out: &mut W, dataset: &str, step: u64) -> io::Result<()> {
+    let dataset = Shown(dataset);
+    write!(out, "  checking step {step} of {dataset}")
+}

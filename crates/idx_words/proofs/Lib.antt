@@ -9,6 +9,7 @@ pub mod InfoLemmas
 pub mod RightLemmas
 pub mod ConvertLemmas
 pub mod QueryLemmas
+pub mod CheckLemmas
 pub mod ServeLemmas
 pub mod DrillLemmas
 pub mod BuiltLemmas

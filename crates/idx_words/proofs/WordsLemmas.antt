@@ -2,8 +2,9 @@
 use Rattle.std.proofs.Common.{◌≡◌, ℕ, Result, Ok, Err, IfErr, List, ◌∷◌, bytes_eq, codes, refl, sym, ap, ◌∙◌, subst}
 use Rattle.std.proofs.lemmas.Bool.{false≢true}
 use Rattle.idx_words.specs.declared.command.Command.{Command}
-use Rattle.idx_words.specs.declared.command.Command.TheVariants.{Cut, Info, Convert, Query, Serve, Drill}
+use Rattle.idx_words.specs.declared.command.Command.TheVariants.{Cut, Info, Convert, Query, Check, Serve, Drill}
 use Rattle.idx_words.specs.declared.misread.Misread.{Misread}
+use Rattle.idx_words.specs.CheckGrammar.{AreSomeCheckWords}
 use Rattle.idx_words.specs.DrillGrammar.{AreSomeDrillWords}
 use Rattle.idx_words.specs.Place.{IsPlaceBehind}
 use Rattle.idx_words.specs.ServeGrammar.{AreSomeServeWords}
@@ -13,6 +14,7 @@ use Rattle.idx_words.proofs.WitnessLemmas.{on_raw}
 use Rattle.idx_words.proofs.InfoLemmas.{info_goes_on}
 use Rattle.idx_words.proofs.ConvertLemmas.{convert_goes_on}
 use Rattle.idx_words.proofs.QueryLemmas.{query_goes_on}
+use Rattle.idx_words.proofs.CheckLemmas.{check_goes_on}
 use Rattle.idx_words.proofs.ServeLemmas.{serve_goes_on}
 use Rattle.idx_words.proofs.DrillLemmas.{drill_goes_on}
 
@@ -20,8 +22,17 @@ use Rattle.idx_words.proofs.DrillLemmas.{drill_goes_on}
 query_not_serve : codes "query" ≡ codes "serve" → ⊥
 query_not_serve same = false≢true (ap (λ name. bytes_eq name (codes "serve")) same)
 
+query_not_check : codes "query" ≡ codes "check" → ⊥
+query_not_check same = false≢true (ap (λ name. bytes_eq name (codes "check")) same)
+
 query_not_drill : codes "query" ≡ codes "drill" → ⊥
 query_not_drill same = false≢true (ap (λ name. bytes_eq name (codes "drill")) same)
+
+check_not_serve : codes "check" ≡ codes "serve" → ⊥
+check_not_serve same = false≢true (ap (λ name. bytes_eq name (codes "serve")) same)
+
+check_not_drill : codes "check" ≡ codes "drill" → ⊥
+check_not_drill same = false≢true (ap (λ name. bytes_eq name (codes "drill")) same)
 
 serve_not_drill : codes "serve" ≡ codes "drill" → ⊥
 serve_not_drill same = false≢true (ap (λ name. bytes_eq name (codes "drill")) same)
@@ -32,6 +43,7 @@ only_cut words (Cut c, gives) = (c, gives.1)
 only_cut words (Info, gives) = absurd (let same = gives.0 in cc)
 only_cut words (Convert c, gives) = absurd (let same = gives.0 in cc)
 only_cut words (Query c, gives) = absurd (let same = gives.0 in cc)
+only_cut words (Check time, gives) = absurd (let same = gives.0 in cc)
 only_cut words (Serve c, gives) = absurd (let same = gives.0 in cc)
 only_cut words (Drill number, gives) = absurd (let same = gives.0 in cc)
 
@@ -40,6 +52,7 @@ only_info words (Cut c, gives) = absurd (let same = gives.0 in cc)
 only_info words (Info, gives) = gives.1
 only_info words (Convert c, gives) = absurd (let same = gives.0 in cc)
 only_info words (Query c, gives) = absurd (let same = gives.0 in cc)
+only_info words (Check time, gives) = absurd (let same = gives.0 in cc)
 only_info words (Serve c, gives) = absurd (let same = gives.0 in cc)
 only_info words (Drill number, gives) = absurd (let same = gives.0 in cc)
 
@@ -48,6 +61,7 @@ only_convert words (Cut c, gives) = absurd (let same = gives.0 in cc)
 only_convert words (Info, gives) = absurd (let same = gives.0 in cc)
 only_convert words (Convert c, gives) = (c, gives.1)
 only_convert words (Query c, gives) = absurd (let same = gives.0 in cc)
+only_convert words (Check time, gives) = absurd (let same = gives.0 in cc)
 only_convert words (Serve c, gives) = absurd (let same = gives.0 in cc)
 only_convert words (Drill number, gives) = absurd (let same = gives.0 in cc)
 
@@ -56,14 +70,25 @@ only_query words (Cut c, gives) = absurd (let same = gives.0 in cc)
 only_query words (Info, gives) = absurd (let same = gives.0 in cc)
 only_query words (Convert c, gives) = absurd (let same = gives.0 in cc)
 only_query words (Query c, gives) = (c, gives.1)
+only_query words (Check time, gives) = absurd (query_not_check gives.0)
 only_query words (Serve c, gives) = absurd (query_not_serve gives.0)
 only_query words (Drill number, gives) = absurd (query_not_drill gives.0)
+
+only_check : (words : List (List ℕ)) → GiveCommand (codes "check" ∷ words) → AreSomeCheckWords words
+only_check words (Cut c, gives) = absurd (let same = gives.0 in cc)
+only_check words (Info, gives) = absurd (let same = gives.0 in cc)
+only_check words (Convert c, gives) = absurd (let same = gives.0 in cc)
+only_check words (Query c, gives) = absurd (query_not_check (sym gives.0))
+only_check words (Check time, gives) = (time, gives.1)
+only_check words (Serve c, gives) = absurd (check_not_serve gives.0)
+only_check words (Drill number, gives) = absurd (check_not_drill gives.0)
 
 only_serve : (words : List (List ℕ)) → GiveCommand (codes "serve" ∷ words) → AreSomeServeWords words
 only_serve words (Cut c, gives) = absurd (let same = gives.0 in cc)
 only_serve words (Info, gives) = absurd (let same = gives.0 in cc)
 only_serve words (Convert c, gives) = absurd (let same = gives.0 in cc)
 only_serve words (Query c, gives) = absurd (query_not_serve (sym gives.0))
+only_serve words (Check time, gives) = absurd (check_not_serve (sym gives.0))
 only_serve words (Serve c, gives) = (c, gives.1)
 only_serve words (Drill number, gives) = absurd (serve_not_drill gives.0)
 
@@ -72,6 +97,7 @@ only_drill words (Cut c, gives) = absurd (let same = gives.0 in cc)
 only_drill words (Info, gives) = absurd (let same = gives.0 in cc)
 only_drill words (Convert c, gives) = absurd (let same = gives.0 in cc)
 only_drill words (Query c, gives) = absurd (query_not_drill (sym gives.0))
+only_drill words (Check time, gives) = absurd (check_not_drill (sym gives.0))
 only_drill words (Serve c, gives) = absurd (serve_not_drill (sym gives.0))
 only_drill words (Drill number, gives) = (number, gives.1)
 
@@ -95,6 +121,11 @@ usage_query : (words : List (List ℕ)) (at : ℕ) → IsPlaceBehind AreSomeQuer
 usage_query words at (k, next, place) =
     subst (IsUsagePlace (codes "query" ∷ words)) (sym next)
     (IsPlace-behind AreSomeQueryWords GiveCommand (codes "query") words k (λ list some. (Query some.0, (refl, some.1))) (only_query) (query_goes_on words) place)
+
+usage_check : (words : List (List ℕ)) (at : ℕ) → IsPlaceBehind AreSomeCheckWords words at → IsUsagePlace (codes "check" ∷ words) at
+usage_check words at (k, next, place) =
+    subst (IsUsagePlace (codes "check" ∷ words)) (sym next)
+    (IsPlace-behind AreSomeCheckWords GiveCommand (codes "check") words k (λ list some. (Check some.0, (refl, some.1))) (only_check) (check_goes_on words) place)
 
 usage_serve : (words : List (List ℕ)) (at : ℕ) → IsPlaceBehind AreSomeServeWords words at → IsUsagePlace (codes "serve" ∷ words) at
 usage_serve words at (k, next, place) =
@@ -124,6 +155,9 @@ module _ (answer : Result Command Misread) (all : List (List ℕ)) (name : List 
 
   pub query_passed_on : name ≡ codes "query" → IfErr answer (λ misread. IsPlaceBehind AreSomeQueryWords words misread.at) → IfErr answer (λ misread. IsUsagePlace all misread.at)
   query_passed_on named = passed_on (codes "query") AreSomeQueryWords (usage_query words) named answer
+
+  pub check_passed_on : name ≡ codes "check" → IfErr answer (λ misread. IsPlaceBehind AreSomeCheckWords words misread.at) → IfErr answer (λ misread. IsUsagePlace all misread.at)
+  check_passed_on named = passed_on (codes "check") AreSomeCheckWords (usage_check words) named answer
 
   pub serve_passed_on : name ≡ codes "serve" → IfErr answer (λ misread. IsPlaceBehind AreSomeServeWords words misread.at) → IfErr answer (λ misread. IsUsagePlace all misread.at)
   serve_passed_on named = passed_on (codes "serve") AreSomeServeWords (usage_serve words) named answer

@@ -11,6 +11,7 @@ pub mod ConvertWord
 pub mod QueryValue
 pub mod QueryGrammar
 pub mod QueryWord
+pub mod CheckGrammar
 pub mod ServeValue
 pub mod ServeGrammar
 pub mod DrillGrammar

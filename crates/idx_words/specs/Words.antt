@@ -1,7 +1,7 @@
 -- What a list of words stands for: a command with its values.
 use Rattle.std.specs.Prelude.{◌≡◌, ℕ, ◌≤◌, List, [], ◌∷◌, IsTrue, codes}
 use Rattle.idx_words.specs.declared.command.Command.{Command}
-use Rattle.idx_words.specs.declared.command.Command.TheVariants.{Cut, Info, Convert, Query, Serve, Drill}
+use Rattle.idx_words.specs.declared.command.Command.TheVariants.{Cut, Info, Convert, Query, Check, Serve, Drill}
 use Rattle.idx_words.specs.PathWord.{is_path}
 use Rattle.idx_words.specs.declared.cut_words.CutWords.{CutWords}
 use Rattle.idx_words.specs.CutGrammar.{AreCutWords, IsSound}
@@ -9,6 +9,7 @@ use Rattle.idx_words.specs.ConvertValue.{ConvertValue}
 use Rattle.idx_words.specs.ConvertGrammar.{AreConvertWords}
 use Rattle.idx_words.specs.QueryValue.{QueryValue}
 use Rattle.idx_words.specs.QueryGrammar.{AreQueryWords}
+use Rattle.idx_words.specs.CheckGrammar.{AreCheckWords}
 use Rattle.idx_words.specs.ServeValue.{ServeValue}
 use Rattle.idx_words.specs.ServeGrammar.{AreServeWords, IsSoundServe}
 use Rattle.idx_words.specs.DrillGrammar.{AreDrillWords}
@@ -26,6 +27,7 @@ Give (name ∷ words) (Cut c) = (name ≡ codes "cut") × AreCutWords words c
 Give (name ∷ words) Info = (name ≡ codes "info") × AreInfoWords words
 Give (name ∷ words) (Convert c) = (name ≡ codes "convert") × AreConvertWords words c
 Give (name ∷ words) (Query c) = (name ≡ codes "query") × AreQueryWords words c
+Give (name ∷ words) (Check time) = (name ≡ codes "check") × AreCheckWords words time
 Give (name ∷ words) (Serve c) = (name ≡ codes "serve") × AreServeWords words c
 Give (name ∷ words) (Drill number) = (name ≡ codes "drill") × AreDrillWords words number
 
@@ -49,6 +51,10 @@ GiveConvert words = (c : ConvertValue) × Give words (Convert c)
 abbrev pub GiveQuery : List (List ℕ) → Type 0
 GiveQuery words = (c : QueryValue) × Give words (Query c)
 
+-- the words are those of `check`
+abbrev pub GiveCheck : List (List ℕ) → Type 0
+GiveCheck words = (time : ℕ) × Give words (Check time)
+
 -- the words are those of `serve`
 abbrev pub GiveServe : List (List ℕ) → Type 0
 GiveServe words = (c : ServeValue) × Give words (Serve c)
@@ -63,6 +69,7 @@ IsSoundCommand (Cut c) = IsSound c
 IsSoundCommand Info = Unit {0}
 IsSoundCommand (Convert c) = (1 ≤ c.ranks) × (c.ranks ≤ 256)
 IsSoundCommand (Query c) = (1 ≤ c.cache) × (c.cache ≤ 65536)
+IsSoundCommand (Check time) = Unit {0}
 IsSoundCommand (Serve c) = IsSoundServe c
 IsSoundCommand (Drill number) = (1 ≤ number) × (number ≤ 8)
 
@@ -72,6 +79,7 @@ IsCut (Cut c) = Unit {0}
 IsCut Info = ⊥
 IsCut (Convert c) = ⊥
 IsCut (Query c) = ⊥
+IsCut (Check time) = ⊥
 IsCut (Serve c) = ⊥
 IsCut (Drill number) = ⊥
 
@@ -80,6 +88,7 @@ IsInfo (Cut c) = ⊥
 IsInfo Info = Unit {0}
 IsInfo (Convert c) = ⊥
 IsInfo (Query c) = ⊥
+IsInfo (Check time) = ⊥
 IsInfo (Serve c) = ⊥
 IsInfo (Drill number) = ⊥
 
@@ -88,6 +97,7 @@ IsConvert (Cut c) = ⊥
 IsConvert Info = ⊥
 IsConvert (Convert c) = Unit {0}
 IsConvert (Query c) = ⊥
+IsConvert (Check time) = ⊥
 IsConvert (Serve c) = ⊥
 IsConvert (Drill number) = ⊥
 
@@ -96,14 +106,25 @@ IsQuery (Cut c) = ⊥
 IsQuery Info = ⊥
 IsQuery (Convert c) = ⊥
 IsQuery (Query c) = Unit {0}
+IsQuery (Check time) = ⊥
 IsQuery (Serve c) = ⊥
 IsQuery (Drill number) = ⊥
+
+abbrev pub IsCheck : Command → Type 0
+IsCheck (Cut c) = ⊥
+IsCheck Info = ⊥
+IsCheck (Convert c) = ⊥
+IsCheck (Query c) = ⊥
+IsCheck (Check time) = Unit {0}
+IsCheck (Serve c) = ⊥
+IsCheck (Drill number) = ⊥
 
 abbrev pub IsServe : Command → Type 0
 IsServe (Cut c) = ⊥
 IsServe Info = ⊥
 IsServe (Convert c) = ⊥
 IsServe (Query c) = ⊥
+IsServe (Check time) = ⊥
 IsServe (Serve c) = Unit {0}
 IsServe (Drill number) = ⊥
 
@@ -112,6 +133,7 @@ IsDrill (Cut c) = ⊥
 IsDrill Info = ⊥
 IsDrill (Convert c) = ⊥
 IsDrill (Query c) = ⊥
+IsDrill (Check time) = ⊥
 IsDrill (Serve c) = ⊥
 IsDrill (Drill number) = Unit {0}
 

@@ -14,6 +14,11 @@ pub enum Command<'w> {
     Convert(ConvertWords<'w>),
     /// `query DATASET TIME FIELD REGION LO HI [--cache BLOCKS]`
     Query(QueryWords<'w>),
+    /// `check DATASET TIME`
+    Check {
+        /// TIME, the number of the step.
+        time: u64,
+    },
     /// `serve DATASET ADDRESS [--cache BLOCKS] [--workers WORKERS] [--links LINKS] [--ingest STEP --raw RAW]`
     Serve(ServeWords<'w>),
     /// `drill NUMBER`

@@ -48,6 +48,7 @@ pub fn convert_command(words: &[String]) -> Result<Command<'_>, Misread>
     ensures no_info { result ≢ Ok Command.Info }
     ensures no_cut { (c : CutWords) → result ≢ Ok (Command.Cut c) }
     ensures no_query { (c : QueryValue) → result ≢ Ok (Command.Query c) }
+    ensures no_check { (time : ℕ) → result ≢ Ok (Command.Check time) }
     ensures no_serve { (c : ServeValue) → result ≢ Ok (Command.Serve c) }
     ensures no_drill { (number : ℕ) → result ≢ Ok (Command.Drill number) }
     ensures sound { IfOk result IsSoundCommand }

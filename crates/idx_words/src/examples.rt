@@ -3,6 +3,7 @@ ghost use Rattle.std.specs.Prelude.{◌≡◌, [], ◌∷◌, None, Some, true, 
 ghost use Rattle.idx_header.specs.Worked.{small_text, with_line_at};
 ghost use Rattle.idx_words.specs.Built.{built_with};
 ghost use Rattle.idx_words.specs.declared.setting.Setting.{Setting};
+ghost use Rattle.idx_words.specs.CheckGrammar.{AreCheckWords, AreSomeCheckWords};
 ghost use Rattle.idx_words.specs.Options.{are_options, cache_of, number_given, query_options, serve_options};
 ghost use Rattle.idx_words.specs.ServeGrammar.{ingest_of};
 ghost use Rattle.idx_words.specs.Worked.{small_words};
@@ -40,4 +41,13 @@ pub fn worked_ingest()
     ensures alone { ingest_of (codes "--raw" ∷ codes "r" ∷ []) ≡ None }
     ensures no_path { are_options serve_options
         (codes "--ingest" ∷ codes "7" ∷ codes "--raw" ∷ codes "--links" ∷ []) ≡ false }
+{}
+
+/// Behind `check` stand a path and the number of a step, and no more.
+#[tactic(auto, unfolding(idx_text::specs::Number::number_of, crate::specs::PathWord::is_path))]
+pub fn worked_check()
+    ensures right { AreCheckWords (codes "/tmp/v.idx" ∷ codes "007" ∷ []) 7 }
+    ensures missing { ¬ AreSomeCheckWords (codes "/tmp/v.idx" ∷ []) }
+    ensures no_number { ¬ AreSomeCheckWords (codes "/tmp/v.idx" ∷ codes "7.0" ∷ []) }
+    ensures more { ¬ AreSomeCheckWords (codes "/tmp/v.idx" ∷ codes "7" ∷ codes "7" ∷ []) }
 {}

@@ -28,6 +28,7 @@ pub fn info_command(words: &[String]) -> Result<Command<'_>, Misread>
     ensures no_cut { (c : CutWords) → result ≢ Ok (Command.Cut c) }
     ensures no_convert { (c : ConvertValue) → result ≢ Ok (Command.Convert c) }
     ensures no_query { (c : QueryValue) → result ≢ Ok (Command.Query c) }
+    ensures no_check { (time : ℕ) → result ≢ Ok (Command.Check time) }
     ensures no_serve { (c : ServeValue) → result ≢ Ok (Command.Serve c) }
     ensures no_drill { (number : ℕ) → result ≢ Ok (Command.Drill number) }
     ensures place { IfErr result (λ misread. IsPlaceBehind AreInfoWords (map string_bytes words.now) misread.at) }

@@ -2,6 +2,7 @@
 #![tactic(auto)]
 
 mod built;
+mod check;
 mod command;
 mod convert;
 mod convert_word;
@@ -33,7 +34,7 @@ mod words;
 pub use command::Command;
 pub use convert_words::ConvertWords;
 pub use cut_words::CutWords;
-pub use examples::{worked_ingest, worked_options, worked_words};
+pub use examples::{worked_check, worked_ingest, worked_options, worked_words};
 pub use given::{given_path, third_word};
 pub use ingest_words::IngestWords;
 pub use laws::{built_texts_are_one, places_are_one};

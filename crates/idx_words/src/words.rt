@@ -2,6 +2,7 @@ ghost use Rattle.std.specs.Prelude.{◌≡◌, ◌↔◌, map, string_bytes, IfE
 ghost use Rattle.idx_words.specs.declared.command.Command.{Command};
 ghost use Rattle.idx_words.specs.Words.{Give, IsSoundCommand, IsUsagePlace};
 
+use crate::check::check_command;
 use crate::command::Command;
 use crate::convert::convert_command;
 use crate::cut::cut_command;
@@ -13,7 +14,7 @@ use crate::serve::serve_command;
 
 const NO_COMMAND: Misread = Misread {
     at: 0,
-    expected: "a command: cut, info, convert, query, serve or drill",
+    expected: "a command: cut, info, convert, query, check, serve or drill",
 };
 
 /// The command that the words give. Where they are not in the grammar, the first word that is wrong or missing: no list
@@ -37,6 +38,9 @@ pub fn read_words(words: &[String]) -> Result<Command<'_>, Misread>
     }
     if is_query(name.as_bytes()) {
         return query_command(words);
+    }
+    if is_check(name.as_bytes()) {
+        return check_command(words);
     }
     if is_serve(name.as_bytes()) {
         return serve_command(words);
@@ -69,6 +73,12 @@ fn is_query(word: &[u8]) -> bool
     ensures { IsTrue result ↔ (word.now ≡ codes "query") }
 {
     word == b"query".as_slice()
+}
+
+fn is_check(word: &[u8]) -> bool
+    ensures { IsTrue result ↔ (word.now ≡ codes "check") }
+{
+    word == b"check".as_slice()
 }
 
 fn is_serve(word: &[u8]) -> bool

@@ -12,10 +12,11 @@ mod work_line;
 use idx_commands::{Cause, Done, run};
 use idx_progress::WatchedBay;
 use idx_real::{Sockets, StdSink};
-use idx_report::{clear_work, report, text_asked_for, write_text};
+use idx_report::{Hints, clear_work, report, text_asked_for, write_text};
 use kept_room::kept_room;
 use outside::{
     StdDoor, dataset_files, file_readers, last_fault, raw_files, refused_header, tcp_doors,
+    wrong_file,
 };
 use std::alloc::AllocError;
 use std::io::ErrorKind;
@@ -48,14 +49,8 @@ fn given_words(rt: &HostRuntime) -> io::Result<Vec<String>> {
 fn give_text(rt: &HostRuntime, text: &str) -> ExitCode {
     let mut out = StdSink::new(rt.stdout());
     let done = write_text(&mut out, text);
-    report(
-        rt.alloc(),
-        &mut rt.stderr(),
-        done,
-        &[],
-        b"",
-        out.last_fault(),
-    )
+    let hints = Hints::of_fault(out.last_fault());
+    report(rt.alloc(), &mut rt.stderr(), done, &[], hints)
 }
 
 /// Does what the words ask for, over files, standard output and these doors, with threads of this runtime.
@@ -84,9 +79,10 @@ fn run_over_files<T: Threads + Wait + Sync, R: Sockets + Send>(
 {
     let mut raws = raw_files(rt, words)?;
     let files = dataset_files(rt, words)?;
-    let mut readers = file_readers(rt, words)?;
+    let line = show_work(rt, words);
+    let mut readers = file_readers(rt, words, &line)?;
     let mut out = StdSink::new(rt.stdout());
-    let mut bay = WatchedBay::new(rt.alloc(), files, show_work(rt, words));
+    let mut bay = WatchedBay::new(rt.alloc(), files, line);
     let _room = kept_room(rt, words);
     let done = run(
         threads,
@@ -104,17 +100,17 @@ fn run_over_files<T: Threads + Wait + Sync, R: Sockets + Send>(
     }
     let fault = last_fault(done.cause, &raws, bay.bay(), &readers, &out, &doors);
     let header = refused_header(rt, words, done.cause);
-    Ok(report(rt.alloc(), &mut err, done, words, header.as_slice(), fault))
+    let wrong = wrong_file(rt, words, done.cause);
+    let hints = Hints {
+        header: header.as_slice(),
+        wrong: wrong.as_ref(),
+        fault,
+    };
+    Ok(report(rt.alloc(), &mut err, done, words, hints))
 }
 
 /// Ends before anything was done.
 fn give_up(rt: &HostRuntime, cause: Cause) -> ExitCode {
-    report(
-        rt.alloc(),
-        &mut rt.stderr(),
-        Done::of(cause),
-        &[],
-        b"",
-        None,
-    )
+    let hints = Hints::of_fault(None);
+    report(rt.alloc(), &mut rt.stderr(), Done::of(cause), &[], hints)
 }

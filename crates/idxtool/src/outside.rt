@@ -6,13 +6,16 @@ ghost use Rattle.idx_words.specs.ServeValue.{ServeValue};
 ghost use Rattle.idx_words.specs.Words.{Give};
 
 use crate::announced_door::AnnouncedDoor;
+use crate::work_line::StdLine;
 use idx_commands::Cause;
 use idx_outside::{Bay, Bytes};
+use idx_progress::WatchedReader;
 use idx_real::{
     Fault, FileReader, FileSource, FolderBay, Patience, SharedListener, Sockets, StdSink, TcpDoor,
 };
 use idx_report::{
-    Notice, dataset_path, door_address, links_of, ranks_of, raw_path, share_of, workers_of,
+    Notice, WrongFile, dataset_path, door_address, links_of, look_again, ranks_of, raw_path,
+    share_of, workers_of,
 };
 use std::alloc::AllocError;
 use std::io::{Stderr, Stdout};
@@ -20,6 +23,9 @@ use std::sync::Arc;
 
 /// A door at the address that the words name, which says on standard error where it listens.
 pub type StdDoor<R> = AnnouncedDoor<R, FolderBay<HostRuntime>, Stderr>;
+
+/// A reader of a dataset's files, which tells a line on standard error where there is one.
+pub type StdReader = WatchedReader<FileReader<HostRuntime>, HostRuntime, Stderr>;
 
 /// The raw volume that the words name, once for each rank that they say, so that each has a place of its own in the file;
 /// or one without a path.
@@ -61,11 +67,22 @@ pub fn refused_header(rt: &HostRuntime, words: &[String], cause: Cause) -> Bytes
     text
 }
 
-/// The readers of the dataset's files: one for each worker that the words say.
+/// The file that ended a check, looked at again; none where the run ended otherwise, and where it cannot be.
+pub fn wrong_file(rt: &HostRuntime, words: &[String], cause: Cause) -> Option<WrongFile> {
+    let Cause::NotSame { .. } = cause else {
+        return None;
+    };
+    let mut files = dataset_files(rt, words).ok()?;
+    let mut reader = FileReader::new(rt.clone().ok()?, rt.alloc());
+    look_again(rt.alloc(), words, cause, &mut files, &mut reader)
+}
+
+/// The readers of the dataset's files: one for each worker that the words say. They tell this line.
 pub fn file_readers(
     rt: &HostRuntime,
     words: &[String],
-) -> Result<Vec<FileReader<HostRuntime>>, AllocError>
+    line: &Option<StdLine>,
+) -> Result<Vec<StdReader>, AllocError>
     ensures some { IfOk result (λ readers. 0 < vec_len readers) }
     ensures workers { (v : ServeValue) → Give (map string_bytes words.now) (Command.Serve v) →
         IfOk result (λ readers. vec_len readers ≡ v.workers) }
@@ -73,9 +90,18 @@ pub fn file_readers(
     let workers = workers_of(words);
     let mut readers = Vec::with_capacity(rt.alloc(), workers as usize)?;
     for worker in 0..workers {
-        readers.push(FileReader::new(rt.clone()?, rt.alloc()))?;
+        let reader = FileReader::new(rt.clone()?, rt.alloc());
+        readers.push(WatchedReader::new(reader, shared(line)))?;
     }
     Ok(readers)
+}
+
+/// A line, for another one that tells it.
+fn shared(line: &Option<StdLine>) -> Option<StdLine> {
+    match line {
+        Some(line) => line.share(),
+        None => None,
+    }
 }
 
 /// The doors at the address that the words name, one for each worker that they say. They share what listens there, and
@@ -119,7 +145,7 @@ pub fn last_fault<'o, R: Sockets>(
     cause: Cause,
     raws: &'o [FileSource<HostRuntime>],
     bay: &'o FolderBay<HostRuntime>,
-    readers: &'o [FileReader<HostRuntime>],
+    readers: &'o [StdReader],
     out: &'o StdSink<Stdout>,
     doors: &'o [StdDoor<R>],
 ) -> Option<Fault<'o>> {
@@ -146,9 +172,9 @@ fn first_fault<'o>(raws: &'o [FileSource<HostRuntime>]) -> Option<Fault<'o>> {
 }
 
 /// Why a read of the dataset's files failed, of the first reader of which one did.
-fn first_read_fault<'o>(readers: &'o [FileReader<HostRuntime>]) -> Option<Fault<'o>> {
+fn first_read_fault<'o>(readers: &'o [StdReader]) -> Option<Fault<'o>> {
     for reader in readers {
-        if let Some(fault) = reader.last_fault() {
+        if let Some(fault) = reader.reader().last_fault() {
             return Some(fault);
         }
     }

@@ -1,5 +1,5 @@
 use Rattle.std.proofs.Common.{rules, codes, map, string_bytes}
-use Rattle.idx_words.specs.declared.command.Command.TheVariants.{Cut, Info, Query, Serve, Drill}
+use Rattle.idx_words.specs.declared.command.Command.TheVariants.{Cut, Info, Query, Check, Serve, Drill}
 use Rattle.idx_commands.proofs.ConvertLemmas.{never_usage}
 use Rattle.idx_commands.proofs.RunLemmas.{misnamed}
 use Rattle.idx_commands.proofs.convert.run_convert.Goals as goal
@@ -26,6 +26,12 @@ pub returns-in-Ok-Convert-clause-usage : goal.returns-in-Ok-Convert-clause-usage
 returns-in-Ok-Convert-clause-usage g c =
     let never = never_usage c.in-Ok-Convert.words _ c.convert_volume.result c.convert_volume.ensures.means in
     search rules
+
+pub unreachable-requires-in-Ok-Check : goal.unreachable-requires-in-Ok-Check
+unreachable-requires-in-Ok-Check g c =
+    let given = c.read_words.ensures.read c.in-Ok-Check.field-0 in
+    misnamed (map string_bytes c.args.words.now) c.in-Ok-Check.field-0 (Check c.in-Ok-Check.field-0-0) (codes "convert") c.requires.named
+    (given.0 c.in-Ok-Check.is) c.in-Ok-Check.field-0-is (λ e. cc)
 
 pub unreachable-requires-in-Ok-Serve : goal.unreachable-requires-in-Ok-Serve
 unreachable-requires-in-Ok-Serve g c =

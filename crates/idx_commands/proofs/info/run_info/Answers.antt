@@ -1,5 +1,5 @@
 use Rattle.std.proofs.Common.{codes, map, string_bytes}
-use Rattle.idx_words.specs.declared.command.Command.TheVariants.{Cut, Convert, Query, Serve, Drill}
+use Rattle.idx_words.specs.declared.command.Command.TheVariants.{Cut, Convert, Query, Check, Serve, Drill}
 use Rattle.idx_commands.proofs.RunLemmas.{misnamed}
 use Rattle.idx_commands.proofs.info.run_info.Goals as goal
 
@@ -20,6 +20,12 @@ unreachable-requires-in-Ok-Query g c =
     let given = c.read_words.ensures.read c.in-Ok-Query.field-0 in
     misnamed (map string_bytes c.args.words.now) c.in-Ok-Query.field-0 (Query c.in-Ok-Query.field-0-0) (codes "info") c.requires.named
     (given.0 c.in-Ok-Query.is) c.in-Ok-Query.field-0-is (λ e. cc)
+
+pub unreachable-requires-in-Ok-Check : goal.unreachable-requires-in-Ok-Check
+unreachable-requires-in-Ok-Check g c =
+    let given = c.read_words.ensures.read c.in-Ok-Check.field-0 in
+    misnamed (map string_bytes c.args.words.now) c.in-Ok-Check.field-0 (Check c.in-Ok-Check.field-0-0) (codes "info") c.requires.named
+    (given.0 c.in-Ok-Check.is) c.in-Ok-Check.field-0-is (λ e. cc)
 
 pub unreachable-requires-in-Ok-Serve : goal.unreachable-requires-in-Ok-Serve
 unreachable-requires-in-Ok-Serve g c =

@@ -1,6 +1,6 @@
 use Rattle.std.proofs.Common.{codes, map, string_bytes}
-use Rattle.idx_words.specs.declared.command.Command.TheVariants.{Cut, Info, Convert, Serve, Drill}
-use Rattle.idx_commands.proofs.RunLemmas.{misnamed, query_not_serve, query_not_drill}
+use Rattle.idx_words.specs.declared.command.Command.TheVariants.{Cut, Info, Convert, Check, Serve, Drill}
+use Rattle.idx_commands.proofs.RunLemmas.{misnamed, query_not_check, query_not_drill, query_not_serve}
 use Rattle.idx_commands.proofs.query.run_query.Goals as goal
 
 pub unreachable-requires : goal.unreachable-requires
@@ -20,6 +20,12 @@ unreachable-requires-in-Ok-Convert g c =
     let given = c.read_words.ensures.read c.in-Ok-Convert.field-0 in
     misnamed (map string_bytes c.args.words.now) c.in-Ok-Convert.field-0 (Convert c.in-Ok-Convert.field-0-0) (codes "query") c.requires.named
     (given.0 c.in-Ok-Convert.is) c.in-Ok-Convert.field-0-is (λ e. cc)
+
+pub unreachable-requires-in-Ok-Check : goal.unreachable-requires-in-Ok-Check
+unreachable-requires-in-Ok-Check g c =
+    let given = c.read_words.ensures.read c.in-Ok-Check.field-0 in
+    misnamed (map string_bytes c.args.words.now) c.in-Ok-Check.field-0 (Check c.in-Ok-Check.field-0-0) (codes "query") c.requires.named
+    (given.0 c.in-Ok-Check.is) c.in-Ok-Check.field-0-is query_not_check
 
 pub unreachable-requires-in-Ok-Serve : goal.unreachable-requires-in-Ok-Serve
 unreachable-requires-in-Ok-Serve g c =

@@ -1,6 +1,6 @@
 use Rattle.std.proofs.Common.{codes, map, string_bytes, sym}
-use Rattle.idx_words.specs.declared.command.Command.TheVariants.{Cut, Info, Convert, Query, Drill}
-use Rattle.idx_commands.proofs.RunLemmas.{misnamed, query_not_serve, serve_not_drill}
+use Rattle.idx_words.specs.declared.command.Command.TheVariants.{Cut, Info, Convert, Query, Check, Drill}
+use Rattle.idx_commands.proofs.RunLemmas.{check_not_serve, misnamed, query_not_serve, serve_not_drill}
 use Rattle.idx_commands.proofs.serve.run_serve.Goals as goal
 
 pub unreachable-requires : goal.unreachable-requires
@@ -26,6 +26,12 @@ unreachable-requires-in-Ok-Query g c =
     let given = c.read_words.ensures.read c.in-Ok-Query.field-0 in
     misnamed (map string_bytes c.args.words.now) c.in-Ok-Query.field-0 (Query c.in-Ok-Query.field-0-0) (codes "serve") c.requires.named
     (given.0 c.in-Ok-Query.is) c.in-Ok-Query.field-0-is (λ e. query_not_serve (sym e))
+
+pub unreachable-requires-in-Ok-Check : goal.unreachable-requires-in-Ok-Check
+unreachable-requires-in-Ok-Check g c =
+    let given = c.read_words.ensures.read c.in-Ok-Check.field-0 in
+    misnamed (map string_bytes c.args.words.now) c.in-Ok-Check.field-0 (Check c.in-Ok-Check.field-0-0) (codes "serve") c.requires.named
+    (given.0 c.in-Ok-Check.is) c.in-Ok-Check.field-0-is (λ e. check_not_serve (sym e))
 
 pub unreachable-requires-in-Ok-Drill : goal.unreachable-requires-in-Ok-Drill
 unreachable-requires-in-Ok-Drill g c =
