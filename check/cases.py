@@ -306,6 +306,21 @@ def ask(bench: Bench, made: Made, count: int) -> None:
     for _ in range(count):
         if made.header is not None:
             bench.run(draw_query(bench.random, made.path, made.header, made.step))
+    check(bench, made.path, made.header, made.step)
+
+
+# Whether files are right
+
+
+MOST_FILES = 2_000
+"""A step with more files than these is not checked here, where each is looked for."""
+
+
+def check(bench: Bench, path: bytes, header: Header | None, step: int, sink: bytes | None = None) -> None:
+    """Asks whether the files of a step are right, now and then of another step."""
+    if header is not None and len(reference.all_files(header)) <= MOST_FILES:
+        asked = step if chance(bench.random, 95) else bench.random.choice([step + 1, 0, 10**19 - 1])
+        bench.run([b"check", path, odd_number(bench.random, asked)], sink)
 
 
 # Headers
@@ -597,6 +612,7 @@ class Series:
         box = b" ".join(b"%d %d" % pair for pair in self.header.box)
         self.bench.run([b"query", self.path, b"%d" % self.step, field, box, b"0", b"%d" % len(self.header.mask)])
         self.bench.run(draw_query(self.bench.random, self.path, self.header, self.step))
+        check(self.bench, self.path, self.header, self.step)
 
     def folder(self, revision: int) -> bytes:
         """The path of the folder of a revision."""
@@ -717,7 +733,7 @@ def hostile_words(random: Random) -> list[bytes]:
             b"0 3 0 3 0", b"0\n3 0 3", b"0 3 0 1099511627776", b"0 3\t0 3", b" 0 3 0 3 ", b"0 0 " * 6, b"0 0 " * 5,
             b"0 1099511627775 0 0", b"0 1099511627775 0 1", b"a" * 4096, b"a" * 4097, b"a" * 100_000,
             b" " * 50_000 + b"0 3 0 3", b"a\x01", b"a\nb", b"a\x7f", b"\x1b[31m", b"~", b"\xc3\xa9", b"\xff", b"a\x80",
-            "\u00a00 3 0 3".encode(), "\u0661".encode(), b"cut", b"info", b"drill", b"1" + random.choice(CONTROLS[1:]),
+            "\u00a00 3 0 3".encode(), "\u0661".encode(), b"cut", b"info", b"check", b"drill", b"1" + random.choice(CONTROLS[1:]),
             b"0 %d 0 %d" % (random.getrandbits(random.randint(1, 42)), random.getrandbits(random.randint(1, 42)))]
 
 
@@ -738,7 +754,9 @@ def right_words(random: Random) -> list[bytes]:
     """A list of words that is right."""
     dataset = draw_dataset(random)
     header = header_of(dataset.texts(random))
-    style = random.randrange(6)
+    style = random.randrange(7)
+    if style == 6:
+        return [b"check", b"v.idx", odd_number(random, random.randint(0, 9))]
     if style == 5:
         return [b"drill", odd_number(random, random.randint(1, 4))]
     if style == 0:
@@ -914,6 +932,7 @@ def without_time(bench: Bench) -> None:
     put_step(bench, reference.parse_header(text), b"v.idx", 0)
     for step in (b"0", b"0", b"1"):
         bench.run([b"query", b"v.idx", step, b"a", b"0 3 0 3", b"0", b"4"])
+        bench.run([b"check", b"v.idx", step])
     bench.run([b"convert", b"v.idx", b"r.raw", *texts, b"0"])
 
 
@@ -1014,6 +1033,7 @@ def odd_files(bench: Bench) -> None:
         put_step(bench, header, path, step)
         for _ in range(random.randint(2, 5)):
             bench.run(draw_query(random, path, header, step))
+        check(bench, path, header, step)
 
 
 def headers(bench: Bench) -> None:
@@ -1025,6 +1045,7 @@ def headers(bench: Bench) -> None:
         bench.run([b"info", b"v.idx"])
     if chance(random, 30):
         bench.run([b"query", b"v.idx", b"0", b"a", b"0 3 0 3", b"0", b"4"])
+        bench.run([b"check", b"v.idx", b"10"])
     if chance(random, 30):
         bench.run([b"convert", b"v.idx", b"r.raw", *small_texts(random), b"0"])
 
@@ -1123,6 +1144,7 @@ def sinks(bench: Bench) -> None:
     if made.header is not None:
         for _ in range(2):
             bench.run(draw_query(bench.random, made.path, made.header, made.step), b"/dev/full")
+        check(bench, made.path, made.header, made.step, b"/dev/full")
     words, size = draw_cut(bench.random)
     write(bench, b"r.raw", draw_raw(bench.random, size))
     bench.run(words, b"/dev/full")

@@ -13,10 +13,10 @@ from collections.abc import Callable, Sequence
 from dataclasses import dataclass, field
 
 from drill import drill_text
-from reference import (LARGEST_ANSWER, REVISIONS, Box, Header, HeaderFault, Refusal, answer, answer_size, asked_points,
+from reference import (LARGEST_ANSWER, REVISIONS, Box, Header, HeaderFault, Refusal, all_files, answer, answer_size, asked_points,
                        box_word, check_table, count_of_points, covers, file_bytes, file_path, files_of_step, has_levels,
                        header_words, is_inside, mask_word, number, outside_axis, parse_header, place_in_volume,
-                       step_folder, too_large, volume_size)
+                       step_folder, too_large, volume_size, wrong_in)
 
 # The words of the command line
 
@@ -104,6 +104,7 @@ RULES: dict[bytes, list[Rule]] = {
     b"info": [path_rule],
     b"convert": [path_rule, path_rule] + [value_rule] * 7 + [number_rule],
     b"query": [path_rule, number_rule, path_rule, box_rule, level_rule, level_rule],
+    b"check": [path_rule, number_rule],
     b"serve": [path_rule, path_rule],
     b"drill": [drill_rule],
 }
@@ -378,6 +379,23 @@ def query(words: Sequence[bytes], folder: bytes) -> Outcome:
     return Outcome(output=answer(header, which, region, low, high, read_revision(header, step, revision, beside)))
 
 
+def check(words: Sequence[bytes], folder: bytes) -> Outcome:
+    """Whether the files of the newest revision of a step are right."""
+    dataset, step = os.path.join(folder, words[1]), int(words[2])
+    header, beside = read_header(dataset), os.path.dirname(dataset)
+    revision = newest_revision(header, step, beside) if header.time and step in steps_of(header) else None
+    if revision is None:
+        raise Refusal(7, f"not published {step}")
+    lengths: list[int] = []
+    for file in all_files(header):
+        content = read_store(os.path.join(beside, file_path(header, step, file, revision)))
+        wrong = wrong_in(header, file, content)
+        if wrong is not None:
+            raise Refusal(16, f"not same file {file} at {wrong[0]} {wrong[1]}")
+        lengths += [] if content is None else [len(content)]
+    return Outcome(output=b"same files %d bytes %d\n" % (len(lengths), sum(lengths)))
+
+
 def standing_steps(header: Header, beside: bytes) -> dict[int, dict[int, bytes]]:
     """The steps that stand, by rising number, each with the files of its newest revision."""
     found: dict[int, dict[int, bytes]] = {}
@@ -427,7 +445,8 @@ def drill(words: Sequence[bytes], folder: bytes) -> Outcome:
     return Outcome(output=drill_text(int(words[1])))
 
 
-COMMANDS = {b"cut": cut, b"info": info, b"convert": convert, b"query": query, b"serve": serve, b"drill": drill}
+COMMANDS = {b"cut": cut, b"info": info, b"convert": convert, b"query": query, b"check": check, b"serve": serve,
+            b"drill": drill}
 
 
 def run(words: Sequence[bytes], folder: bytes) -> Outcome:

@@ -35,6 +35,7 @@ import server_cases
 import slow_cases
 from differences import (Tree, difference, error_differences, put_tree, quoted, short, tree, tree_differences,
                          with_files, without_path, without_staged)
+from results import status_of
 from serving import Ended, Link, Server, Talk, limit_memory, play_links, read_back
 
 SERVED, SLOW = "served", "slow"
@@ -241,8 +242,7 @@ def main() -> int:
     finally:
         if not arguments.keep or all(passed):
             shutil.rmtree(at)
-    print(f"{sum(passed)} passed, {len(passed) - sum(passed)} failed")
-    return 0 if all(passed) else 1
+    return status_of(passed)
 
 
 if __name__ == "__main__":

@@ -26,6 +26,7 @@ from random import Random
 import events_cases
 import events_table
 from events_model import NoWorld
+from results import status_of
 
 CRATE = Path(__file__).resolve().parent.parent / "crates" / "idx_test_events"
 PROGRAM = CRATE / "out" / "idx_test_events"
@@ -102,8 +103,7 @@ def main() -> int:
         for seed in range(given.seed, given.seed + given.seeds):
             table = table_of(seed)
             passed.append(passes(f"seed {seed}", events_table.printed(table), outcome(given.program, table)))
-    print(f"{sum(passed)} passed, {len(passed) - sum(passed)} failed")
-    return 0 if all(passed) else 1
+    return status_of(passed)
 
 
 if __name__ == "__main__":

@@ -9,7 +9,6 @@ the next post; those for the first one get its first samples, and from some repl
 there in the end are held against those of `convert`, byte for byte. What is refused before a link is looked at too. The last
 line is `N passed, M failed`.
 """
-import argparse
 import array
 import http.client
 import subprocess
@@ -17,6 +16,8 @@ import sys
 import tempfile
 import time
 from pathlib import Path
+
+from results import Results, words_of
 
 SECONDS = 30
 
@@ -73,17 +74,12 @@ def files_of(folder):
 
 
 def main():
-    parser = argparse.ArgumentParser(description=__doc__, formatter_class=argparse.RawDescriptionHelpFormatter)
-    parser.add_argument("program")
+    parser = words_of(__doc__)
     parser.add_argument("--side", type=int, default=64, help="a power of two from 32")
     parser.add_argument("--workers", type=int, default=4)
     given = parser.parse_args()
-    side, results = given.side, []
-
-    def hold(what, is_so):
-        results.append(is_so)
-        if not is_so:
-            print("failed:", what)
+    side, results = given.side, Results()
+    hold = results.hold
 
     def run(*words):
         return subprocess.run([given.program, *map(str, words)], capture_output=True, timeout=SECONDS)
@@ -118,8 +114,7 @@ def main():
             ended = run("serve", dataset, "127.0.0.1:0", *words)
             hold(line.decode(), ended.returncode == status and ended.stderr.split(b"\n")[0] == b"idxtool: " + line)
         hold("no step is begun by these", not (top / "time0001").exists())
-    print(f"{results.count(True)} passed, {results.count(False)} failed")
-    return 0 if all(results) else 1
+    return results.status()
 
 
 if __name__ == "__main__":

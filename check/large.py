@@ -16,6 +16,8 @@ import sys
 import tempfile
 from pathlib import Path
 
+from results import Results, words_of
+
 SIDE, DEPTH = 512, 1200
 VOLUME = SIDE * SIDE * DEPTH
 MASK = "V22" + "012" * 9
@@ -57,8 +59,8 @@ def coarse(raw, step):
 
 
 def main():
-    program = sys.argv[1]
-    results = []
+    program = words_of(__doc__).parse_args().program
+    results = Results()
     with tempfile.TemporaryDirectory() as folder:
         top = Path(folder)
         raw = top / "n.raw"
@@ -68,23 +70,18 @@ def main():
         for ranks in (4, 1):
             shutil.rmtree(top / "time0000", ignore_errors=True)
             is_done, read = converted(words(program, dataset, raw, ranks))
-            results.append((f"the end of {ranks} ranks", is_done))
-            results.append((f"what {ranks} ranks read", VOLUME <= read <= 2 * VOLUME + 2 ** 24))
+            results.hold(f"the end of {ranks} ranks", is_done)
+            results.hold(f"what {ranks} ranks read", VOLUME <= read <= 2 * VOLUME + 2 ** 24)
             files[ranks] = sums(top / "time0000")
-        results.append(("the files of 4 ranks", len(files[1]) > 4 and files[4] == files[1]))
+        results.hold("the files of 4 ranks", len(files[1]) > 4 and files[4] == files[1])
         bytes_ = raw.read_bytes()
         half = DEPTH // 2
         for first in (0, half):
             wanted = bytes_[first * SIDE * SIDE:(first + half) * SIDE * SIDE]
-            results.append((f"the planes from {first} on", answer(program, dataset, first, first + half - 1, LEVELS) == wanted))
-        results.append(("a coarse level", answer(program, dataset, 0, DEPTH - 1, LEVELS - 12) == coarse(bytes_, 16)))
-    for name, is_right in results:
-        if not is_right:
-            print(f"{name}: wrong")
-    passed = sum(is_right for _, is_right in results)
-    print(f"{passed} passed, {len(results) - passed} failed")
-    sys.exit(0 if passed == len(results) else 1)
+            results.hold(f"the planes from {first} on", answer(program, dataset, first, first + half - 1, LEVELS) == wanted)
+        results.hold("a coarse level", answer(program, dataset, 0, DEPTH - 1, LEVELS - 12) == coarse(bytes_, 16))
+    return results.status()
 
 
 if __name__ == "__main__":
-    main()
+    sys.exit(main())

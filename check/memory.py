@@ -8,7 +8,6 @@ stays below 1 GiB. Then each link asks for an answer of 2^28 bytes of a server t
 reply is whole or a 503, and the server stays. A good client asks meanwhile, and each of its replies is right. The reference
 is not used. The last line is `N passed, M failed`. Takes about a minute.
 """
-import argparse
 import http.client
 import resource
 import selectors
@@ -19,6 +18,8 @@ import tempfile
 import threading
 import time
 from pathlib import Path
+
+from results import status_of, words_of
 
 SECONDS = 120
 WORKERS = 64
@@ -174,8 +175,7 @@ def convert(program, top):
 
 
 def main():
-    parser = argparse.ArgumentParser(description=__doc__, formatter_class=argparse.RawDescriptionHelpFormatter)
-    parser.add_argument("program")
+    parser = words_of(__doc__)
     parser.add_argument("--links", type=int, default=WORKERS)
     given = parser.parse_args()
     results = []
@@ -204,8 +204,7 @@ def main():
             hold("a good client is answered meanwhile", not wrong, f"{client.right} times, within {client.longest:.1f} s {wrong or ''}")
             hold("the server stays", server.process.poll() is None and ask(server.address, SMALL) == wanted,
                  f"{server.most_memory() >> 20} MiB")
-    print(f"{results.count(True)} passed, {results.count(False)} failed")
-    return 0 if all(results) else 1
+    return status_of(results)
 
 
 if __name__ == "__main__":

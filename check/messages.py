@@ -9,7 +9,6 @@ writers that nobody reads, addresses that nobody can listen at, and what an earl
 """
 from __future__ import annotations
 
-import argparse
 import os
 import socket
 import subprocess
@@ -18,6 +17,8 @@ import tempfile
 from collections.abc import Iterator
 from dataclasses import dataclass, field
 from pathlib import Path
+
+from results import status_of, words_of
 
 SECONDS = 60
 KEYS = ("version", "box", "fields", "bits", "bitsperblock", "blocksperfile", "filename_template", "time")
@@ -81,6 +82,10 @@ def of_words() -> Iterator[Case]:
     split = ["query", "v.idx", "0", "a", "0", "3", "0", "3", "0", "2"]
     yield Case("a split box of query", split, 1, "idxtool: usage at 4\n  word 4 is `0`\n" + region + QUOTE + HELP)
     yield Case("no address", ["serve", "v.idx"], 1, "idxtool: usage at 2\n  word 2 is missing\n" + address + HELP)
+    time = "  expected TIME, the number of a step: a number of 1 to 19 digits\n"
+    yield Case("no timestep", ["check", "v.idx"], 1, "idxtool: usage at 2\n  word 2 is missing\n" + time + HELP)
+    end = "  expected the end of the words: check DATASET TIME\n"
+    yield Case("a word too many", ["check", "v.idx", "0", "a"], 1, "idxtool: usage at 3\n  word 3 is `a`\n" + end + HELP)
     yield Case("the version", ["--version"], 0, "", output=b"idxtool 0.1.0\n")
 
 
@@ -123,6 +128,46 @@ def of_runs() -> Iterator[Case]:
         name = ("r", "a b")[number]
         yield Case(f"no raw volume {number}", ["serve", "v.idx", "127.0.0.1:0", *options], 4,
                    f"idxtool: raw fault\n  {name}: {GONE}\n", {"v.idx": header(*SMALL)})
+
+
+def of_checks() -> Iterator[Case]:
+    """Files of a timestep that are right, and files that are not, each with what stands there and what is wanted."""
+    plain, partial, point = header(*SMALL), header(*SMALL[:1], "0 2 0 2", *SMALL[2:]), header(*SMALL[:1], "0 0 0 0", *SMALL[2:])
+    first, second = table_file([0, 2, 8, 10, 1, 9, 3, 11]), table_file([4, 5, 12, 13, 6, 7, 14, 15])
+    alone = first[:80] + bytes(40) + bytes([7, 0, 0, 0])
+
+    def case(name: str, text: bytes, files: dict[str, bytes], place: str, wrong: str) -> Case:
+        return Case(name, ["check", "v.idx", "0"], 16, f"idxtool: not same file {place}\n  v.idx, {wrong}\n",
+                    {"v.idx": text, **files}, output=b"")
+
+    def step(one: bytes, other: bytes, folder: str = "time0000") -> dict[str, bytes]:
+        return {f"{folder}/0.bin": one, f"{folder}/2.bin": other}
+
+    yield Case("a right timestep", ["check", "v.idx", "0"], 0, "", {"v.idx": plain, **step(first, second)},
+               output=b"same files 2 bytes 256\n")
+    yield case("a byte of a table", plain, step(first[:59] + b"\5" + first[60:], second), "0 at 59 Byte",
+               "time0000/0.bin: at byte 59 stands 05, wanted is 04")
+    yield case("a byte before the rows", plain, step(first, b"\377" + second[1:]), "2 at 0 Byte",
+               "time0000/2.bin: at byte 0 stands ff, wanted is 00")
+    yield case("row-major order", plain, step(first[:63] + b"\20" + first[64:], second), "0 at 63 Byte",
+               "time0000/0.bin: at byte 63 stands 10, wanted is 00")
+    files = step(table_file([0, 2, 6, 8, 1, 7, 0, 1]), table_file([3, 4, 0, 0, 5, 0, 0, 0]))
+    yield case("a byte outside of the box", partial, files, "0 at 127 Byte",
+               "time0000/0.bin: at byte 127 stands 01, wanted is 00")
+    yield case("a file that was cut short", plain, step(first[:124], second), "0 at 124 Byte",
+               "time0000/0.bin: it ends at byte 124")
+    yield case("a byte too many", plain, step(first, second + b"\0"), "2 at 128 Byte", "time0000/2.bin: it should end at byte 128")
+    yield case("a file that is not there", plain, {"time0000/0.bin": first}, "2 at 0 Missing", "time0000/2.bin: it is not there")
+    yield case("a file that nobody writes", point, step(alone, alone), "2 at 0 Extra", "time0000/2.bin: it should not be there")
+    again = {**step(first, second), **step(first, second[:-1], "time0000.r1")}
+    yield case("a newer revision", plain, again, "2 at 127 Byte", "time0000.r1/2.bin: it ends at byte 127")
+    gone = "the step has not been written, or is none of its steps, or it has no (time)\n"
+    yield Case("a timestep that is not there to be checked", ["check", "v.idx", "5"], 7,
+               "idxtool: not published 5\n  v.idx: " + gone, {"v.idx": plain})
+    yield Case("a header without a time", ["check", "v.idx", "0"], 7, "idxtool: not published 0\n  v.idx: " + gone,
+               {"v.idx": header(*SMALL[:-1])})
+    yield Case("a folder in place of a file", ["check", "v.idx", "0"], 5,
+               "idxtool: store fault\n  time0000/0.bin: not a regular file\n", {"v.idx": plain}, ["time0000", "time0000/0.bin"])
 
 
 def of_files() -> Iterator[Case]:
@@ -212,18 +257,15 @@ def is_right(program: str, case: Case) -> bool:
     return not found
 
 
-def main() -> None:
-    """Runs all cases."""
-    parser = argparse.ArgumentParser(description=__doc__, formatter_class=argparse.RawDescriptionHelpFormatter)
-    parser.add_argument("program")
-    program = os.path.abspath(parser.parse_args().program)
+def main() -> int:
+    """Runs all cases; 1 where any failed."""
+    program = os.path.abspath(words_of(__doc__).parse_args().program)
     with socket.create_server(("127.0.0.1", 0)) as listener:
         taken = f"127.0.0.1:{listener.getsockname()[1]}"
-        cases = [*of_words(), *of_headers(), *of_runs(), *of_files(), *of_addresses(taken)]
+        cases = [*of_words(), *of_headers(), *of_runs(), *of_checks(), *of_files(), *of_addresses(taken)]
         results = [is_right(program, case) for case in cases]
-    print(f"{sum(results)} passed, {len(results) - sum(results)} failed")
-    sys.exit(0 if all(results) else 1)
+    return status_of(results)
 
 
 if __name__ == "__main__":
-    main()
+    sys.exit(main())

@@ -9,11 +9,13 @@ revision that stands is whole and of one run, a run that ends with 0 has left it
 header, and the other says why. Runs of other steps under one header both end with 0, and runs under other headers never
 do. The last line is `N passed, M failed`.
 """
-import argparse
+import os
 import subprocess
 import sys
 import tempfile
 from pathlib import Path
+
+from results import status_of, words_of
 
 SIDE = 64
 BOX = f"0 {SIDE - 1} 0 {SIDE - 1} 0 {SIDE - 1}"
@@ -128,13 +130,12 @@ def check_pair(program, top, raws, wanted, kind):
 
 
 def main():
-    parser = argparse.ArgumentParser(description=__doc__.split("\n")[0])
-    parser.add_argument("program", type=Path)
+    parser = words_of(__doc__)
     parser.add_argument("--pairs", type=int, default=200)
     parser.add_argument("--kind", choices=KINDS)
     asked = parser.parse_args()
-    program = str(asked.program.resolve())
-    passed = failed = 0
+    program = os.path.abspath(asked.program)
+    results = []
     count = {}
     with tempfile.TemporaryDirectory() as folder:
         top = Path(folder)
@@ -147,13 +148,13 @@ def main():
             ends, wrong = check_pair(program, top / f"pair{number}", raws, wanted, kind)
             statuses = tuple(sorted(end[0] for end in ends))
             count[kind, statuses] = count.get((kind, statuses), 0) + 1
-            passed, failed = passed + (not wrong), failed + bool(wrong)
+            results.append(not wrong)
             for text in wrong:
                 print(f"pair {number}, {kind}: {text}")
     for (kind, statuses), times in sorted(count.items()):
         print(f"{kind}: {times} pairs ended with {statuses[0]} and {statuses[1]}")
-    print(f"{passed} passed, {failed} failed")
-    sys.exit(1 if failed else 0)
+    return status_of(results)
 
 
-main()
+if __name__ == "__main__":
+    sys.exit(main())

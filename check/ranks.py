@@ -6,10 +6,10 @@
 The volume has SIDE^3 samples of four bytes, each its own number in row-major order. The file of one rank is held against
 what the format says of it: its length, and the samples of a coarse slice; those of the others against it, byte for byte.
 No run may take fresh memory for more than half as many bytes again as the volume has, and 8 MiB: what was freed serves again.
-A conversion whose standard error is a terminal has to say there how far it is, and to take the line away at the end.
+A conversion whose standard error is a terminal has to say there how far it is, and to take the line away at the end, and so has
+a check of what was converted.
 The last line is `N passed, M failed`.
 """
-import argparse
 import array
 import os
 import pty
@@ -19,6 +19,8 @@ import subprocess
 import sys
 import tempfile
 from pathlib import Path
+
+from results import Results, words_of
 
 RANKS = (1, 2, 3, 4, 8)
 BLOCK_BITS = 16
@@ -69,25 +71,23 @@ def shown(argv):
     return text, status == 0
 
 
-def says_how_far(text, dataset, raw, side):
-    """Whether a line of a conversion into one file was shown, then how far that was, never less than before, and then nothing."""
-    first = f"  converting {raw} into {dataset}, 1 ranks".encode()
+def says_how_far(text, first, side):
+    """Whether a line of work on one file was shown, then how far that was, never less than before, and then nothing."""
     line = rb"\r  ([01]) of 1 files, ([0-9]+) of ([0-9]+) MiB, [0-9]+ MiB/s\x1b\[K"
     if not (text.startswith(first) and re.fullmatch(rb"(%s)*\r\x1b\[K" % line, text[len(first):])):
         return False
     lines = [tuple(map(int, found)) for found in re.findall(line, text)]
     whole = 4 * side ** 3 >> 20
-    return all(written <= whole == of for _, written, of in lines) and lines == sorted(lines)
+    return all(done <= whole == of for _, done, of in lines) and lines == sorted(lines)
 
 
 def main():
-    parser = argparse.ArgumentParser(description=__doc__, formatter_class=argparse.RawDescriptionHelpFormatter)
-    parser.add_argument("program")
+    parser = words_of(__doc__)
     parser.add_argument("--side", type=int, default=256, help="a power of two from 64")
     given = parser.parse_args()
     side = given.side
     blocks = side ** 3 >> BLOCK_BITS
-    results = []
+    results = Results()
     with tempfile.TemporaryDirectory() as folder:
         top = Path(folder)
         raw = top / "n.raw"
@@ -103,22 +103,24 @@ def main():
             if first is None:
                 first = files
                 length = 40 + 40 * blocks + 4 * side ** 3
-                results.append(("the file's length", [len(bytes_) for bytes_ in files.values()] == [length]))
+                results.hold("the file's length", [len(bytes_) for bytes_ in files.values()] == [length])
                 asked = subprocess.run(slice_words(given.program, dataset, side), capture_output=True, timeout=120)
-                results.append(("a coarse slice", asked.returncode == 0 and asked.stdout == slice_of(side)))
-            results.append((f"the memory of {ranks} ranks", fresh <= 6 * side ** 3 + 2 ** 23))
-            results.append((f"the files of {ranks} ranks", run.returncode == 0 and not run.stderr and files == first))
+                results.hold("a coarse slice", asked.returncode == 0 and asked.stdout == slice_of(side))
+            results.hold(f"the memory of {ranks} ranks", fresh <= 6 * side ** 3 + 2 ** 23)
+            results.hold(f"the files of {ranks} ranks", run.returncode == 0 and not run.stderr and files == first)
         dataset = top / "shown" / "n.idx"
         dataset.parent.mkdir()
         text, is_done = shown(words(given.program, dataset, raw, side, 1))
-        results.append(("the line on a terminal", is_done and says_how_far(text, dataset, raw, side)))
-    for name, is_right in results:
-        if not is_right:
-            print(f"{name}: wrong")
-    passed = sum(is_right for _, is_right in results)
-    print(f"{passed} passed, {len(results) - passed} failed")
-    sys.exit(0 if passed == len(results) else 1)
+        first = f"  converting {raw} into {dataset}, 1 ranks".encode()
+        results.hold("the line on a terminal", is_done and says_how_far(text, first, side))
+        check = [given.program, "check", str(dataset), "0"]
+        asked = subprocess.run(check, capture_output=True, timeout=120)
+        same = f"same files 1 bytes {40 + 40 * blocks + 4 * side ** 3}\n".encode()
+        results.hold("a check", asked.returncode == 0 and not asked.stderr and asked.stdout == same)
+        text, is_done = shown(check)
+        results.hold("the line of a check", is_done and says_how_far(text, f"  checking step 0 of {dataset}".encode(), side))
+    return results.status()
 
 
 if __name__ == "__main__":
-    main()
+    sys.exit(main())

@@ -624,6 +624,49 @@ def stored_sample(header: Header, which: int, address: int, contents: dict[int, 
     return contents[file_of_block(block, header.blocks_per_file)][start:start + size]
 
 
+# Whether files are right
+
+
+def all_files(header: Header) -> range:
+    """The files that all blocks would take, in rising order."""
+    return range(0, 2 ** (len(header.mask) - header.bits_per_block), header.blocks_per_file)
+
+
+def wanted_bytes(header: Header, file: int, content: bytes) -> bytes:
+    """What is wanted of a file that the writer writes and that has these bytes.
+
+    The bytes that are not the same in the files of two volumes, of which one is all zeros and the other all ones, are those
+    of samples of the box: these are the file's own.
+    """
+    size = volume_size(header)
+    zeros, ones = (int.from_bytes(file_bytes(header, file, raw), "big") for raw in (bytes(size), b"\xff" * size))
+    length = file_size(header, blocks_in_file(header, file))
+    own = int.from_bytes(content[:length].ljust(length, b"\0"), "big")
+    return (zeros | (own & (zeros ^ ones))).to_bytes(length, "big")
+
+
+def blocks_in_file(header: Header, file: int) -> int:
+    """How many blocks of a file are present."""
+    return sum(file_of_block(block, header.blocks_per_file) == file for block in present_blocks(header))
+
+
+def first_difference(one: bytes, other: bytes) -> int | None:
+    """The least place at which two texts differ, or that only one of them has."""
+    pairs_of_bytes = enumerate(zip(one, other))
+    end = min(len(one), len(other)) if len(one) != len(other) else None
+    return end if one[:end] == other[:end] else next(place for place, (left, right) in pairs_of_bytes if left != right)
+
+
+def wrong_in(header: Header, file: int, content: bytes | None) -> tuple[int, str] | None:
+    """The place of what is wrong with the file of a number, which is there with these bytes or is not, and its kind."""
+    if file not in files_of_step(header):
+        return None if content is None else (0, "Extra")
+    if content is None:
+        return 0, "Missing"
+    place = first_difference(content, wanted_bytes(header, file, content))
+    return None if place is None else (place, "Byte")
+
+
 # Questions
 
 
@@ -674,6 +717,7 @@ def check_example() -> None:
     raw = bytes(range(16))
     given = {file_path(header, 0, file): file_bytes(header, file, raw) for file in files_of_step(header)}
     assert {path: content[120:] for path, content in given.items()} == listed
+    assert [wrong_in(header, file, content) for file, content in zip(files_of_step(header), given.values())] == [None, None]
     for content in given.values():
         assert [read_row(content, place) for place in range(2)] == [Row(120, 4, 0), Row(124, 4, 0)]
         assert content[:40] == bytes(40)

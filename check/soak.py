@@ -14,7 +14,6 @@ docs/SERVING.md advises for many workers, unless the environment says otherwise.
 The last line is `N requests, W wrong, ...`; the exit status is 1 where a byte was wrong, a link ended early, or the
 memory grew by more than a tenth behind the first ten seconds. It is no part of the quick checks.
 """
-import argparse
 import array
 import os
 import random
@@ -27,6 +26,8 @@ import time
 from collections import Counter
 from multiprocessing import Process, Queue
 from pathlib import Path
+
+from results import words_of
 
 AXES, DIGITS, SIDE = 3, 6, 64
 VOLUME = SIDE ** AXES
@@ -173,8 +174,7 @@ def resident(process):
 
 
 def main():
-    parser = argparse.ArgumentParser(description=__doc__, formatter_class=argparse.RawDescriptionHelpFormatter)
-    parser.add_argument("program")
+    parser = words_of(__doc__)
     for name, value in (("seconds", 60), ("links", 64), ("questions", 256), ("workers", 64), ("cache", 256), ("steps", 16),
                         ("seed", 1)):
         parser.add_argument(f"--{name}", type=int, default=value)

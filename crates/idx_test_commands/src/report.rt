@@ -4,7 +4,9 @@ use idx_commands::{Cause, Done};
 use idx_memory::{MemBay, MemSink};
 use idx_outside::{Bytes, MemFile};
 use idx_real::{Fault, Reason};
-use idx_report::{report, share_of, standing_steps, text_asked_for, write_notice, write_text};
+use idx_report::{
+    Hints, report, share_of, standing_steps, text_asked_for, write_notice, write_text,
+};
 use std::alloc::{AllocError, Global};
 use std::net::SocketAddr;
 use std::test::Fail;
@@ -18,7 +20,13 @@ fn printed(
 ) -> Result<Vec<u8>, AllocError> {
     let words = words_in(alloc, line)?;
     let mut err = Vec::new(alloc);
-    let _ = report(alloc, &mut err, Done::of(cause), &words, b"", fault);
+    let _ = report(
+        alloc,
+        &mut err,
+        Done::of(cause),
+        &words,
+        Hints::of_fault(fault),
+    );
     Ok(err)
 }
 

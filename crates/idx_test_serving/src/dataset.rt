@@ -32,59 +32,32 @@ const FIRST: &[u8] = &[0, 2, 8, 10, 1, 9, 3, 11];
 /// Those of the second file.
 const SECOND: &[u8] = &[4, 5, 12, 13, 6, 7, 14, 15];
 
-/// A file of a step: its folder, its path and its blocks.
-#[derive(Clone, Copy)]
-pub struct Stored {
-    pub folder: &'static [u8],
-    pub path: &'static [u8],
-    pub blocks: &'static [u8],
-}
+/// A file of a step: its path, which begins with its folder of eight letters, and its blocks.
+pub type Stored = (&'static [u8; 14], &'static [u8]);
 
-/// The first file of the step 0.
-const FIRST_OF_0: Stored = Stored {
-    folder: b"time0000",
-    path: b"time0000/0.bin",
-    blocks: FIRST,
-};
+/// The files of the step 0.
+const FIRST_OF_0: Stored = (b"time0000/0.bin", FIRST);
 
-/// The second one.
-pub const SECOND_OF_0: Stored = Stored {
-    folder: b"time0000",
-    path: b"time0000/2.bin",
-    blocks: SECOND,
-};
+pub const SECOND_OF_0: Stored = (b"time0000/2.bin", SECOND);
 
-/// The first file of the step 0 once more, whose samples are all the letter n.
-pub const NEWER_OF_0: Stored = Stored {
-    folder: b"time0000",
-    path: b"time0000/0.bin",
-    blocks: b"nnnnnnnn",
-};
+/// The first one once more, whose samples are all the letter n.
+pub const NEWER_OF_0: Stored = (b"time0000/0.bin", b"nnnnnnnn");
 
-/// The first file of the step 9.
-pub const FIRST_OF_9: Stored = Stored {
-    folder: b"time0009",
-    path: b"time0009/0.bin",
-    blocks: FIRST,
-};
+/// The files of the step 9.
+pub const FIRST_OF_9: Stored = (b"time0009/0.bin", FIRST);
 
-/// The second one.
-pub const SECOND_OF_9: Stored = Stored {
-    folder: b"time0009",
-    path: b"time0009/2.bin",
-    blocks: SECOND,
-};
+pub const SECOND_OF_9: Stored = (b"time0009/2.bin", SECOND);
 
 /// The step 0.
 const STEP: &[Stored] = &[FIRST_OF_0, SECOND_OF_0];
 
 /// A file in memory.
-fn file_of(alloc: Global, stored: &Stored) -> Result<MemFile, NoMemory> {
+fn file_of(alloc: Global, (path, blocks): &Stored) -> Result<MemFile, NoMemory> {
     let mut bytes = Vec::from_slice(alloc, TABLE)?;
-    bytes.extend_from_slice(stored.blocks)?;
+    bytes.extend_from_slice(blocks)?;
     Ok(MemFile {
-        folder: Bytes::from_slice(alloc, stored.folder)?,
-        path: Bytes::from_slice(alloc, stored.path)?,
+        folder: Bytes::from_slice(alloc, &path[..8])?,
+        path: Bytes::from_slice(alloc, *path)?,
         bytes: Bytes::from_vec(bytes),
     })
 }

@@ -10,8 +10,4 @@ mod heads;
 #[cfg(test)]
 mod questions;
 #[cfg(test)]
-mod replies;
-#[cfg(test)]
 mod serving;
-#[cfg(test)]
-mod workers;

@@ -1,6 +1,5 @@
 //! Links in memory that are served.
-ghost use Rattle.std.specs.Prelude.{◌≡◌, ◌<◌, [], IfOk, length, replicate};
-ghost use Rattle.idx_memory.specs.Memory.{untouched};
+ghost use Rattle.std.specs.Prelude.{◌<◌};
 
 use crate::dataset::Stage;
 use idx_memory::{MemLink, MemReader};
@@ -49,34 +48,21 @@ pub fn serve_alone(alloc: Global, stage: Stage, reader: MemReader, link: MemLink
 /// A link whose input comes in pieces of this length, and of whose calls these fail.
 pub fn link_of(alloc: Global, input: &[u8], piece: u64, fails: &[u64]) -> Result<MemLink, NoMemory>
     requires { 0 < piece }
-    ensures { IfOk result (λ link. link ≡ record {
-      input = record { bytes = input.now; pieces = replicate (length input.now) piece };
-      written = [];
-      readings = [];
-      script = untouched fails.now;
-    }) }
 {
     let pieces = vec![in alloc; piece; input.len()]?;
     let fails = Vec::from_slice(alloc, fails)?;
     Ok(MemLink::new(Bytes::from_slice(alloc, input)?, pieces, fails))
 }
 
-/// Whether a link has ended so, with these bytes written and these entries.
-pub fn has_ended(outcome: &Outcome, end: LinkEnd, written: &[u8], noted: &[Noted]) -> bool {
+/// Whether a link has ended so, with this head and these samples written, and one entry with this status, board and faults.
+pub fn has_ended(
+    outcome: &Outcome,
+    end: LinkEnd,
+    head: &[u8],
+    samples: &[u8],
+    noted: (u16, u64, u64),
+) -> bool {
     outcome.end == end
-        && outcome.link.written().as_slice() == written
-        && are_noted(&outcome.served, noted)
-}
-
-/// What is noted of a head, its target apart: the status, the board, and the faults.
-pub type Noted = (u16, u64, u64);
-
-/// Whether the entries are these, but for their targets.
-pub fn are_noted(served: &[Served], noted: &[Noted]) -> bool {
-    served.len() == noted.len()
-        && served.iter().zip(noted.iter()).all(|(entry, noted)| (
-            entry.status,
-            entry.seen,
-            entry.faults,
-        ) == *noted)
+        && outcome.link.written().as_slice().strip_prefix(head) == Some(samples)
+        && matches!(outcome.served.as_slice(), [only] if (only.status, only.seen, only.faults) == noted)
 }

@@ -1,7 +1,8 @@
-//! A bay in memory that tells a line how much of a step is written.
-use super::{empty_bay, save};
-use idx_outside::{BayFault, Bytes, NoMemory};
-use idx_progress::{Line, Progress, Tally, WatchedBay, write_progress};
+//! A bay and a reader in memory that tell a line how much of a step is written or read.
+use super::{bytes_of, empty_bay, file_front, one_file, save};
+use idx_memory::{MemBay, MemReader};
+use idx_outside::{Bay, BayFault, Bytes, NoMemory};
+use idx_progress::{Line, Progress, Tally, WatchedBay, WatchedReader, write_progress};
 use std::alloc::{AllocError, Global};
 use std::test::Fail;
 
@@ -48,6 +49,29 @@ fn a_watched_bay_tells_what_is_written(rt: HostRuntime) -> Result<(), Fail> {
         written: 2,
     };
     assert!(rt; told(&rt, b"text", 9)? == (unknown, Ok(())));
+    Ok(())
+}
+
+/// What is told of the two bytes of a file that is looked for and read, and whether they were. This read fails.
+fn told_of_reading(rt: &HostRuntime, fails: u64) -> Result<(Progress, bool), Fail> {
+    let alloc = rt.alloc();
+    let Some(line) = Line::begin(alloc, *rt, rt.stderr()) else {
+        return Err(NoMemory)?;
+    };
+    let text = bytes_of(alloc, TWO_FILES)?;
+    let files = MemBay::new(text, one_file(alloc)?, Vec::new(alloc), Vec::new(alloc));
+    let mut bay = WatchedBay::new(alloc, files, line.share());
+    let mut reader = WatchedReader::new(MemReader::new(vec![in alloc; fails]?), line.share());
+    let mut into = Bytes::new(alloc);
+    bay.header(&mut into)?;
+    let read = file_front(&mut bay, &mut reader, &[116, 47, 48]).is_ok();
+    Ok((line.progress(), read))
+}
+
+#[test]
+fn a_watched_reader_tells_what_is_read(rt: HostRuntime) -> Result<(), Fail> {
+    assert!(rt; told_of_reading(&rt, 2)? == (of_two_files(1, 2), true));
+    assert!(rt; told_of_reading(&rt, 1)? == (of_two_files(1, 0), false));
     Ok(())
 }
 
