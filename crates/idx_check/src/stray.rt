@@ -209,12 +209,28 @@ fn first_set(bytes: &[u8]) -> Option<usize>
         × ((i : ℕ) → i < at → slice_index bytes.now i ≡ 0)) }
     ensures none { IfNone result ((i : ℕ) → i < length bytes.now → slice_index bytes.now i ≡ 0) }
 {
+    if are_zeros(bytes) {
+        return None;
+    }
     for at in 0..bytes.len() {
         if bytes[at] != 0 {
             return Some(at);
         }
     }
     None
+}
+
+/// Whether all bytes are zeros. Each is looked at, whatever was found before it, so that many are looked at together.
+fn are_zeros(bytes: &[u8]) -> bool
+    ensures { IsTrue result ↔ ((i : ℕ) → i < length bytes.now → slice_index bytes.now i ≡ 0) }
+{
+    let mut all = true;
+    for at in 0..bytes.len() {
+        if bytes[at] != 0 {
+            all = false;
+        }
+    }
+    all
 }
 
 /// Whether all of 2^bits addresses are surely those of points of the box.
