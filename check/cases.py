@@ -244,10 +244,13 @@ def convert(bench: Bench, made: Made, step: int, texts: Sequence[bytes] | None =
 
 
 def draw_options(random: Random, command: bytes) -> list[bytes]:
-    """Options of a command, of those that change nothing of what it does."""
+    """Options of a command: counts, which change nothing of what it does, and the order of samples in blocks."""
     options = commands.OPTIONS[command]
     chosen = random.sample(sorted(options), random.choice([0, 0, 0, random.randint(0, len(options))]))
-    return [word for name in chosen for word in (name, odd_number(random, draw_count(random, options[name])))]
+    pairs = [[name, odd_number(random, draw_count(random, options[name]))] for name in chosen]
+    if command == b"convert" and chance(random, 40):
+        pairs.insert(random.randint(0, len(pairs)), [b"--layout", random.choice([b"rows", b"rows", b"hz"])])
+    return [word for pair in pairs for word in pair]
 
 
 def draw_count(random: Random, most: int) -> int:
@@ -490,20 +493,24 @@ def other_texts(random: Random) -> list[bytes]:
 
 
 def odd_file(random: Random, header: Header, file: int, raw: bytes) -> bytes:
-    """A right file whose blocks stand in another order with gaps, and whose passed-over words are not 0."""
+    """A right file whose blocks stand in another order with gaps, some with their samples in row-major order, and whose
+    passed-over words are not 0."""
     plain = reference.file_bytes(header, file, raw)
     table = bytearray(random.randbytes(header.table_size()))
     rows = list(range(len(header.fields) * header.blocks_per_file))
     random.shuffle(rows)
-    blocks = b""
+    blocks, rows_share = b"", random.choice([0, 0, 50, 100])
     for place in rows:
         row = reference.read_row(plain, place)
         start = 40 + 40 * place
         struct.pack_into(">4I", table, start + 8, 0, 0, 0, 0)
         if row.size > 0:
             blocks += random.randbytes(random.choice([0, 0, 1, 9]))
-            struct.pack_into(">4I", table, start + 8, len(table) + len(blocks), 0, row.size, 0)
-            blocks += plain[row.offset:row.offset + row.size]
+            flags = 16 if chance(random, rows_share) else 0
+            struct.pack_into(">4I", table, start + 8, len(table) + len(blocks), 0, row.size, flags)
+            samples = plain[row.offset:row.offset + row.size]
+            which, number = divmod(place, header.blocks_per_file)
+            blocks += reference.in_rows(header, which, file + number, samples) if flags else samples
         elif chance(random, 30):
             low, high, flags = (random.getrandbits(32) for _ in range(3))
             struct.pack_into(">4I", table, start + 8, low, high, 0, flags)
@@ -729,6 +736,7 @@ def hostile_words(random: Random) -> list[bytes]:
     return [b"", b" ", b"\t", b"-", b"-1", b"+1", b"0", b"1", b"1.0", b"0x1", b"--help", b"--version", b"-h", b"64",
             b"65", b"(box)", b"(", b"auto", b"V", b"V5", b"V0101", b"v0101", b"V" + b"0" * 40, b"V" + b"01" * 21,
             b"--cache", b"--ranks", b"--links", b"--workers", b"--ingest", b"--raw", b"--cache=64", b"--",
+            b"--layout", b"rows", b"hz",
             b"9" * 19, b"9" * 20, b"0" * 20, b"4294967295", b"4294967296", b"0 3 0 3", b"0 3", b"3 0 0 3",
             b"0 3 0 3 0", b"0\n3 0 3", b"0 3 0 1099511627776", b"0 3\t0 3", b" 0 3 0 3 ", b"0 0 " * 6, b"0 0 " * 5,
             b"0 1099511627775 0 0", b"0 1099511627775 0 1", b"a" * 4096, b"a" * 4097, b"a" * 100_000,
@@ -971,7 +979,7 @@ def put_spread_file(bench: Bench, header: Header, step: int) -> None:
     size = header.fields[0].sample_size() << header.bits_per_block
     present = [row for row in range(header.blocks_per_file) if chance(random, 90)]
     for place, row in enumerate(random.sample(present, len(present))):
-        table[40 + 40 * row:80 + 40 * row] = reference.row_bytes(len(table) + 17 * place, size)
+        table[40 + 40 * row:80 + 40 * row] = reference.row_bytes(len(table) + 17 * place, size, 0)
     content = bytes(table) + random.randbytes(size + 17 * len(present))
     write(bench, reference.file_path(header, step, 0), content)
 

@@ -117,6 +117,8 @@ OPTIONS: dict[bytes, dict[bytes, int]] = {
 """For each command that has options their names, each with the greatest number that may stand behind it."""
 MEANWHILE = {b"--ingest": number_rule, b"--raw": path_rule}
 """The further options of `serve`, both or neither: a step, and its raw volume."""
+LAYOUTS = {b"hz": 0, b"rows": 16}
+"""The orders of samples that may stand behind `--layout` of `convert`, each with the flags of the rows."""
 
 
 def is_utf8(text: bytes) -> bool:
@@ -133,6 +135,8 @@ def option_rules(command: bytes) -> dict[bytes, Rule]:
     def counts(most: int) -> Rule:
         return lambda words: (value := number(words[-1])) is not None and 1 <= value <= most
     rules = {name: counts(most) for name, most in OPTIONS.get(command, {}).items()}
+    if command == b"convert":
+        rules[b"--layout"] = lambda words: words[-1] in LAYOUTS
     return {**rules, **MEANWHILE} if command == b"serve" else rules
 
 
@@ -302,7 +306,8 @@ def convert(words: Sequence[bytes], folder: bytes) -> Outcome:
     paths = {file: os.path.join(beside, file_path(header, step, file, revision)) for file in files_of_step(header)}
     if os.path.lexists(place) or any(map(is_too_long, [staged, *paths.values()])):
         raise Refusal(5, "store fault", put)
-    return Outcome(files=put | {path: file_bytes(header, file, raw) for file, path in paths.items()}, staged=staged)
+    flags = LAYOUTS[dict(zip(words[11::2], words[12::2])).get(b"--layout", b"hz")]
+    return Outcome(files=put | {path: file_bytes(header, file, raw, flags) for file, path in paths.items()}, staged=staged)
 
 
 def field_place(header: Header, name: bytes) -> int:

@@ -150,6 +150,22 @@ def hierarchical_address(point: Point, mask: Mask) -> int:
     return 2 ** (of_level - 1) + z_address(point, mask) // 2 ** (len(mask) - of_level + 1)
 
 
+def point_of_address(address: int, mask: Mask) -> Point:
+    """The point below the mask's size that has an address."""
+    of_level = address.bit_length()
+    z = (2 * address - 2 ** of_level + 1) << (len(mask) - of_level) if of_level else 0
+    point = [0] * (max(mask) + 1)
+    for place, (axis, bit) in enumerate(reversed(bits_of(mask))):
+        point[axis] |= (z >> place) % 2 << bit
+    return tuple(point)
+
+
+@lru_cache(maxsize=4096)
+def row_order(mask: Mask, bits: int, block: int) -> list[int]:
+    """The offsets of a block's addresses in the row-major order of their points, of the box or not."""
+    return sorted(range(2**bits), key=lambda offset: point_of_address((block << bits) + offset, mask)[::-1])
+
+
 def asked_points(region: Box, mask: Mask, low: int, high: int) -> list[Point]:
     """The points of a region whose level is `low` to `high`, in row-major order."""
     return [point for point in points(region) if low <= level(point, mask) <= high]
@@ -545,22 +561,29 @@ def row_number(header: Header, which: int, block: int) -> int:
     return which * header.blocks_per_file + block % header.blocks_per_file
 
 
-def row_bytes(offset: int, size: int) -> bytes:
+def row_bytes(offset: int, size: int, flags: int) -> bytes:
     """The row of a present block."""
     words = [0] * 10
-    words[2], words[3], words[4] = offset % 2**32, offset >> 32, size
+    words[2], words[3], words[4], words[5] = offset % 2**32, offset >> 32, size, flags
     return struct.pack(">10I", *words)
 
 
-def file_bytes(header: Header, file: int, raw: bytes) -> bytes:
-    """A file of a step: its table, and behind it the present blocks, field after field."""
+def in_rows(header: Header, which: int, block: int, samples: bytes) -> bytes:
+    """The samples of a block of a field in the row-major order of their points."""
+    size = header.fields[which].sample_size()
+    order = row_order(header.mask, header.bits_per_block, block)
+    return b"".join(samples[offset * size:offset * size + size] for offset in order)
+
+
+def file_bytes(header: Header, file: int, raw: bytes, flags: int = 0) -> bytes:
+    """A file of a step: its table, and behind it the present blocks, field after field, in the order that the flags name."""
     table, blocks = bytearray(header.table_size()), b""
     inside = [block for block in present_blocks(header) if file_of_block(block, header.blocks_per_file) == file]
     for which, block in product(range(len(header.fields)), inside):
         start = 40 + 40 * row_number(header, which, block)
         samples = block_bytes(header, which, block, raw)
-        table[start:start + 40] = row_bytes(len(table) + len(blocks), len(samples))
-        blocks += samples
+        table[start:start + 40] = row_bytes(len(table) + len(blocks), len(samples), flags)
+        blocks += in_rows(header, which, block, samples) if flags else samples
     return bytes(table) + blocks
 
 
@@ -590,8 +613,6 @@ def row_fault(header: Header, content: bytes, place: int) -> str | None:
         return None
     if row.flags not in (0, 16):
         return "Compressed"
-    if row.flags == 16:
-        return "RowMajor"
     if row.size != header.fields[place // header.blocks_per_file].sample_size() << header.bits_per_block:
         return "WrongSize"
     if row.offset < header.table_size() or row.offset + row.size > len(content):
@@ -620,7 +641,8 @@ def stored_sample(header: Header, which: int, address: int, contents: dict[int, 
     row = row_of_block(header, which, block, contents)
     if row is None or row.size == 0:
         return bytes(size)
-    start = row.offset + inside * size
+    place = inside if row.flags == 0 else row_order(header.mask, header.bits_per_block, block).index(inside)
+    start = row.offset + place * size
     return contents[file_of_block(block, header.blocks_per_file)][start:start + size]
 
 
@@ -721,3 +743,4 @@ def check_example() -> None:
     for content in given.values():
         assert [read_row(content, place) for place in range(2)] == [Row(120, 4, 0), Row(124, 4, 0)]
         assert content[:40] == bytes(40)
+    assert [row_order(header.mask, 2, block) for block in range(4)] == [[0, 1, 2, 3], [0, 2, 1, 3], [0, 1, 2, 3], [0, 1, 2, 3]]

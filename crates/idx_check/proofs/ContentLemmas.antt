@@ -4,21 +4,21 @@ use Rattle.std.specs.Prelude.{All, Option, find, filter, replicate, slice_get, s
 use Rattle.std.specs.Option.{option_map_or}
 use Rattle.std.specs.List.{flat_map, list_any, range_with_len, zip}
 use Rattle.std.proofs.Math.Nat.{div-eq_of_lt-le, mod-lt}
-use Rattle.std.proofs.lemmas.Bool.{eqb-true}
+use Rattle.std.proofs.lemmas.Bool.{eq-eqb, eqb-true}
 use Rattle.std.proofs.lemmas.Nat.{pow_pos}
 use Rattle.std.proofs.lemmas.List.{get_or-map, length-drop, length-map, length-replicate, length-take-le}
 use Rattle.std.proofs.lemmas.List.Elements.{All-from_get_or}
-use Rattle.std.proofs.lemmas.Option.{get_or_from_slice_get, slice_get_within}
+use Rattle.std.proofs.lemmas.Option.{get_or_from_slice_get, slice_get-get_or, slice_get_within}
 use Rattle.idx_geom.specs.Region.{points}
 use Rattle.idx_geom.specs.Volume.{IsVolume, sample_at}
 use Rattle.idx_geom.proofs.PointsLemmas.{LiesIn-slice_get}
 use Rattle.idx_hz.specs.Address.{hz_address}
-use Rattle.idx_layout.specs.declared.layout.Layout.{Layout}
+use Rattle.idx_rowmajor.specs.declared.layout.Layout.{Layout}
 use Rattle.idx_layout.specs.Layout.{arranged}
 use Rattle.idx_layout.specs.Content.{field_in, sample_in, volume_in}
 use Rattle.idx_layout.specs.Files.{block_in_file, file_bytes, rows_of_file}
 use Rattle.idx_layout.specs.Placing.{Placing, block_bytes, block_of_samples, is_present, present_blocks, stored_sample}
-use Rattle.idx_layout.proofs.ListLemmas.{list_any-slice_get}
+use Rattle.idx_layout.proofs.ListLemmas.{list_any-slice_get, passing}
 use Rattle.idx_table.specs.Row.{row_bytes}
 use Rattle.idx_check.specs.Wanted.{is_of_box}
 
@@ -167,9 +167,9 @@ same_file layout l file this that have =
     ∙ ap (λ k. flat_map (block_in_file layout l size (field_in l that k)) (present_blocks l file)) (sym here)))
 
 -- ---- volumes
--- the blocks of a content have their lengths
+-- the present blocks of a content have their lengths
 pub record HasLengths (l : Placing) (content : ℕ → ℕ → List ℕ) : Type 0 where
-  pub lengths : (field block : ℕ) → field < length l.sizes → length (content field block) ≡ block_bytes l field
+  pub lengths : (field block : ℕ) → field < length l.sizes → is_present l block ≡ true → length (content field block) ≡ block_bytes l field
 
 length-piece : (size n j : ℕ) (bytes : List ℕ) → length bytes ≡ size * n → j < n → length (take size (drop (size * j) bytes)) ≡ size
 length-piece size n j bytes whole within =
@@ -179,8 +179,13 @@ length-piece size n j bytes whole within =
     cut : (n j : ℕ) → j < n → n ≡ j + 1 + (n - j - 1)
     cut n j within = omega arith
 
+-- the block of a point of the box is present
+present_at : (l : Placing) (address i : ℕ) (p : List ℕ) → slice_get (points l.region) i ≡ Some p → hz_address l.mask p ≡ address → is_present l (address / 2 ^ l.bits) ≡ true
+present_at l address i p at here =
+    list_any-slice_get (λ p. hz_address l.mask p / 2 ^ l.bits == address / 2 ^ l.bits) (points l.region) i p at (eq-eqb (hz_address l.mask p / 2 ^ l.bits) (address / 2 ^ l.bits) (ap (λ a. a / 2 ^ l.bits) here))
+
 pub length-sample_of : (l : Placing) (content : ℕ → ℕ → List ℕ) (field address : ℕ) → HasLengths l content → field < length l.sizes → length (sample_of l content field address) ≡ slice_index l.sizes field
-length-sample_of l content field address has within = by_test (is_of_box l address)
+length-sample_of l content field address has within = by_test (is_of_box l address) refl
   where
     size : ℕ
     size = slice_index l.sizes field
@@ -188,14 +193,18 @@ length-sample_of l content field address has within = by_test (is_of_box l addre
     piece : List ℕ
     piece = take size (drop (size * (address % 2 ^ l.bits)) (content field (address / 2 ^ l.bits)))
 
-    by_test : (b : Bool) → length (cond b piece (replicate size 0)) ≡ size
-    by_test true = length-piece size (2 ^ l.bits) (address % 2 ^ l.bits) (content field (address / 2 ^ l.bits)) (has.lengths field (address / 2 ^ l.bits) within) (mod-lt address (pow_pos l.bits))
-    by_test false = length-replicate size 0
+    by_test : (b : Bool) → is_of_box l address ≡ b → length (cond b piece (replicate size 0)) ≡ size
+    by_test true is =
+        let at = passing (λ p. hz_address l.mask p == address) (points l.region) is in
+        let present : is_present l (address / 2 ^ l.bits) ≡ true = present_at l address at.0 at.1 at.2 (eqb-true (hz_address l.mask at.1) address at.3) in
+        length-piece size (2 ^ l.bits) (address % 2 ^ l.bits) (content field (address / 2 ^ l.bits)) (has.lengths field (address / 2 ^ l.bits) within present) (mod-lt address (pow_pos l.bits))
+    by_test false is = length-replicate size 0
 
-length-sample_in : (l : Placing) (content : ℕ → ℕ → List ℕ) (field : ℕ) (p : List ℕ) → HasLengths l content → field < length l.sizes → length (sample_in l content field p) ≡ slice_index l.sizes field
-length-sample_in l content field p has within =
+length-sample_in : (l : Placing) (content : ℕ → ℕ → List ℕ) (field i : ℕ) (p : List ℕ) → HasLengths l content → field < length l.sizes → slice_get (points l.region) i ≡ Some p →
+    length (sample_in l content field p) ≡ slice_index l.sizes field
+length-sample_in l content field i p has within at =
     let address : ℕ = hz_address l.mask p in
-    length-piece (slice_index l.sizes field) (2 ^ l.bits) (address % 2 ^ l.bits) (content field (address / 2 ^ l.bits)) (has.lengths field (address / 2 ^ l.bits) within) (mod-lt address (pow_pos l.bits))
+    length-piece (slice_index l.sizes field) (2 ^ l.bits) (address % 2 ^ l.bits) (content field (address / 2 ^ l.bits)) (has.lengths field (address / 2 ^ l.bits) within (present_at l address i p at refl)) (mod-lt address (pow_pos l.bits))
 
 fields_fill : (sizes : List ℕ) (n : ℕ) (of : ℕ → List (List ℕ)) (a : ℕ) →
     ((i : ℕ) → i < length sizes → (length (of (a + i)) ≡ n) × All (λ sample. length sample ≡ slice_index sizes i) (of (a + i))) →
@@ -218,6 +227,7 @@ volume_fills l content has = fields_fill l.sizes (length (points l.region)) (fie
     subst (λ k. (length (field_in l content k) ≡ length (points l.region)) × All (λ sample. length sample ≡ slice_index l.sizes field) (field_in l content k)) here (
       length-map (points l.region) (sample_in l content field),
       All-from_get_or (λ sample. length sample ≡ slice_index l.sizes field) (field_in l content field) [] (λ i less.
-          ap length (get_or-map (sample_in l content field) (points l.region) i [] [] (omega (arith, less, length-map (points l.region) (sample_in l content field))))
-          ∙ length-sample_in l content field (get_or (points l.region) i []) has within),
+          let there : i < length (points l.region) = omega (arith, less, length-map (points l.region) (sample_in l content field)) in
+          ap length (get_or-map (sample_in l content field) (points l.region) i [] [] there)
+          ∙ length-sample_in l content field i (get_or (points l.region) i []) has within (slice_get-get_or (points l.region) i [] there)),
     ))

@@ -1,5 +1,5 @@
 -- What a step stores of its files, where they have the writer's table.
-use Rattle.std.proofs.Common.{◌≡◌, ℕ, zero, suc, ◌+◌, ◌-◌, ◌*◌, ◌%◌, ◌<◌, ◌≤◌, Bool, true, false, cond, List, [], ◌∷◌, length, take, drop, get_or, Some, None, refl, sym, ap, subst, ◌∙◌, arith, zero-add, eqb-true}
+use Rattle.std.proofs.Common.{◌≡◌, ℕ, zero, suc, ◌+◌, ◌-◌, ◌*◌, ◌%◌, ◌^◌, ◌<◌, ◌≤◌, Bool, true, false, cond, List, [], ◌∷◌, length, take, drop, get_or, Some, None, refl, sym, ap, subst, ◌∙◌, arith, zero-add, eqb-true}
 use Rattle.std.specs.Prelude.{Option, nat_lt, replicate, slice_get, slice_index, ◌==◌}
 use Rattle.std.specs.Option.{option_map}
 use Rattle.std.specs.List.{cons_option, filter_map, list_any}
@@ -19,18 +19,22 @@ use Rattle.idx_table.specs.declared.row.Row.{Row}
 use Rattle.idx_table.specs.declared.table_fault.TableFault.{TableFault}
 use Rattle.idx_header.specs.Header.{HeaderValue, IsHeader}
 use Rattle.idx_header.specs.Names.{file_name}
-use Rattle.idx_layout.specs.declared.layout.Layout.TheVariants.{Hz}
+use Rattle.idx_rowmajor.specs.RowPlace.{IsBlock}
+use Rattle.idx_rowmajor.specs.declared.layout.Layout.TheVariants.{Hz}
+use Rattle.idx_rowmajor.proofs.HeaderLemmas.{IsBlock-header}
 use Rattle.idx_layout.specs.Content.{volume_in}
 use Rattle.idx_layout.specs.Files.{FitsRows, file_bytes, length_of_file, offset_of, row_count, row_of_block, rows_of_file}
 use Rattle.idx_layout.specs.OfHeader.{placing_of}
 use Rattle.idx_layout.specs.Placing.{Placing, block_bytes, file_numbers, file_of, is_present}
 use Rattle.idx_layout.specs.Shape.{block_lengths}
+use Rattle.idx_layout.proofs.ArrangedLemmas.{length-in_hz_order}
 use Rattle.idx_layout.proofs.FileLemmas.{length-file_bytes, rows_of-file_bytes}
 use Rattle.idx_layout.proofs.HeaderLemmas.{fits_rows}
 use Rattle.idx_layout.proofs.ListLemmas.{passing}
+use Rattle.idx_layout.proofs.PresentLemmas.{absent-past}
 use Rattle.idx_layout.proofs.RightLemmas.{ends_within, row_at_place, rows_fit}
 use Rattle.idx_edition.specs.Stored.{bad_table, block_in, fault_of_bytes, fault_of_file, file_of_block, first_bad, row_in, stored_block}
-use Rattle.idx_edition.specs.Tables.{EndWithin, IsTable}
+use Rattle.idx_edition.specs.Tables.{EndWithin, IsTable, order_of}
 use Rattle.idx_edition.proofs.AbsentLemmas.{some_block}
 use Rattle.idx_edition.proofs.FrontLemmas.{rows-right}
 use Rattle.idx_edition.proofs.LookupLemmas.{field_of_place, place_in_file, place_within}
@@ -77,7 +81,7 @@ block_at_row : (l : Placing) (bytes : List ℕ) (file field block : ℕ) → row
 block_at_row l bytes file field block row present some =
     let size : ℕ = block_bytes l field in
     let there : Row = record { offset = offset_of l file field block; size = size; flags = 0 } in
-    let taken : Row → List ℕ = λ r. cond (nat_lt 0 r.size) (take size (drop r.offset bytes)) (replicate size 0) in
+    let taken : Row → List ℕ = λ r. cond (nat_lt 0 r.size) (order_of l field block r.flags (take size (drop r.offset bytes))) (replicate size 0) in
     ap taken (row ∙ ap (λ (b : Bool). cond b there absent) present)
     ∙ ap (λ (b : Bool). cond b (take size (drop (offset_of l file field block) bytes)) (replicate size 0)) (lt-ltb 0 size some)
 
@@ -134,15 +138,19 @@ nothing_first {X = X} {Y = Y} f (y ∷ ys) none i x at = by_answer (nothing_firs
     by_answer more None is (suc i) at =
         more (sym (ap (λ o. slice_get (cons_option o (filter_map f ys)) 0) is) ∙ none) i x at
 
+-- what is not at an end or past it is before it
+some_below : (n k : ℕ) → (n ≤ k → ⊥) → k < n
+some_below n k past = omega (arith, past)
+
 no_fault_in : (file : ℕ) (o : Option TableFault) → option_map (bad_table file) o ≡ None → o ≡ None
 no_fault_in file None e = refl
 no_fault_in file (Some fault) e = let wrong : Some (bad_table file fault) ≡ None = e in absurd (cc)
 
 module _ (h : HeaderValue) (step : ℕ) (files : List MemFile) (is : IsHeader h) (sound : first_bad h step files ≡ None) where
-  -- a block of a file that is there has its length
-  length_in : (bytes : List ℕ) (field block : ℕ) → field < length (placing_of h).sizes → first_fault bytes (row_count (placing_of h)) (block_lengths (placing_of h)) (length bytes) ≡ None →
+  -- a present block of a file that is there has its length
+  length_in : (bytes : List ℕ) (field block : ℕ) → field < length (placing_of h).sizes → is_present (placing_of h) block ≡ true → first_fault bytes (row_count (placing_of h)) (block_lengths (placing_of h)) (length bytes) ≡ None →
       length (block_in (placing_of h) (Some bytes) field block) ≡ block_bytes (placing_of h) field
-  length_in bytes field block exists none = by_size (nat_lt 0 row.size) refl
+  length_in bytes field block exists present none = by_size (nat_lt 0 row.size) refl
     where
       l : Placing
       l = placing_of h
@@ -173,9 +181,16 @@ module _ (h : HeaderValue) (step : ℕ) (files : List MemFile) (is : IsHeader h)
       right : IsTable (block_lengths l) h.blocks_per_file (rows_of bytes (row_count l)) × EndWithin (rows_of bytes (row_count l)) (length bytes)
       right = rows-right bytes (length l.sizes) h.blocks_per_file (block_lengths l) (length bytes) (fits_rows h 0 is).fields (length-map-range_with_len (block_bytes l) 0 (length l.sizes)) none
 
-      by_size : (b : Bool) → nat_lt 0 row.size ≡ b → length (cond (nat_lt 0 row.size) (take size (drop row.offset bytes)) (replicate size 0)) ≡ size
+      taken : List ℕ
+      taken = take size (drop row.offset bytes)
+
+      is_block : IsBlock h.mask (length h.box) h.block_bits block
+      is_block = IsBlock-header h block is (some_below (2 ^ (length h.mask - h.block_bits)) block (λ past.
+          let wrong : true ≡ false = sym present ∙ absent-past h.mask h.box h.block_bits block is.bits_within past in cc))
+
+      by_size : (b : Bool) → nat_lt 0 row.size ≡ b → length (cond (nat_lt 0 row.size) (order_of l field block row.flags taken) (replicate size 0)) ≡ size
       by_size false e =
-          ap (λ (b : Bool). length (cond b (take size (drop row.offset bytes)) (replicate size 0))) e ∙ length-replicate size 0
+          ap (λ (b : Bool). length (cond b (order_of l field block row.flags taken) (replicate size 0))) e ∙ length-replicate size 0
       by_size true e =
           let some : 0 < row.size = ltb-true 0 row.size e in
           let whole : row.size ≡ size =
@@ -183,24 +198,25 @@ module _ (h : HeaderValue) (step : ℕ) (files : List MemFile) (is : IsHeader h)
           ∙ ap (slice_index (block_lengths l)) (field_of_place field place h.blocks_per_file few)
           ∙ get_or-map-range_with_len (block_bytes l) 0 (length l.sizes) field field 0 exists (zero-add field) in
           let ends : row.offset + row.size ≤ length bytes = right.1.ends n row at some in
-          ap (λ (b : Bool). length (cond b (take size (drop row.offset bytes)) (replicate size 0))) e
-          ∙ length-take-le size (drop row.offset bytes) (omega (arith, whole, ends, length-drop row.offset bytes))
+          ap (λ (b : Bool). length (cond b (order_of l field block row.flags taken) (replicate size 0))) e
+          ∙ length-in_hz_order l (slice_index l.sizes field) block row.flags taken is_block
+          (length-take-le size (drop row.offset bytes) (omega (arith, whole, ends, length-drop row.offset bytes)))
 
   -- what it stores are blocks of their lengths
   pub stored_lengths : HasLengths (placing_of h) (stored_block h step files)
-  stored_lengths = record { lengths = λ field block exists. of_block field block exists (list_any (λ f. f == file_of (placing_of h) block) (file_numbers (placing_of h))) refl (file_at (file_name h step (file_of (placing_of h) block)) files) refl }
+  stored_lengths = record { lengths = λ field block exists present. of_block field block exists present (list_any (λ f. f == file_of (placing_of h) block) (file_numbers (placing_of h))) refl (file_at (file_name h step (file_of (placing_of h) block)) files) refl }
     where
-      of_block : (field block : ℕ) → field < length (placing_of h).sizes → (b : Bool) → list_any (λ f. f == file_of (placing_of h) block) (file_numbers (placing_of h)) ≡ b →
+      of_block : (field block : ℕ) → field < length (placing_of h).sizes → is_present (placing_of h) block ≡ true → (b : Bool) → list_any (λ f. f == file_of (placing_of h) block) (file_numbers (placing_of h)) ≡ b →
           (o : Option (List ℕ)) → file_at (file_name h step (file_of (placing_of h) block)) files ≡ o →
           length (stored_block h step files field block) ≡ block_bytes (placing_of h) field
-      of_block field block exists false listed o found =
+      of_block field block exists present false listed o found =
           ap (λ (b : Bool). length (block_in (placing_of h) (cond b (file_at (file_name h step (file_of (placing_of h) block)) files) None) field block)) listed
           ∙ length-replicate (block_bytes (placing_of h) field) 0
-      of_block field block exists true listed None found =
+      of_block field block exists present true listed None found =
           ap (λ (b : Bool). length (block_in (placing_of h) (cond b (file_at (file_name h step (file_of (placing_of h) block)) files) None) field block)) listed
           ∙ ap (λ o. length (block_in (placing_of h) o field block)) found
           ∙ length-replicate (block_bytes (placing_of h) field) 0
-      of_block field block exists true listed (Some bytes) found =
+      of_block field block exists present true listed (Some bytes) found =
           let l : Placing = placing_of h in
           let file : ℕ = file_of l block in
           let at = passing (λ f. f == file) (file_numbers l) listed in
@@ -210,4 +226,4 @@ module _ (h : HeaderValue) (step : ℕ) (files : List MemFile) (is : IsHeader h)
           no_fault_in file (first_fault bytes (row_count l) (block_lengths l) (length bytes)) (sym (ap (fault_of_bytes l file) found) ∙ none) in
           ap (λ (b : Bool). length (block_in l (cond b (file_at (file_name h step file) files) None) field block)) listed
           ∙ ap (λ o. length (block_in l o field block)) found
-          ∙ length_in bytes field block exists right
+          ∙ length_in bytes field block exists present right

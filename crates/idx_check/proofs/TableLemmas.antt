@@ -6,7 +6,7 @@ use Rattle.std.proofs.lemmas.Option.{slice_get_within}
 use Rattle.idx_table.specs.Row.{absent, row_bytes}
 use Rattle.idx_table.specs.Table.{table_bytes}
 use Rattle.idx_table.specs.declared.row.Row.{Row}
-use Rattle.idx_layout.specs.declared.layout.Layout.TheVariants.{Hz}
+use Rattle.idx_rowmajor.specs.declared.layout.Layout.TheVariants.{Hz}
 use Rattle.idx_layout.specs.Files.{row_count, rows_of_file}
 use Rattle.idx_layout.specs.Placing.{Placing}
 use Rattle.idx_layout.proofs.FileLemmas.{length-rows_of_file}

@@ -12,7 +12,7 @@ use Rattle.idx_table.specs.Table.{first_fault}
 use Rattle.idx_header.specs.declared.steps.Steps.{Steps}
 use Rattle.idx_header.specs.Header.{AreSteps, HeaderValue, IsHeader}
 use Rattle.idx_header.specs.Names.{file_name, name_with}
-use Rattle.idx_layout.specs.declared.layout.Layout.TheVariants.{Hz}
+use Rattle.idx_rowmajor.specs.declared.layout.Layout.TheVariants.{Hz}
 use Rattle.idx_layout.specs.Content.{volume_in}
 use Rattle.idx_layout.specs.Files.{file_bytes, row_count}
 use Rattle.idx_layout.specs.OfHeader.{placing_of}

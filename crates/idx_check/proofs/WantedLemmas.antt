@@ -17,8 +17,8 @@ use Rattle.idx_table.specs.Table.{table_bytes}
 use Rattle.idx_table.specs.declared.row.Row.{Row}
 use Rattle.idx_table.proofs.ReadBackLemmas.{length-row_bytes, length-written}
 use Rattle.idx_header.specs.Header.{HeaderValue, IsHeader}
-use Rattle.idx_layout.specs.declared.layout.Layout.{Layout}
-use Rattle.idx_layout.specs.declared.layout.Layout.TheVariants.{Hz}
+use Rattle.idx_rowmajor.specs.declared.layout.Layout.{Layout}
+use Rattle.idx_rowmajor.specs.declared.layout.Layout.TheVariants.{Hz}
 use Rattle.idx_layout.specs.Content.{field_in}
 use Rattle.idx_layout.specs.Files.{blocks_of_file, file_bytes, length_of_file, offset_of, row_count, rows_of_file}
 use Rattle.idx_layout.specs.OfHeader.{placing_of}
@@ -36,7 +36,7 @@ bytes_from-byte bytes at count i within = get_or-map-range_with_len (slice_index
 
 pub there_lengths : (l : Placing) (file : ℕ) (bytes : List ℕ) → HasLengths l (block_there l file bytes)
 there_lengths l file bytes = record {
-  lengths = λ field block within. length-bytes_from bytes (offset_of l file field block) (block_bytes l field);
+  lengths = λ field block within present. length-bytes_from bytes (offset_of l file field block) (block_bytes l field);
 }
 
 -- the samples that a file has are a volume

@@ -3,7 +3,7 @@ use Rattle.std.specs.Prelude.{◌≡◌, ℕ, ◌+◌, ◌*◌, ◌/◌, ◌^◌
 use Rattle.idx_table.specs.Row.{row_bytes, row_length}
 use Rattle.idx_table.specs.Table.{table_bytes}
 use Rattle.idx_table.specs.declared.row.Row.{Row}
-use Rattle.idx_layout.specs.declared.layout.Layout.TheVariants.{Hz}
+use Rattle.idx_rowmajor.specs.declared.layout.Layout.TheVariants.{Hz}
 use Rattle.idx_layout.specs.Files.{offset_of, rows_of_file}
 use Rattle.idx_layout.specs.Placing.{Placing, block_bytes, is_present}
 use Rattle.idx_check.specs.Wanted.{is_of_box}

@@ -3,7 +3,7 @@ use Rattle.std.specs.Prelude.{ℕ, Bool, ◌==◌, List, map, slice_index}
 use Rattle.std.specs.List.{list_any, range_with_len}
 use Rattle.idx_geom.specs.Region.{points}
 use Rattle.idx_hz.specs.Address.{hz_address}
-use Rattle.idx_layout.specs.declared.layout.Layout.TheVariants.{Hz}
+use Rattle.idx_rowmajor.specs.declared.layout.Layout.TheVariants.{Hz}
 use Rattle.idx_layout.specs.Content.{volume_in}
 use Rattle.idx_layout.specs.Files.{file_bytes, offset_of}
 use Rattle.idx_layout.specs.Placing.{Placing, block_bytes}

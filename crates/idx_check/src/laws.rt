@@ -5,7 +5,7 @@ ghost use Rattle.idx_outside.specs.declared.mem_file.MemFile.{MemFile};
 ghost use Rattle.idx_header.specs.Header.{HeaderValue, IsHeader};
 ghost use Rattle.idx_table.specs.Row.{row_bytes, row_length};
 ghost use Rattle.idx_table.specs.Table.{table_bytes};
-ghost use Rattle.idx_layout.specs.declared.layout.Layout.{Layout};
+ghost use Rattle.idx_rowmajor.specs.declared.layout.Layout.{Layout};
 ghost use Rattle.idx_layout.specs.Content.{volume_in};
 ghost use Rattle.idx_layout.specs.Files.{length_of_file, offset_of, row_count, rows_of_file};
 ghost use Rattle.idx_layout.specs.OfHeader.{placing_of};

@@ -12,8 +12,9 @@ ghost use Rattle.idx_check.specs.Stray.{IsFirstBetween};
 use crate::CheckFault;
 use crate::piece::{Piece, Stretch};
 use idx_header::Header;
-use idx_layout::{Layout, file_rows, table_len};
+use idx_layout::{file_rows, table_len};
 use idx_outside::{Leaf, Reader};
+use idx_rowmajor::Layout;
 use idx_table::{ABSENT, ROW_BYTES, Row, write_row};
 
 /// The least place of a byte of a file's table that is not the writer's. The file has `there` bytes.

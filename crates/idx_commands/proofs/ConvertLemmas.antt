@@ -13,6 +13,7 @@ use Rattle.idx_header.specs.HeaderOf.{header_of}
 use Rattle.idx_header.specs.OfBay.{IsFaultOfSome}
 use Rattle.idx_header.specs.Revisions.{header_to_write}
 use Rattle.idx_gather.specs.Gather.{HasFolder, LacksVolume, NoneFalls, too_large}
+use Rattle.idx_rowmajor.specs.declared.layout.Layout.{Layout}
 use Rattle.idx_convert.specs.declared.convert_fault.ConvertFault.{ConvertFault}
 use Rattle.idx_convert.specs.declared.convert_fault.ConvertFault.TheVariants as faults
 use Rattle.idx_convert.specs.Convert.{Asks, AsksFor, Begins, Converted, Differs, Ends, IsCause, IsEarly, IsFailedCall, IsRight, LeavesFailed, Suits, Takes, put_where_none}
@@ -63,13 +64,13 @@ IsFull h step files = header_to_write h step files ≡ None
 next_not_full : (h : HeaderValue) (step : ℕ) (files : List MemFile) → HasNext h step files → IsFull h step files → ⊥
 next_not_full h step files some none = false≢true (subst IsSome none some)
 
-module _ (text : List ℕ) (step : ℕ) (k : Known) where
+module _ (layout : Layout) (text : List ℕ) (step : ℕ) (k : Known) where
   abbrev C : ConvertFault → Type 0
   C fault = IsCause text step k fault
 
   -- which call of the bay failed
   abbrev F : ConvertFault → Type 0
-  F fault = LeavesFailed {T = Unit {0}} text step k (Err fault)
+  F fault = LeavesFailed {T = Unit {0}} layout text step k (Err fault)
 
   abbrev st : ConvertFault → ℕ
   st fault = status_of (cause_of_fault step fault)
@@ -157,7 +158,7 @@ module _ (text : List ℕ) (step : ℕ) (k : Known) where
     late faults.NoMemory c = tt
 
     -- the call that failed: where what stands does not suit, the first one, and where something is wrong, one of the first two
-    header_call : (IfSome k.header (Suits h) → ⊥) → (call : Option BayCall) → IsFailedCall text step k call → call ≡ Some calls.Header
+    header_call : (IfSome k.header (Suits h) → ⊥) → (call : Option BayCall) → IsFailedCall layout text step k call → call ≡ Some calls.Header
     header_call wrong (Some calls.Header) f = refl
     header_call wrong (Some calls.HasStep) f = absurd (wrong (of_header (λ g. IfSome k.header (Suits g)) f.1))
     header_call wrong (Some calls.SetHeader) f = absurd (wrong (of_header (λ g. IsRight g step k) f.2).0.suits)
@@ -168,7 +169,7 @@ module _ (text : List ℕ) (step : ℕ) (k : Known) where
     header_call wrong (Some calls.Leaf) f = absurd f
     header_call wrong None f = absurd f
 
-    first_call : (IsRight h step k → ⊥) → (call : Option BayCall) → IsFailedCall text step k call → (call ≡ Some calls.Header) ⊎ (call ≡ Some calls.HasStep)
+    first_call : (IsRight h step k → ⊥) → (call : Option BayCall) → IsFailedCall layout text step k call → (call ≡ Some calls.Header) ⊎ (call ≡ Some calls.HasStep)
     first_call wrong (Some calls.Header) f = inl refl
     first_call wrong (Some calls.HasStep) f = inr refl
     first_call wrong (Some calls.SetHeader) f = absurd (wrong (of_header (λ g. IsRight g step k) f.2))
@@ -254,22 +255,22 @@ module _ (text : List ℕ) (step : ℕ) (k : Known) where
 
 -- The end of a run of `convert` under the one header text that its words ask for: this is so of its status where it is so of
 -- status 0 if the step was written, of want of memory, and of each fault.
-judged : (P : ℕ → Type 0) (c : ConvertValue) (k : Known) (text : List ℕ) → IsBuilt c text → (Converted text c.step k → P 0) → P 11 →
-    ((fault : ConvertFault) → C text c.step k fault → F text c.step k fault → P (status_of (cause_of_fault c.step fault))) →
+judged : (P : ℕ → Type 0) (c : ConvertValue) (k : Known) (text : List ℕ) → IsBuilt c text → (Converted c.layout text c.step k → P 0) → P 11 →
+    ((fault : ConvertFault) → C c.layout text c.step k fault → F c.layout text c.step k fault → P (status_of (cause_of_fault c.step fault))) →
     (cause : Cause) → ConvertMeans c k cause → P (status_of cause)
 judged P c k text built done starved failed = end
   where
     same : (other : List ℕ) → IsBuilt c other → other ≡ text
     same other is = IsBuilt-once c other text is built
 
-    fails : (cause : Cause) → Fails text c.step k cause → P (status_of cause)
+    fails : (cause : Cause) → Fails c.layout text c.step k cause → P (status_of cause)
     fails cause f = subst (λ x. P (status_of x)) (sym f.is) (failed f.fault f.caused f.failed)
 
-    at : (cause : Cause) (other : List ℕ) → IsBuilt c other → Fails other c.step k cause → P (status_of cause)
-    at cause other is f = fails cause (subst (λ x. Fails x c.step k cause) (same other is) f)
+    at : (cause : Cause) (other : List ℕ) → IsBuilt c other → Fails c.layout other c.step k cause → P (status_of cause)
+    at cause other is f = fails cause (subst (λ x. Fails c.layout x c.step k cause) (same other is) f)
 
     end : (cause : Cause) → ConvertMeans c k cause → P (status_of cause)
-    end causes.Done (other, (is, wrote)) = done (subst (λ x. Converted x c.step k) (same other is) wrote)
+    end causes.Done (other, (is, wrote)) = done (subst (λ x. Converted c.layout x c.step k) (same other is) wrote)
     end (causes.Usage place) ends = absurd ends
     end causes.SinkFault ends = absurd ends
     end causes.DoorFault ends = absurd ends
@@ -278,33 +279,33 @@ judged P c k text built done starved failed = end
 
 module _ (c : ConvertValue) (k : Known) (cause : Cause) (ends : ConvertMeans c k cause) where
   -- what was converted has the header that was asked for
-  wrote_for : (text : List ℕ) (step : ℕ) (h : HeaderValue) → AsksFor text step h → (wrote : Converted text step k) → (P : HeaderValue → Type 0) → P wrote.header → P h
+  wrote_for : (text : List ℕ) (step : ℕ) (h : HeaderValue) → AsksFor text step h → (wrote : Converted c.layout text step k) → (P : HeaderValue → Type 0) → P wrote.header → P h
   wrote_for text step h asked wrote P = subst P (one_header text wrote.header h wrote.asked.reads asked.reads)
 
   pub bad_text_ends : (text : List ℕ) → IsBuilt c text → IsBadText text c.step → (status_of cause ≡ 2) ⊎ (status_of cause ≡ 11)
   bad_text_ends text built bad =
       judged (λ s. (s ≡ 2) ⊎ (s ≡ 11)) c k text built
       (λ wrote. absurd (not_err text wrote.header wrote.asked.reads bad)) (inr refl)
-      (λ fault caused call. bad_text text c.step k fault caused bad) cause ends
+      (λ fault caused call. bad_text c.layout text c.step k fault caused bad) cause ends
 
   pub no_step_ends : (text : List ℕ) → IsBuilt c text → LacksStep text c.step → (status_of cause ≡ 8) ⊎ (status_of cause ≡ 11)
   no_step_ends text built lacks =
       judged (λ s. (s ≡ 8) ⊎ (s ≡ 11)) c k text built
-      (λ wrote. absurd (not_lacking text c.step k wrote.header wrote.asked lacks)) (inr refl)
-      (λ fault caused call. no_step text c.step k fault caused lacks) cause ends
+      (λ wrote. absurd (not_lacking c.layout text c.step k wrote.header wrote.asked lacks)) (inr refl)
+      (λ fault caused call. no_step c.layout text c.step k fault caused lacks) cause ends
 
   pub too_large_ends : (text : List ℕ) → IsBuilt c text → IsTooLarge text c.step → (status_of cause ≡ 8) ⊎ (status_of cause ≡ 11)
   too_large_ends text built large =
       judged (λ s. (s ≡ 8) ⊎ (s ≡ 11)) c k text built
-      (λ wrote. absurd (not_large text c.step k wrote.header wrote.asked large)) (inr refl)
-      (λ fault caused call. too_many text c.step k fault caused large) cause ends
+      (λ wrote. absurd (not_large c.layout text c.step k wrote.header wrote.asked large)) (inr refl)
+      (λ fault caused call. too_many c.layout text c.step k fault caused large) cause ends
 
   pub bad_standing_ends : (text : List ℕ) → IsBuilt c text → MeetsBadHeader k.header text c.step →
       (status_of cause ≡ 2) ⊎ (FailsAtHeader (status_of cause) k.failed_after ⊎ (status_of cause ≡ 11))
   bad_standing_ends text built (h, (asked, bad)) =
       judged (λ s. (s ≡ 2) ⊎ (FailsAtHeader s k.failed_after ⊎ (s ≡ 11))) c k text built
       (λ wrote. absurd (both_hold k.header (Suits wrote.header) _ (suits_not_bad wrote.header) wrote.taken.suits bad)) (inr (inr refl))
-      (λ fault caused call. bad_standing text c.step k h asked bad fault call (late text c.step k h asked fault caused)) cause ends
+      (λ fault caused call. bad_standing c.layout text c.step k h asked bad fault call (late c.layout text c.step k h asked fault caused)) cause ends
 
   pub other_header_ends : (text : List ℕ) → IsBuilt c text → MeetsOtherHeader k.header text c.step →
       (status_of cause ≡ 6) ⊎ (FailsAtHeader (status_of cause) k.failed_after ⊎ (status_of cause ≡ 11))
@@ -312,7 +313,7 @@ module _ (c : ConvertValue) (k : Known) (cause : Cause) (ends : ConvertMeans c k
       judged (λ s. (s ≡ 6) ⊎ (FailsAtHeader s k.failed_after ⊎ (s ≡ 11))) c k text built
       (λ wrote. let taken = wrote_for text c.step h asked wrote (λ g. Takes g c.step k.header k.files) wrote.taken in
       absurd (both_hold k.header (Suits h) (Differs h) (suits_not_differs h) taken.suits other)) (inr (inr refl))
-      (λ fault caused call. other_header text c.step k h asked other fault call (late text c.step k h asked fault caused)) cause ends
+      (λ fault caused call. other_header c.layout text c.step k h asked other fault call (late c.layout text c.step k h asked fault caused)) cause ends
 
   pub published_ends : (text : List ℕ) → IsBuilt c text → MeetsStep k.header k.files text c.step →
       (status_of cause ≡ 6) ⊎ (FailsFirst (status_of cause) k.failed_after ⊎ (status_of cause ≡ 11))
@@ -320,7 +321,7 @@ module _ (c : ConvertValue) (k : Known) (cause : Cause) (ends : ConvertMeans c k
       judged (λ s. (s ≡ 6) ⊎ (FailsFirst s k.failed_after ⊎ (s ≡ 11))) c k text built
       (λ wrote. let taken = wrote_for text c.step h asked wrote (λ g. Takes g c.step k.header k.files) wrote.taken in
       absurd (both_hold k.files (HasNext h c.step) (IsFull h c.step) (next_not_full h c.step) taken.next stands)) (inr (inr refl))
-      (λ fault caused call. published text c.step k h asked suits stands fault call (late text c.step k h asked fault caused)) cause ends
+      (λ fault caused call. published c.layout text c.step k h asked suits stands fault call (late c.layout text c.step k h asked fault caused)) cause ends
 
   pub other_length_ends : (text : List ℕ) → IsBuilt c text → IsFree k.header k.files k.raw HasOtherLength text c.step →
       (status_of cause ≡ 3) ⊎ ((status_of cause ≡ 4) ⊎ (FailsFirst (status_of cause) k.failed_after ⊎ (status_of cause ≡ 11)))
@@ -328,22 +329,22 @@ module _ (c : ConvertValue) (k : Known) (cause : Cause) (ends : ConvertMeans c k
       judged (λ s. (s ≡ 3) ⊎ ((s ≡ 4) ⊎ (FailsFirst s k.failed_after ⊎ (s ≡ 11)))) c k text built
       (λ wrote. let size = wrote_for text c.step h asked wrote (λ g. IfSome k.raw (HasRightLength g)) wrote.size in
       absurd (both_hold k.raw (HasRightLength h) (HasOtherLength h) (λ bytes right wrong. wrong right) size other)) (inr (inr (inr refl)))
-      (λ fault caused call. other_length text c.step k h asked suits new other fault call (late text c.step k h asked fault caused)) cause ends
+      (λ fault caused call. other_length c.layout text c.step k h asked suits new other fault call (late c.layout text c.step k h asked fault caused)) cause ends
 
   pub complete_ends : (text : List ℕ) → IsBuilt c text → IsFree k.header k.files k.raw HasRightLength text c.step →
       ¬ SomeRose k.raw_before k.raw_after → ¬ Rose k.bay_before k.bay_after → (status_of cause ≡ 0) ⊎ (status_of cause ≡ 11)
   complete_ends text built (h, (asked, (suits, new, right))) raw_quiet bay_quiet =
       judged (λ s. (s ≡ 0) ⊎ (s ≡ 11)) c k text built
       (λ wrote. inl refl) (inr refl)
-      (λ fault caused call. complete text c.step k h asked suits new right raw_quiet bay_quiet fault (late text c.step k h asked fault caused)) cause ends
+      (λ fault caused call. complete c.layout text c.step k h asked suits new right raw_quiet bay_quiet fault (late c.layout text c.step k h asked fault caused)) cause ends
 
 -- a fault of the raw volume or of the store has its cause
-only_raw : (text : List ℕ) (step : ℕ) (k : Known) (fault : ConvertFault) → cause_of_fault step fault ≡ causes.RawFault → C text step k fault →
+only_raw : (text : List ℕ) (step : ℕ) (k : Known) (fault : ConvertFault) → cause_of_fault step fault ≡ causes.RawFault → IsCause text step k fault →
     SomeRose k.raw_before k.raw_after
 only_raw text step k faults.RawFault is c = c.1.1.1
 only_raw text step k _ is c = absurd cc
 
-only_store : (text : List ℕ) (step : ℕ) (k : Known) (fault : ConvertFault) → cause_of_fault step fault ≡ causes.StoreFault → C text step k fault →
+only_store : (text : List ℕ) (step : ℕ) (k : Known) (fault : ConvertFault) → cause_of_fault step fault ≡ causes.StoreFault → IsCause text step k fault →
     Rose k.bay_before k.bay_after
 only_store text step k faults.StoreFault is c = c.1.1
 only_store text step k _ is c = absurd cc
@@ -378,7 +379,7 @@ cause_of_end step (Err fault) = cause_of_fault step fault
 
 -- what a cause says, by the answer of the conversion
 module _ (c : ConvertValue) (text : List ℕ) (built : IsBuilt c text) (k : Known) where
-  fails : (fault : ConvertFault) → Ends {T = Unit {0}} text c.step k (Err fault) → Fails text c.step k (cause_of_fault c.step fault)
+  fails : (fault : ConvertFault) → Ends {T = Unit {0}} c.layout text c.step k (Err fault) → Fails c.layout text c.step k (cause_of_fault c.step fault)
   fails fault e =
       record {
         fault = fault;
@@ -390,7 +391,7 @@ module _ (c : ConvertValue) (text : List ℕ) (built : IsBuilt c text) (k : Know
         failed = e.failed;
       }
 
-  starves : Ends {T = Unit {0}} text c.step k (Err faults.NoMemory) → ConvertMeans c k causes.NoMemory
+  starves : Ends {T = Unit {0}} c.layout text c.step k (Err faults.NoMemory) → ConvertMeans c k causes.NoMemory
   starves e = record { files = e.files; header = put e.header; failed = e.failed }
     where
       put : (k.header_after ≡ k.header) ⊎ (k.header_after ≡ put_where_none text k.header) →
@@ -398,7 +399,7 @@ module _ (c : ConvertValue) (text : List ℕ) (built : IsBuilt c text) (k : Know
       put (inl same) = inl same
       put (inr there) = inr (text, (built, there))
 
-  means : (result : Result (Unit {0}) ConvertFault) → Ends {T = Unit {0}} text c.step k result → ConvertMeans c k (cause_of_end c.step result)
+  means : (result : Result (Unit {0}) ConvertFault) → Ends {T = Unit {0}} c.layout text c.step k result → ConvertMeans c k (cause_of_end c.step result)
   means (Ok done) e = (text, (built, e.converted))
   means (Err (faults.Header line kind)) e = (text, (built, fails (faults.Header line kind) e))
   means (Err faults.NoStep) e = (text, (built, fails faults.NoStep e))
@@ -411,8 +412,8 @@ module _ (c : ConvertValue) (text : List ℕ) (built : IsBuilt c text) (k : Know
   means (Err faults.NoMemory) e = starves e
 
   -- the call that failed, by the status
-  failed_five : (result : Result (Unit {0}) ConvertFault) → Ends {T = Unit {0}} text c.step k result → status_of (cause_of_end c.step result) ≡ 5 →
-      AsksForText c (λ text. IsFailedCall text c.step k k.failed_after)
+  failed_five : (result : Result (Unit {0}) ConvertFault) → Ends {T = Unit {0}} c.layout text c.step k result → status_of (cause_of_end c.step result) ≡ 5 →
+      AsksForText c (λ text. IsFailedCall c.layout text c.step k k.failed_after)
   failed_five (Ok done) e five = absurd (omega (arith, five))
   failed_five (Err (faults.Header line kind)) e five = absurd (omega (arith, five))
   failed_five (Err faults.NoStep) e five = absurd (omega (arith, five))
@@ -424,7 +425,7 @@ module _ (c : ConvertValue) (text : List ℕ) (built : IsBuilt c text) (k : Know
   failed_five (Err faults.StoreFault) e five = (text, (built, e.failed))
   failed_five (Err faults.NoMemory) e five = absurd (omega (arith, five))
 
-  unfailed : (result : Result (Unit {0}) ConvertFault) → Ends {T = Unit {0}} text c.step k result → ¬ (status_of (cause_of_end c.step result) ≡ 5) →
+  unfailed : (result : Result (Unit {0}) ConvertFault) → Ends {T = Unit {0}} c.layout text c.step k result → ¬ (status_of (cause_of_end c.step result) ≡ 5) →
       k.failed_after ≡ k.failed
   unfailed (Ok done) e other = e.failed
   unfailed (Err (faults.Header line kind)) e other = e.failed
@@ -438,12 +439,12 @@ module _ (c : ConvertValue) (text : List ℕ) (built : IsBuilt c text) (k : Know
   unfailed (Err faults.NoMemory) e other = e.failed
 
   -- what is found before the bay is changed
-  keeps : (result : Result (Unit {0}) ConvertFault) → Ends {T = Unit {0}} text c.step k result → IsEarlyCause k.raw (cause_of_end c.step result) → KeepsBay k
+  keeps : (result : Result (Unit {0}) ConvertFault) → Ends {T = Unit {0}} c.layout text c.step k result → IsEarlyCause k.raw (cause_of_end c.step result) → KeepsBay k
   keeps (Ok done) e early = absurd early
   keeps (Err fault) e early = e.early (early_fault k.raw c.step fault early)
 
   -- a header text is asked for, and no other
-  unread : (result : Result (Unit {0}) ConvertFault) → Ends {T = Unit {0}} text c.step k result →
+  unread : (result : Result (Unit {0}) ConvertFault) → Ends {T = Unit {0}} c.layout text c.step k result →
       AsksForText c (λ text. Asks text c.step (λ h. LacksVolume h k.raw)) → k.asked_after ≡ k.asked_before
   unread result e (other, (is, lacks)) =
       e.unasked (subst (λ x. Asks x c.step (λ h. LacksVolume h k.raw)) (IsBuilt-once c other text is built) lacks)
@@ -453,11 +454,11 @@ module _ (c : ConvertValue) (text : List ℕ) (built : IsBuilt c text) (k : Know
   begins (inl same) = inl same
   begins (inr there) = inr (text, (built, there))
 
-  raw_answered : (result : Result (Unit {0}) ConvertFault) → Ends {T = Unit {0}} text c.step k result → SomeHigher k.raw_before k.raw_after →
+  raw_answered : (result : Result (Unit {0}) ConvertFault) → Ends {T = Unit {0}} c.layout text c.step k result → SomeHigher k.raw_before k.raw_after →
       cause_of_end c.step result ≡ causes.RawFault
   raw_answered result e more = ap (cause_of_end c.step) (e.raw_answered more)
 
-  store_answered : (result : Result (Unit {0}) ConvertFault) → Ends {T = Unit {0}} text c.step k result → k.bay_before < k.bay_after →
+  store_answered : (result : Result (Unit {0}) ConvertFault) → Ends {T = Unit {0}} c.layout text c.step k result → k.bay_before < k.bay_after →
       cause_of_end c.step result ≡ causes.StoreFault
   store_answered result e more = ap (cause_of_end c.step) (e.store_answered more)
 
@@ -476,7 +477,7 @@ module _ {V B : Type 0} (c : ConvertValue) (raws : RawsSeen V) (bay : BaySeen B)
       (SomeHigher (raws_before raws) (raws_after raws) → cause ≡ causes.RawFault) → (bay_before bay < bay_after bay → cause ≡ causes.StoreFault) →
       (IsEarlyCause k.raw cause → KeepsBay k) →
       (AsksForText c (λ text. Asks text c.step (λ h. LacksVolume h k.raw)) → k.asked_after ≡ k.asked_before) →
-      (status_of cause ≡ 5 → AsksForText c (λ text. IsFailedCall text c.step k k.failed_after)) →
+      (status_of cause ≡ 5 → AsksForText c (λ text. IsFailedCall c.layout text c.step k k.failed_after)) →
       (¬ (status_of cause ≡ 5) → k.failed_after ≡ k.failed) →
       (k.begun_after ≡ k.begun) ⊎ AsksForText c (λ text. Asks text c.step (λ h. Begins h c.step k)) →
       RawsKept → NeverFalls (bay_before bay) (bay_after bay) → ConvertEnds c raws bay cause
@@ -504,17 +505,17 @@ module _ {V B : Type 0} (c : ConvertValue) (raws : RawsSeen V) (bay : BaySeen B)
         bay_count = count;
       }
 
-  ended : (text : List ℕ) (result : Result (Unit {0}) ConvertFault) → IsBuilt c text → Ends {T = Unit {0}} text c.step k result →
+  ended : (text : List ℕ) (result : Result (Unit {0}) ConvertFault) → IsBuilt c text → Ends {T = Unit {0}} c.layout text c.step k result →
       RawsKept → ConvertEnds c raws bay (cause_of_end c.step result)
   ended text result built e kept =
       ends_by (cause_of_end c.step result) (means c text built k result e) (raw_answered c text built k result e) (store_answered c text built k result e)
       (keeps c text built k result e) (unread c text built k result e) (failed_five c text built k result e) (unfailed c text built k result e)
       (begins c text built k e.begun) kept e.count
 
-  -- the header text was made, and the conversion of this step ended with this answer
-  pub convert_ends : (text : List ℕ) (step : ℕ) (result : Result (Unit {0}) ConvertFault) (cause : Cause) → step ≡ c.step → cause ≡ cause_of_end step result →
-      IsBuilt c text → Ends {T = Unit {0}} text step k result → RawsKept → ConvertEnds c raws bay cause
-  convert_ends text step result cause same is built e kept =
+  -- the header text was made, and the conversion of this step in this layout ended with this answer
+  pub convert_ends : (text : List ℕ) (layout : Layout) (step : ℕ) (result : Result (Unit {0}) ConvertFault) (cause : Cause) → layout ≡ c.layout → step ≡ c.step → cause ≡ cause_of_end step result →
+      IsBuilt c text → Ends {T = Unit {0}} layout text step k result → RawsKept → ConvertEnds c raws bay cause
+  convert_ends text layout step result cause one same is built e kept =
       subst (ConvertEnds c raws bay) (sym is)
       (subst (λ s. ConvertEnds c raws bay (cause_of_end s result)) (sym same)
-      (ended text result built (subst (λ s. Ends {T = Unit {0}} text s k result) same e) kept))
+      (ended text result built (subst (λ s. Ends {T = Unit {0}} c.layout text s k result) same (subst (λ (l : Layout). Ends {T = Unit {0}} l text step k result) one e)) kept))

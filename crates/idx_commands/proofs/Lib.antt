@@ -13,3 +13,4 @@ pub mod RunLemmas
 pub mod AnswerLemmas
 pub mod HostedLemmas
 pub mod LiveLemmas
+pub mod WrittenLemmas

@@ -4,6 +4,7 @@ use Rattle.idx_outside.specs.Cause.{NeverFalls, Rose}
 use Rattle.idx_outside.specs.Objects.{SameContents}
 use Rattle.idx_outside.specs.declared.bay_call.BayCall.{BayCall}
 use Rattle.idx_outside.specs.declared.bay_call.BayCall.TheVariants as calls
+use Rattle.idx_rowmajor.specs.declared.layout.Layout.{Layout}
 use Rattle.idx_gather.specs.Gather.{LacksVolume, NoneFalls}
 use Rattle.idx_words.specs.ConvertValue.{ConvertValue}
 use Rattle.idx_words.specs.Built.{IsBuilt}
@@ -37,14 +38,14 @@ AsksForText c P = (text : List ℕ) × (IsBuilt c text × P text)
 
 -- Nothing was written, but perhaps the header text where none stood, or the step whole where a call on the bay failed: this
 -- fault has its cause, leaves what it may, also of the bytes asked of the raw volumes, and tells which call of the bay failed.
-pub record Fails (text : List ℕ) (step : ℕ) (k : Known) (cause : Cause) : Type 0 where
+pub record Fails (layout : Layout) (text : List ℕ) (step : ℕ) (k : Known) (cause : Cause) : Type 0 where
   pub fault : ConvertFault
   pub is : cause ≡ cause_of_fault step fault
   pub caused : IsCause text step k fault
   pub header : LeavesHeader text k fault
-  pub files : LeavesFiles text step k fault
+  pub files : LeavesFiles layout text step k fault
   pub asked : LeavesAsked k fault
-  pub failed : LeavesFailed {T = Unit {0}} text step k (Err fault)
+  pub failed : LeavesFailed {T = Unit {0}} layout text step k (Err fault)
 
 -- There was not enough memory. No file was added, and the header text is the one that stood, or the text where none stood; and no
 -- call of the bay failed.
@@ -55,12 +56,12 @@ pub record Starves (c : ConvertValue) (k : Known) : Type 0 where
 
 -- what each cause says; no other cause comes
 abbrev pub ConvertMeans : ConvertValue → Known → Cause → Type 0
-ConvertMeans c k causes.Done = AsksForText c (λ text. Converted text c.step k)
+ConvertMeans c k causes.Done = AsksForText c (λ text. Converted c.layout text c.step k)
 ConvertMeans c k (causes.Usage at) = ⊥
 ConvertMeans c k causes.SinkFault = ⊥
 ConvertMeans c k causes.DoorFault = ⊥
 ConvertMeans c k causes.NoMemory = Starves c k
-ConvertMeans c k cause = AsksForText c (λ text. Fails text c.step k cause)
+ConvertMeans c k cause = AsksForText c (λ text. Fails c.layout text c.step k cause)
 
 -- The run ended for what can be known before the first change: for the header that is asked for, for what stands, or for the
 -- length of a raw volume whose bytes are known.
@@ -86,8 +87,8 @@ AsksToConvert c P = AsksForText c (λ text. P text c.step)
 
 -- How a run ends with this cause.
 pub record ConvertEnds {V B : Type 0} (c : ConvertValue) (raws : RawsSeen V) (bay : BaySeen B) (cause : Cause) : Type 0 where
-  -- What the cause says: at Done exactly the files of the step at the next revision were added, and the header text put where
-  -- none stood; at each other one no file was, but at StoreFault all of them may be, and the cause is there. Of a raw volume
+  -- What the cause says: at Done exactly the files of the step at the next revision were added, in the layout that the words ask
+  -- for, and the header text put where none stood; at each other one no file was, but at StoreFault all of them may be, and the cause is there. Of a raw volume
   -- whose bytes are known none is asked for where its length is wrong, or something that comes before.
   pub means : ConvertMeans c (known raws bay) cause
   -- each refusal comes where it is due, but for faults that come before, and want of memory
@@ -115,7 +116,7 @@ pub record ConvertEnds {V B : Type 0} (c : ConvertValue) (raws : RawsSeen V) (ba
   pub unread : AsksForText c (λ text. Asks text c.step (λ h. LacksVolume h (raw_bytes raws))) →
       raws_asked_after raws ≡ raws_asked_before raws
   -- the calls of the bay come in their order, as the one that failed tells; at any other cause none failed
-  pub failed : status_of cause ≡ 5 → AsksForText c (λ text. IsFailedCall text c.step (known raws bay) (bay.failed bay.new))
+  pub failed : status_of cause ≡ 5 → AsksForText c (λ text. IsFailedCall c.layout text c.step (known raws bay) (bay.failed bay.new))
   pub unfailed : ¬ (status_of cause ≡ 5) → bay.failed bay.new ≡ bay.failed bay.old
   -- no step is begun but the one that is asked for, at some revision, and the next one where the committed files are known
   pub begun : (bay.begun bay.new ≡ bay.begun bay.old)

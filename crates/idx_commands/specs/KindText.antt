@@ -26,7 +26,6 @@ kind_text kinds.NoMemory = codes "NoMemory"
 abbrev pub table_kind_text : TableKind → List ℕ
 table_kind_text tables.CutShort = codes "CutShort"
 table_kind_text tables.Compressed = codes "Compressed"
-table_kind_text tables.RowMajor = codes "RowMajor"
 table_kind_text tables.WrongSize = codes "WrongSize"
 table_kind_text tables.OutsideFile = codes "OutsideFile"
 table_kind_text tables.NoMemory = codes "NoMemory"

@@ -84,6 +84,7 @@ where
         text.as_slice(),
         words.step,
         words.ranks,
+        words.layout,
         raws,
         bay,
     ) {

@@ -34,7 +34,6 @@ pub fn table_kind_text(kind: TableKind) -> &'static str
     match kind {
         TableKind::CutShort => "CutShort",
         TableKind::Compressed => "Compressed",
-        TableKind::RowMajor => "RowMajor",
         TableKind::WrongSize => "WrongSize",
         TableKind::OutsideFile => "OutsideFile",
         TableKind::NoMemory => "NoMemory",

@@ -7,7 +7,8 @@ use Rattle.idx_outside.specs.declared.bay_call.BayCall.TheVariants as calls
 use Rattle.idx_header.specs.Header.{HeaderValue, volume_bytes}
 use Rattle.idx_header.specs.HeaderOf.{header_of}
 use Rattle.idx_header.specs.Revisions.{IsRevisionOf}
-use Rattle.idx_gather.specs.Gather.{HasVolume, IsCaused, IsFailedCall as IsFailedGather, LacksVolume, Leaves, LeavesFailed as LeavesFailedGather, SomeStepAdded}
+use Rattle.idx_rowmajor.specs.declared.layout.Layout.{Layout}
+use Rattle.idx_gather.specs.Gather.{HasVolume, IsCaused, IsFailedCall as IsFailedGather, LacksVolume, LeavesAs, LeavesFailed as LeavesFailedGather, SomeStepAddedAs}
 use Rattle.idx_gather.specs.declared.gather_fault.GatherFault.{GatherFault}
 use Rattle.idx_gather.specs.declared.gather_fault.GatherFault.TheVariants as gathers
 use Rattle.idx_convert.specs.declared.convert_fault.ConvertFault.{ConvertFault}
@@ -33,7 +34,7 @@ pub none_higher : (before after : List ℕ) → after ≡ before → SomeHigher 
 none_higher before after same (i, (within, more)) =
     let at : slice_index after i ≡ slice_index before i = ap (λ counts. slice_index counts i) same in omega (arith, at, more)
 
-module _ (text : List ℕ) (step : ℕ) (k : Known) where
+module _ (layout : Layout) (text : List ℕ) (step : ℕ) (k : Known) where
   header_kept : (fault : ConvertFault) → k.header_after ≡ k.header → LeavesHeader text k fault
   header_kept (faults.RawWrongSize want found) same = inl same
   header_kept faults.RawFault same = inl same
@@ -41,7 +42,7 @@ module _ (text : List ℕ) (step : ℕ) (k : Known) where
   header_kept faults.NoMemory same = inl same
   header_kept fault same = same
 
-  files_kept : (fault : ConvertFault) → k.files_after ≡ k.files → LeavesFiles text step k fault
+  files_kept : (fault : ConvertFault) → k.files_after ≡ k.files → LeavesFiles layout text step k fault
   files_kept faults.StoreFault same = inl same
   files_kept fault same = same
 
@@ -57,14 +58,14 @@ module _ (text : List ℕ) (step : ℕ) (k : Known) where
   none_asked fault same = same
 
   none_failed : (fault : ConvertFault) → ◌≢◌ {A = Result (Unit {0}) ConvertFault} (Err fault) (Err faults.StoreFault) → k.failed_after ≡ k.failed →
-      LeavesFailed {T = Unit {0}} text step k (Err fault)
+      LeavesFailed {T = Unit {0}} layout text step k (Err fault)
   none_failed faults.StoreFault other same = absurd (other refl)
   none_failed fault other same = same
 
   -- A refusal before anything is asked of the raw volume or of the bay.
   pub asked_ends : (fault : ConvertFault) → IsCause text step k fault → ◌≢◌ {A = Result (Unit {0}) ConvertFault} (Err fault) (Err faults.StoreFault) →
       KeepsBay k → k.asked_after ≡ k.asked_before → k.failed_after ≡ k.failed → k.raw_after ≡ k.raw_before → k.bay_after ≡ k.bay_before →
-      Ends {T = Unit {0}} text step k (Err fault)
+      Ends {T = Unit {0}} layout text step k (Err fault)
   asked_ends fault cause other keeps unasked unfailed raw_same bay_same =
       record {
         converted = tt;
@@ -96,9 +97,9 @@ module _ (text : List ℕ) (step : ℕ) (k : Known) where
 
   -- The step was written under this header.
   pub written_ends : (h written : HeaderValue) → AsksFor text step h → Takes h step k.header k.files → HasVolume h k.raw →
-      IsRevisionOf h written → IsNext h step k.files written → SomeStepAdded written step k.raw k.files k.files_after →
+      IsRevisionOf h written → IsNext h step k.files written → SomeStepAddedAs layout written step k.raw k.files k.files_after →
       HasPut text k → BeginsAt written step k →
-      k.failed_after ≡ k.failed → k.raw_after ≡ k.raw_before → k.bay_after ≡ k.bay_before → Ends {T = Unit {0}} text step k (Ok tt)
+      k.failed_after ≡ k.failed → k.raw_after ≡ k.raw_before → k.bay_after ≡ k.bay_before → Ends {T = Unit {0}} layout text step k (Ok tt)
   written_ends h written asked taken size revised next added put begun unfailed raw_same bay_same =
       record {
         converted = record {
@@ -140,13 +141,13 @@ module _ (text : List ℕ) (step : ℕ) (k : Known) where
     stop_cause faults.StoreFault c = (h, (asked, c.0))
     stop_cause faults.NoMemory c = tt
 
-    first_call : (call : Option BayCall) → IsFirstCall h k call → IsFailedCall text step k call
+    first_call : (call : Option BayCall) → IsFirstCall h k call → IsFailedCall layout text step k call
     first_call (Some calls.Header) c = keeps
     first_call (Some calls.HasStep) c = (keeps, (h, (asked, c)))
     first_call call c = absurd c
 
     stop_failed : (fault : ConvertFault) → IsStop h step k fault → (◌≢◌ {A = ConvertFault} fault faults.StoreFault → k.failed_after ≡ k.failed) →
-        LeavesFailed {T = Unit {0}} text step k (Err fault)
+        LeavesFailed {T = Unit {0}} layout text step k (Err fault)
     stop_failed faults.StoreFault c unfailed = first_call k.failed_after c.1
     stop_failed (faults.Header line kind) c unfailed = unfailed (λ e. cc)
     stop_failed faults.NoStep c unfailed = unfailed (λ e. cc)
@@ -160,7 +161,7 @@ module _ (text : List ℕ) (step : ℕ) (k : Known) where
     pub stop_ends : (fault : ConvertFault) → IsStop h step k fault → k.asked_after ≡ k.asked_before →
         (◌≢◌ {A = ConvertFault} fault faults.StoreFault → k.failed_after ≡ k.failed) →
         (SomeHigher k.raw_before k.raw_after → fault ≡ faults.RawFault) → (k.bay_before < k.bay_after → fault ≡ faults.StoreFault) →
-        k.bay_before ≤ k.bay_after → Ends {T = Unit {0}} text step k (Err fault)
+        k.bay_before ≤ k.bay_after → Ends {T = Unit {0}} layout text step k (Err fault)
     stop_ends fault stop unasked unfailed raw_more bay_more count =
         record {
           converted = tt;
@@ -181,7 +182,7 @@ module _ (text : List ℕ) (step : ℕ) (k : Known) where
   -- A refusal of the gathering, behind the header's text and the beginning of the step.
   module _ (h written : HeaderValue) (asked : AsksFor text step h) (taken : Takes h step k.header k.files) (size : HasVolume h k.raw)
       (revised : IsRevisionOf h written) (next : IsNext h step k.files written) (put : HasPut text k) (begun : BeginsAt written step k) where
-    added_converted : SomeStepAdded written step k.raw k.files k.files_after → Converted text step k
+    added_converted : SomeStepAddedAs layout written step k.raw k.files k.files_after → Converted layout text step k
     added_converted added = record {
       header = h;
       written = written;
@@ -226,11 +227,11 @@ module _ (text : List ℕ) (step : ℕ) (k : Known) where
     gathered_header (gathers.StoreFault count) c = inr put
     gathered_header gathers.NoMemory c = inr put
 
-    added_or_not : (k.files_after ≡ k.files) ⊎ SomeStepAdded written step k.raw k.files k.files_after → (k.files_after ≡ k.files) ⊎ Converted text step k
+    added_or_not : (k.files_after ≡ k.files) ⊎ SomeStepAddedAs layout written step k.raw k.files k.files_after → (k.files_after ≡ k.files) ⊎ Converted layout text step k
     added_or_not (inl same) = inl same
     added_or_not (inr added) = inr (added_converted added)
 
-    gathered_files : (fault : GatherFault) → Leaves written step k.raw k.files k.files_after fault → LeavesFiles text step k (cause_of_gather fault)
+    gathered_files : (fault : GatherFault) → LeavesAs layout written step k.raw k.files k.files_after fault → LeavesFiles layout text step k (cause_of_gather fault)
     gathered_files (gathers.RawWrongSize want found) same = same
     gathered_files (gathers.RawFault rank count) same = same
     gathered_files (gathers.StoreFault count) left = added_or_not left
@@ -248,14 +249,14 @@ module _ (text : List ℕ) (step : ℕ) (k : Known) where
     gathered_asked (gathers.StoreFault count) c = tt
     gathered_asked gathers.NoMemory c = tt
 
-    failed_call : (left : (k.files_after ≡ k.files) ⊎ SomeStepAdded written step k.raw k.files k.files_after) (call : Option BayCall) → IsFailedGather k.files k.files_after call → IsFailedCall text step k call
+    failed_call : (left : (k.files_after ≡ k.files) ⊎ SomeStepAddedAs layout written step k.raw k.files k.files_after) (call : Option BayCall) → IsFailedGather k.files k.files_after call → IsFailedCall layout text step k call
     failed_call left (Some calls.Create) same = (same, put, begins)
     failed_call left (Some calls.Retire) same = (same, put, begins)
     failed_call left (Some calls.Commit) done = (added_or_not left, put, begins)
     failed_call left call wrong = absurd wrong
 
-    gathered_failed : {T : Type 0} (r : Result T GatherFault) (fault : GatherFault) → r ≡ Err fault → Leaves written step k.raw k.files k.files_after fault →
-        LeavesFailedGather k.files k.files_after k.failed k.failed_after r → LeavesFailed {T = Unit {0}} text step k (Err (cause_of_gather fault))
+    gathered_failed : {T : Type 0} (r : Result T GatherFault) (fault : GatherFault) → r ≡ Err fault → LeavesAs layout written step k.raw k.files k.files_after fault →
+        LeavesFailedGather k.files k.files_after k.failed k.failed_after r → LeavesFailed {T = Unit {0}} layout text step k (Err (cause_of_gather fault))
     gathered_failed r (gathers.RawWrongSize want found) is left failed = subst (LeavesFailedGather k.files k.files_after k.failed k.failed_after) is failed
     gathered_failed r (gathers.RawFault rank count) is left failed = subst (LeavesFailedGather k.files k.files_after k.failed k.failed_after) is failed
     gathered_failed r (gathers.StoreFault count) is left failed = failed_call left k.failed_after (subst (LeavesFailedGather k.files k.files_after k.failed k.failed_after) is failed)
@@ -273,8 +274,8 @@ module _ (text : List ℕ) (step : ℕ) (k : Known) where
     store_told (gathers.StoreFault count) c more = refl
     store_told gathers.NoMemory c more = absurd (omega (arith, c.2, more))
 
-    pub gathered_ends : {T : Type 0} (r : Result T GatherFault) (fault : GatherFault) → r ≡ Err fault → IsCaused written k.raw k.raw_before k.raw_after k.bay_before k.bay_after fault → Leaves written step k.raw k.files k.files_after fault →
-        LeavesFailedGather k.files k.files_after k.failed k.failed_after r → k.bay_before ≤ k.bay_after → Ends {T = Unit {0}} text step k (Err (cause_of_gather fault))
+    pub gathered_ends : {T : Type 0} (r : Result T GatherFault) (fault : GatherFault) → r ≡ Err fault → IsCaused written k.raw k.raw_before k.raw_after k.bay_before k.bay_after fault → LeavesAs layout written step k.raw k.files k.files_after fault →
+        LeavesFailedGather k.files k.files_after k.failed k.failed_after r → k.bay_before ≤ k.bay_after → Ends {T = Unit {0}} layout text step k (Err (cause_of_gather fault))
     gathered_ends r fault is caused left failed count =
         record {
           converted = tt;

@@ -12,7 +12,8 @@ use Rattle.idx_header.specs.HeaderOf.{header_of}
 use Rattle.idx_header.specs.Names.{step_folder}
 use Rattle.idx_header.specs.OfBay.{IsFaultOf, IsFaultOfSome}
 use Rattle.idx_header.specs.Revisions.{IsRevisionOf, header_to_write}
-use Rattle.idx_gather.specs.Gather.{HasFolder, HasVolume, LacksVolume, SomeStepAdded, too_large}
+use Rattle.idx_rowmajor.specs.declared.layout.Layout.{Layout}
+use Rattle.idx_gather.specs.Gather.{HasFolder, HasVolume, LacksVolume, SomeStepAddedAs, too_large}
 use Rattle.idx_convert.specs.declared.convert_fault.ConvertFault.{ConvertFault}
 use Rattle.idx_convert.specs.declared.convert_fault.ConvertFault.TheVariants as faults
 use Rattle.idx_convert.specs.Counts.{SomeHigher, SomeRose}
@@ -63,9 +64,9 @@ BeginsAt written step k = IsSomeAnd (step_folder written step) (λ folder. k.beg
 abbrev pub Begins : HeaderValue → ℕ → Known → Type 0
 Begins h step k = (written : HeaderValue) × (IsRevisionOf h written × IsNext h step k.files written × BeginsAt written step k)
 
--- The step was written: all was as it has to be, exactly the files of the step at the next revision were added, and the header
--- text was put where none stood. For that the step was begun.
-pub record Converted (text : List ℕ) (step : ℕ) (k : Known) : Type 0 where
+-- The step was written: all was as it has to be, exactly the files of the step at the next revision were added, in a layout, and
+-- the header text was put where none stood. For that the step was begun.
+pub record Converted (layout : Layout) (text : List ℕ) (step : ℕ) (k : Known) : Type 0 where
   -- the header of the text, and that header at the revision that was written
   pub header : HeaderValue
   pub written : HeaderValue
@@ -74,7 +75,7 @@ pub record Converted (text : List ℕ) (step : ℕ) (k : Known) : Type 0 where
   pub size : HasVolume header k.raw
   pub revised : IsRevisionOf header written
   pub next : IsNext header step k.files written
-  pub added : SomeStepAdded written step k.raw k.files k.files_after
+  pub added : SomeStepAddedAs layout written step k.raw k.files k.files_after
   pub put : k.header_after ≡ put_where_none text k.header
   pub begun : BeginsAt written step k
 
@@ -109,9 +110,9 @@ LeavesHeader text k fault = k.header_after ≡ k.header
 
 -- What each fault leaves of the committed files: they are those from before. A store's fault may come of the commit itself,
 -- which then may have added the step: whole, where all is as at success.
-abbrev pub LeavesFiles : List ℕ → ℕ → Known → ConvertFault → Type 0
-LeavesFiles text step k faults.StoreFault = (k.files_after ≡ k.files) ⊎ Converted text step k
-LeavesFiles text step k fault = k.files_after ≡ k.files
+abbrev pub LeavesFiles : Layout → List ℕ → ℕ → Known → ConvertFault → Type 0
+LeavesFiles layout text step k faults.StoreFault = (k.files_after ≡ k.files) ⊎ Converted layout text step k
+LeavesFiles layout text step k fault = k.files_after ≡ k.files
 
 -- The fault can be known before the first change: it is one of what is asked for, of what stands, or of the length of a raw
 -- volume whose bytes are known.
@@ -144,36 +145,36 @@ HasPut text k = k.header_after ≡ put_where_none text k.header
 -- What the call of the bay that failed tells, in the order of the calls: the header that stands and the revisions of the step are
 -- asked for first, and only then the bay is changed, by putting the header text, beginning the step, making its files and giving up a
 -- draft, and by the commit, which alone may have added the step. No leaf is asked for.
-abbrev pub IsFailedCall : List ℕ → ℕ → Known → Option BayCall → Type 0
-IsFailedCall text step k (Some calls.Header) = KeepsBay k
-IsFailedCall text step k (Some calls.HasStep) = KeepsBay k × Asks text step (λ h. IfSome k.header (Suits h))
-IsFailedCall text step k (Some calls.SetHeader) =
+abbrev pub IsFailedCall : Layout → List ℕ → ℕ → Known → Option BayCall → Type 0
+IsFailedCall layout text step k (Some calls.Header) = KeepsBay k
+IsFailedCall layout text step k (Some calls.HasStep) = KeepsBay k × Asks text step (λ h. IfSome k.header (Suits h))
+IsFailedCall layout text step k (Some calls.SetHeader) =
     (k.files_after ≡ k.files) × (k.begun_after ≡ k.begun) × Asks text step (λ h. IsRight h step k)
-IsFailedCall text step k (Some calls.BeginStep) =
+IsFailedCall layout text step k (Some calls.BeginStep) =
     (k.files_after ≡ k.files) × (k.begun_after ≡ k.begun) × HasPut text k × Asks text step (λ h. IsRight h step k)
-IsFailedCall text step k (Some calls.Create) =
+IsFailedCall layout text step k (Some calls.Create) =
     (k.files_after ≡ k.files) × HasPut text k × Asks text step (λ h. IsRight h step k × Begins h step k)
-IsFailedCall text step k (Some calls.Retire) =
+IsFailedCall layout text step k (Some calls.Retire) =
     (k.files_after ≡ k.files) × HasPut text k × Asks text step (λ h. IsRight h step k × Begins h step k)
-IsFailedCall text step k (Some calls.Commit) =
-    ((k.files_after ≡ k.files) ⊎ Converted text step k)
+IsFailedCall layout text step k (Some calls.Commit) =
+    ((k.files_after ≡ k.files) ⊎ Converted layout text step k)
     × HasPut text k × Asks text step (λ h. IsRight h step k × Begins h step k)
-IsFailedCall text step k (Some calls.Leaf) = ⊥
-IsFailedCall text step k None = ⊥
+IsFailedCall layout text step k (Some calls.Leaf) = ⊥
+IsFailedCall layout text step k None = ⊥
 
 -- Which call of the bay counted the last fault: at a fault of the store one of this conversion, and else the one from before.
-abbrev pub LeavesFailed : {T : Type 0} → List ℕ → ℕ → Known → Result T ConvertFault → Type 0
-LeavesFailed text step k (Err faults.StoreFault) = IsFailedCall text step k k.failed_after
-LeavesFailed text step k result = k.failed_after ≡ k.failed
+abbrev pub LeavesFailed : {T : Type 0} → Layout → List ℕ → ℕ → Known → Result T ConvertFault → Type 0
+LeavesFailed layout text step k (Err faults.StoreFault) = IsFailedCall layout text step k k.failed_after
+LeavesFailed layout text step k result = k.failed_after ≡ k.failed
 
 -- How a conversion ends with this answer.
-pub record Ends {T : Type 0} (text : List ℕ) (step : ℕ) (k : Known) (result : Result T ConvertFault) : Type 0 where
+pub record Ends {T : Type 0} (layout : Layout) (text : List ℕ) (step : ℕ) (k : Known) (result : Result T ConvertFault) : Type 0 where
   -- the step was added, and the header text put where none stood
-  pub converted : OnOk result (Converted text step k)
+  pub converted : OnOk result (Converted layout text step k)
   -- each refusal has its cause, and leaves the header text and the committed files as its definition says
   pub cause : IfErr result (IsCause text step k)
   pub header : IfErr result (LeavesHeader text k)
-  pub files : IfErr result (LeavesFiles text step k)
+  pub files : IfErr result (LeavesFiles layout text step k)
   -- what can be known before the first change leaves the bay unchanged
   pub early : IfErr result (λ fault. IsEarly k.raw fault → KeepsBay k)
   -- a refusal for what is asked for, for what stands or for a known length comes before a byte is asked of a raw volume; and none
@@ -183,7 +184,7 @@ pub record Ends {T : Type 0} (text : List ℕ) (step : ℕ) (k : Known) (result 
   -- no step is begun but the one that is asked for, at its next revision
   pub begun : (k.begun_after ≡ k.begun) ⊎ Asks text step (λ h. Begins h step k)
   -- the calls of the bay come in their order, as the one that failed tells
-  pub failed : LeavesFailed text step k result
+  pub failed : LeavesFailed layout text step k result
   -- a fault that was counted is answered, at success no raw volume counted one, and the bay's count never falls
   pub raw_answered : SomeHigher k.raw_before k.raw_after → result ≡ Err faults.RawFault
   pub raw_quiet : OnOk result (k.raw_after ≡ k.raw_before)

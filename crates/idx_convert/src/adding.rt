@@ -15,16 +15,19 @@ use crate::first_raws::gather_first;
 use crate::place::Place;
 use idx_header::Header;
 use idx_outside::{Bay, Outage, Source};
+use idx_rowmajor::Layout;
 use std::alloc::Global;
 use std::thread::Threads;
 
-/// Puts the header's text where none stands, and adds the step at the revision of its place, all of which was checked.
+/// Puts the header's text where none stands, and adds the step in a layout at the revision of its place, all of which was
+/// checked.
 pub(crate) fn add_step<V: Source + Send, B: Bay, R: Threads + Sync>(
     rt: &R,
     alloc: Global,
     text: &[u8],
     step: u64,
     ranks: u32,
+    layout: Layout,
     header: &Header,
     place: &Place,
     raws: &mut Vec<V>,
@@ -44,7 +47,7 @@ where
     requires next { IsNext header.now step (B.files bay.old) place.now.header }
     requires folder { step_folder place.now.header step ≡ Some place.now.folder }
     requires none { ForSome (B.header bay.old) (λ text. IsTrue place.now.no_header ↔ (text ≡ [])) }
-    ensures ends { Ends text.now step (known_of V.contents V.asked V.faults raws.old.items raws.new.items
+    ensures ends { Ends layout text.now step (known_of V.contents V.asked V.faults raws.old.items raws.new.items
         B.header B.files B.begun B.changes B.failed B.faults bay.old bay.new) result }
     ensures late { IfErr result (λ fault. ¬ IsEarly (contents_at V.contents raws.old.items 0) fault) }
     ensures same { SameContents V.contents raws.old.items raws.new.items }
@@ -58,7 +61,7 @@ where
     let Ok(()) = bay.begin_step(place.folder.as_slice()) else {
         return Err(ConvertFault::StoreFault);
     };
-    gather_first(rt, alloc, &place.header, step, ranks, raws, bay)?;
+    gather_first(rt, alloc, &place.header, step, ranks, layout, raws, bay)?;
     Ok(())
 }
 

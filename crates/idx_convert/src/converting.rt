@@ -10,12 +10,14 @@ use crate::adding::add_step;
 use crate::asked::asked_header;
 use crate::place::find_place;
 use idx_outside::{Bay, Source};
+use idx_rowmajor::Layout;
 use std::alloc::Global;
 use std::thread::Threads;
 
 /// Writes a step of a raw volume under the header of this text, at the least revision of the step that does not stand,
 /// counted from 0: puts the text where no header stands, and adds exactly the files of the step at that revision, byte for
-/// byte as the format defines them. The files of earlier revisions stay. `raws` hold the same volume; the first are used,
+/// byte as the format defines them, with the samples of each block in the order of the layout. The files of earlier
+/// revisions stay. `raws` hold the same volume; the first are used,
 /// one for each of the ranks, 1 to 256, each of which is a worker thread.
 ///
 /// The first refusal ends it, in this order: the text, its step, its volume's bytes, its files' bytes; the header that
@@ -28,6 +30,7 @@ pub fn convert<V: Source + Send, B: Bay, R: Threads + Sync>(
     text: &[u8],
     step: u64,
     ranks: u32,
+    layout: Layout,
     raws: &mut Vec<V>,
     bay: &mut B,
 ) -> Result<(), ConvertFault>
@@ -40,7 +43,7 @@ where
     requires alike { HaveSame V.contents raws.old.items }
 
     // How it ends, by what is known of the raw volumes and of the bay: each promise is a field of the record.
-    ensures ends { Ends text.now step (known_of V.contents V.asked V.faults raws.old.items raws.new.items
+    ensures ends { Ends layout text.now step (known_of V.contents V.asked V.faults raws.old.items raws.new.items
         B.header B.files B.begun B.changes B.failed B.faults bay.old bay.new) result }
 
     // Where the fault can be known before the first change, the bay still admits the drafts that it did.
@@ -56,5 +59,7 @@ where
 {
     let header = asked_header(alloc, text, step)?;
     let place = find_place(alloc, &header, step, raws, bay)?;
-    add_step(rt, alloc, text, step, ranks, &header, &place, raws, bay)
+    add_step(
+        rt, alloc, text, step, ranks, layout, &header, &place, raws, bay,
+    )
 }

@@ -4,17 +4,18 @@ ghost use Rattle.idx_outside.specs.Cause.{NeverFalls};
 ghost use Rattle.idx_outside.specs.Files.{HasStep as HasCommitted, LiesIn};
 ghost use Rattle.idx_outside.specs.Objects.{SameContents, contents_at};
 ghost use Rattle.idx_header.specs.Names.{step_folder};
-ghost use Rattle.idx_gather.specs.Gather.{HasFolder, HasVolume, HaveSame, IsCaused, Leaves, LeavesFailed, NoneFalls, SomeStepAdded};
+ghost use Rattle.idx_gather.specs.Gather.{HasFolder, HasVolume, HaveSame, IsCaused, LeavesAs, LeavesFailed, NoneFalls, SomeStepAddedAs};
 
 use idx_edition::Edition;
-use idx_gather::{GatherFault, gather};
+use idx_gather::{GatherFault, gather_as};
 use idx_header::Header;
 use idx_outside::{Bay, FreeGate, Source};
+use idx_rowmajor::Layout;
 use std::alloc::Global;
 use std::mem;
 use std::thread::Threads;
 
-/// Gathers a step out of the first raw volumes, one for each rank. The others are as they were; for moving them there is
+/// Gathers a step in a layout out of the first raw volumes, one for each rank. The others are as they were; for moving them there is
 /// memory before any is asked for bytes.
 pub(crate) fn gather_first<V: Source + Send, B: Bay, R: Threads + Sync>(
     rt: &R,
@@ -22,6 +23,7 @@ pub(crate) fn gather_first<V: Source + Send, B: Bay, R: Threads + Sync>(
     header: &Header,
     step: u64,
     ranks: u32,
+    layout: Layout,
     raws: &mut Vec<V>,
     bay: &mut B,
 ) -> Result<Edition<B::Leaf>, GatherFault>
@@ -38,11 +40,11 @@ where
         (λ folder. (path : List ℕ) → LiesIn folder path → B.admits bay.old path) }
     requires new { ForSome (step_folder header.now step)
         (λ folder. ForSome (B.files bay.old) (λ files. ¬ HasCommitted folder files)) }
-    ensures added { OnOk result (SomeStepAdded header.now step (contents_at V.contents raws.old.items 0)
+    ensures added { OnOk result (SomeStepAddedAs layout header.now step (contents_at V.contents raws.old.items 0)
         (B.files bay.old) (B.files bay.new)) }
     ensures cause { IfErr result (IsCaused header.now (contents_at V.contents raws.old.items 0)
         (map V.faults raws.old.items) (map V.faults raws.new.items) (B.faults bay.old) (B.faults bay.new)) }
-    ensures leaves { IfErr result (Leaves header.now step (contents_at V.contents raws.old.items 0)
+    ensures leaves { IfErr result (LeavesAs layout header.now step (contents_at V.contents raws.old.items 0)
         (B.files bay.old) (B.files bay.new)) }
     ensures begun { B.begun bay.new ≡ B.begun bay.old }
     ensures failed { LeavesFailed (B.files bay.old) (B.files bay.new) (B.failed bay.old) (B.failed bay.new) result }
@@ -60,7 +62,7 @@ where
         return Err(GatherFault::NoMemory);
     };
     keep_first(used, raws, &mut rest);
-    let gathered = gather(rt, alloc, header, step, raws, bay, &FreeGate);
+    let gathered = gather_as(rt, alloc, header, step, raws, bay, layout, &FreeGate);
     put_back(rest, raws);
     gathered
 }

@@ -9,7 +9,7 @@ use Rattle.idx_outside.specs.Files.{files_of, known_files, shown}
 use Rattle.idx_outside.specs.Shape.{Shape}
 use Rattle.idx_outside.specs.declared.mem_file.MemFile.{MemFile}
 use Rattle.idx_header.specs.Header.{HasTime, HeaderValue, IsHeader}
-use Rattle.idx_layout.specs.declared.layout.Layout.TheVariants.{Hz}
+use Rattle.idx_rowmajor.specs.declared.layout.Layout.TheVariants.{Hz}
 use Rattle.idx_layout.specs.OfHeader.{placing_of}
 use Rattle.idx_layout.specs.Shape.{shape_of}
 use Rattle.idx_layout.specs.Step.{step_files}

@@ -23,7 +23,7 @@ use Rattle.idx_layout.specs.OfHeader.{placing_of}
 use Rattle.idx_layout.specs.Placing.{Placing}
 use Rattle.idx_layout.specs.Shape.{shape_of}
 use Rattle.idx_layout.specs.Step.{volume_of_raw}
-use Rattle.idx_layout.specs.declared.layout.Layout.TheVariants.{Hz}
+use Rattle.idx_rowmajor.specs.declared.layout.Layout.TheVariants.{Hz}
 use Rattle.idx_scatter.specs.Asked.{asked_points}
 use Rattle.idx_scatter.proofs.AskedLemmas.{asked-from}
 use Rattle.idx_hall.specs.Posts.{bytes_at, table_of}

@@ -21,7 +21,7 @@ use Rattle.idx_layout.specs.OfHeader.{placing_of}
 use Rattle.idx_layout.specs.Placing.{block_bytes, file_numbers}
 use Rattle.idx_layout.specs.Shape.{shape_of}
 use Rattle.idx_layout.specs.Step.{step_files, volume_of_raw}
-use Rattle.idx_layout.specs.declared.layout.Layout.TheVariants.{Hz}
+use Rattle.idx_rowmajor.specs.declared.layout.Layout.TheVariants.{Hz}
 use Rattle.idx_layout.proofs.FileLemmas.{length-block_of_samples}
 use Rattle.idx_pieces.specs.Runs.{file_addresses, sample_at_address}
 use Rattle.idx_pieces.specs.Samples.{raw_sample}
@@ -97,8 +97,8 @@ table_has h file g field a within from to =
 pub file_same : (h : HeaderValue) (raw : List ℕ) (file : ℕ) → length raw ≡ volume_bytes h →
     laid_out h file (table_by h file (sample_at_address h (raw_sample h raw))) ≡ file_bytes Hz (placing_of h) (volume_of_raw h raw) file
 file_same h raw file whole =
-    file_is h (volume_of_raw h raw) file (blocks_by h file (table_sample h file (table_by h file (sample_at_address h (raw_sample h raw))))) (volume_is h raw whole)
-    (blocks_agree h file (table_sample h file (table_by h file (sample_at_address h (raw_sample h raw)))) (sample_at_address h (raw_sample h raw))
+    file_is Hz h (volume_of_raw h raw) file (blocks_by Hz h file (table_sample h file (table_by h file (sample_at_address h (raw_sample h raw))))) (volume_is h raw whole)
+    (blocks_agree Hz h file (table_sample h file (table_by h file (sample_at_address h (raw_sample h raw)))) (sample_at_address h (raw_sample h raw))
     (λ field a within from to. table_has h file (sample_at_address h (raw_sample h raw)) field a within from to))
 
 -- the files of the samples of a raw input are those that one rank writes of the volume

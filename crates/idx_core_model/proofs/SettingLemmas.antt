@@ -7,7 +7,7 @@ use Rattle.idx_layout.specs.Placing.{file_numbers}
 use Rattle.idx_layout.specs.Shape.{shape_of}
 use Rattle.idx_layout.specs.Step.{volume_of_raw}
 use Rattle.idx_layout.specs.Step.{step_files as layout_files}
-use Rattle.idx_layout.specs.declared.layout.Layout.TheVariants.{Hz}
+use Rattle.idx_rowmajor.specs.declared.layout.Layout.TheVariants.{Hz}
 use Rattle.idx_hall.specs.Posts.{bytes_at, table_of}
 use Rattle.idx_query.proofs.AnswerLemmas.{has_field}
 use Rattle.idx_edition.specs.Stored.{stored_block}

@@ -4,7 +4,7 @@ use Rattle.std.specs.List.{AllByRecursion}
 use Rattle.std.specs.Option.{IsSome}
 use Rattle.idx_header.specs.Header.{HasTime, HeaderValue, IsHeader, at_revision, volume_bytes}
 use Rattle.idx_layout.specs.Step.{step_files, volume_of_raw}
-use Rattle.idx_layout.specs.declared.layout.Layout.TheVariants.{Hz}
+use Rattle.idx_rowmajor.specs.declared.layout.Layout.TheVariants.{Hz}
 use Rattle.idx_board.specs.Standing.{step_post}
 use Rattle.idx_hall.specs.Hall.{HallOk}
 use Rattle.idx_hall.specs.Posts.{Post}

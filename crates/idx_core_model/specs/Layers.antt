@@ -15,7 +15,7 @@ use Rattle.idx_layout.specs.OfHeader.{placing_of}
 use Rattle.idx_layout.specs.Placing.{file_numbers, present_blocks}
 use Rattle.idx_layout.specs.Shape.{shape_of}
 use Rattle.idx_layout.specs.Step.{volume_of_raw}
-use Rattle.idx_layout.specs.declared.layout.Layout.TheVariants.{Hz}
+use Rattle.idx_rowmajor.specs.declared.layout.Layout.TheVariants.{Hz}
 use Rattle.idx_pieces.specs.Pieces.{pieces_of}
 use Rattle.idx_pieces.specs.Runs.{file_addresses, sample_at_address}
 use Rattle.idx_pieces.specs.Samples.{raw_sample}

@@ -10,7 +10,7 @@ use Rattle.std.proofs.lemmas.List.Folds.{list_all-map}
 use Rattle.idx_table.specs.Row.{row_bytes, row_length}
 use Rattle.idx_layout.specs.Files.{rows_of_file}
 use Rattle.idx_layout.specs.OfHeader.{placing_of}
-use Rattle.idx_layout.specs.declared.layout.Layout.TheVariants.{Hz}
+use Rattle.idx_rowmajor.specs.declared.layout.Layout.TheVariants.{Hz}
 use Rattle.idx_pieces.specs.Pieces.{pieces_of}
 use Rattle.idx_pieces.specs.declared.piece.Piece.{Piece}
 use Rattle.idx_dock.specs.Content.{dock_bytes, dock_sample}
@@ -91,7 +91,7 @@ module _ (d : DivisionValue) (raw : List ℕ) (shipped : List (ℕ × ℕ)) (s :
 pub dock-laid : (d : DockValue) → dock_bytes d ≡ laid_out d.header d.file (dock_table d)
 dock-laid d =
     ap (λ rest. (replicate row_length 0 ++ flat_map row_bytes (rows_of_file Hz (placing_of d.header) d.file)) ++ rest)
-    (blocks_agree d.header d.file (dock_sample d) (table_sample d.header d.file (dock_table d))
+    (blocks_agree Hz d.header d.file (dock_sample d) (table_sample d.header d.file (dock_table d))
     (λ field a within from to. sym (table_has d.header d.file (dock_sample d) field a within from to)))
 
 pub slot-laid : (d : DivisionValue) (raw : List ℕ) (shipped : List (ℕ × ℕ)) (s : SlotValue) → IsSlot d raw shipped s → dock_bytes s.dock ≡ (layers_of d).lay s.dock.file (dock_table s.dock)

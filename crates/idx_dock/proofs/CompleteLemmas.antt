@@ -11,15 +11,17 @@ use Rattle.idx_geom.specs.Volume.{IsVolume}
 use Rattle.idx_hz.specs.Address.{hz_address, z_address}
 use Rattle.idx_header.specs.Header.{HeaderValue, sample_bytes_of}
 use Rattle.idx_fields.specs.Field.{field_at, sample_bytes}
-use Rattle.idx_layout.specs.Placing.{has_point_in, is_present, present_blocks, stored_sample}
+use Rattle.idx_layout.specs.Placing.{block_of_samples, has_point_in, is_present, present_blocks, stored_sample}
+use Rattle.idx_layout.specs.Layout.{arranged}
 use Rattle.idx_layout.specs.Files.{block_in_file, blocks_of_file, file_bytes}
 use Rattle.idx_layout.specs.OfHeader.{placing_of}
-use Rattle.idx_layout.specs.declared.layout.Layout.TheVariants.{Hz}
+use Rattle.idx_rowmajor.specs.declared.layout.Layout.{Layout}
+use Rattle.idx_rowmajor.specs.declared.layout.Layout.TheVariants.{Hz}
 use Rattle.idx_layout.proofs.PresentLemmas.{any_point, point_found}
 use Rattle.idx_pieces.specs.Runs.{AreRunsOf, HasSamples, run_addresses, run_length, sample_at_address}
 use Rattle.idx_pieces.specs.declared.run.Run.{Run}
 use Rattle.idx_dock.specs.declared.awaited.Awaited.{Awaited}
-use Rattle.idx_dock.specs.Content.{block_among, dock_bytes, field_among, fields_among, has_sample, run_sample, runs_in, sample_among}
+use Rattle.idx_dock.specs.Content.{block_among, dock_bytes, dock_bytes_as, field_among, fields_among, has_sample, run_sample, runs_in, sample_among, stored_among}
 use Rattle.idx_dock.specs.Dock.{DockValue, IsDock, missing}
 use Rattle.idx_dock.specs.Next.{IsOneOf}
 use Rattle.std.specs.List.{position_or_len}
@@ -316,10 +318,10 @@ zip_range f g (s ∷ sizes) (v ∷ volume) n a is each =
     ap (λ x. x ++ flat_map f (zip sizes volume)) (each 0 (omega arith) ∙ ap g here)
     ∙ ap (λ x. g a ++ x) (zip_range f g sizes volume n (a + 1) is.2 (λ k within. (let at : a + suc k ≡ a + 1 + k = omega arith in each (suc k) (omega arith) ∙ ap g at)))
 
--- a dock to which all was delivered writes the file of the volume
-pub complete_bytes : (d : DockValue) → IsDock d → missing d ≡ None → (volume : List (List (List ℕ))) → IsVolume (map sample_bytes d.header.fields) (length (points d.header.box)) volume →
-    ((r : Run) → IsOneOf (runs_in d.awaited) r → HasSamples d.header (sample_of d.header volume) r) → dock_bytes d ≡ file_bytes Hz (placing_of d.header) volume d.file
-complete_bytes d is none volume are samples = ap (λ blocks. (replicate row_length 0 ++ flat_map row_bytes (rows_of_file Hz l d.file)) ++ blocks) (sym fields)
+-- a dock to which all was delivered writes the file of the volume, in each layout
+pub complete_bytes_as : (layout : Layout) (d : DockValue) → IsDock d → missing d ≡ None → (volume : List (List (List ℕ))) → IsVolume (map sample_bytes d.header.fields) (length (points d.header.box)) volume →
+    ((r : Run) → IsOneOf (runs_in d.awaited) r → HasSamples d.header (sample_of d.header volume) r) → dock_bytes_as layout d ≡ file_bytes layout (placing_of d.header) volume d.file
+complete_bytes_as layout d is none volume are samples = ap (λ blocks. (replicate row_length 0 ++ flat_map row_bytes (rows_of_file layout l d.file)) ++ blocks) (sym fields)
   where
     h : HeaderValue
     h = d.header
@@ -336,27 +338,45 @@ complete_bytes d is none volume are samples = ap (λ blocks. (replicate row_leng
     runs : List Run
     runs = runs_in d.awaited
 
+    size : (k : ℕ) → k < length h.fields → get_or sizes k 0 ≡ sample_bytes_of h k
+    size k within = get_or-map sample_bytes h.fields k (field_at [] 0) 0 within
+
     address : (k block a : ℕ) → k < length h.fields → d.file ≤ block → block < d.file + h.blocks_per_file → block * m ≤ a → a < block * m + m →
         stored_sample l (get_or sizes k 0) (get_or volume k []) a ≡ sample_among h runs k a
     address k block a within from to low high =
-        let size : get_or sizes k 0 ≡ sample_bytes_of h k = get_or-map sample_bytes h.fields k (field_at [] 0) 0 within in
         let parts : a ≡ block * m + (a - block * m) = omega arith in
         let at : a / m ≡ block = ap (λ n. n / m) parts ∙ div-mul-add block m (a - block * m) (omega arith) in
-        ap (λ n. stored_sample l n (get_or volume k []) a) size
+        ap (λ n. stored_sample l n (get_or volume k []) a) (size k within)
         ∙ sym (complete_sample d is none volume are samples k block a within from to at)
 
-    field : (k : ℕ) → k < length sizes → flat_map (block_in_file Hz l (get_or sizes k 0) (get_or volume k [])) (present_blocks l d.file) ≡ field_among h d.file runs (0 + k)
+    samples_same : (k block : ℕ) → k < length h.fields → d.file ≤ block → block < d.file + h.blocks_per_file →
+        block_of_samples l (get_or sizes k 0) (get_or volume k []) block ≡ block_among h runs k block
+    samples_same k block within from to =
+        flat_map-range (stored_sample l (get_or sizes k 0) (get_or volume k [])) (sample_among h runs k) (block * m) m (λ a low high. address k block a within from to low high)
+
+    stored_same : (k block : ℕ) → k < length h.fields → d.file ≤ block → block < d.file + h.blocks_per_file →
+        block_in_file layout l (get_or sizes k 0) (get_or volume k []) block ≡ stored_among layout h runs k block
+    stored_same k block within from to =
+        ap (arranged layout l (get_or sizes k 0) block) (samples_same k block within from to)
+        ∙ ap (λ n. arranged layout l n block (block_among h runs k block)) (size k within)
+
+    field : (k : ℕ) → k < length sizes → flat_map (block_in_file layout l (get_or sizes k 0) (get_or volume k [])) (present_blocks l d.file) ≡ field_among layout h d.file runs (0 + k)
     field k inside =
         let within : k < length h.fields = subst (λ n. k < n) (length-map h.fields sample_bytes) inside in
         let at : k ≡ 0 + k = omega arith in
-        filter_range (block_in_file Hz l (get_or sizes k 0) (get_or volume k [])) (block_among h runs k) (is_present l) d.file h.blocks_per_file
-        (λ block from to. flat_map-range (stored_sample l (get_or sizes k 0) (get_or volume k [])) (sample_among h runs k) (block * m) m (λ a low high. address k block a within from to low high))
-        ∙ ap (field_among h d.file runs) at
+        filter_range (block_in_file layout l (get_or sizes k 0) (get_or volume k [])) (stored_among layout h runs k) (is_present l) d.file h.blocks_per_file
+        (λ block from to. stored_same k block within from to)
+        ∙ ap (field_among layout h d.file runs) at
 
-    fields : blocks_of_file Hz l volume d.file ≡ fields_among h d.file runs
+    fields : blocks_of_file layout l volume d.file ≡ fields_among layout h d.file runs
     fields =
-        zip_range (λ f. flat_map (block_in_file Hz l f.0 f.1) (present_blocks l d.file)) (field_among h d.file runs) sizes volume (length (points h.box)) 0 are field
-        ∙ ap (λ n. flat_map (field_among h d.file runs) (range_with_len 0 n)) (length-map h.fields sample_bytes)
+        zip_range (λ f. flat_map (block_in_file layout l f.0 f.1) (present_blocks l d.file)) (field_among layout h d.file runs) sizes volume (length (points h.box)) 0 are field
+        ∙ ap (λ n. flat_map (field_among layout h d.file runs) (range_with_len 0 n)) (length-map h.fields sample_bytes)
+
+-- in hierarchical order
+pub complete_bytes : (d : DockValue) → IsDock d → missing d ≡ None → (volume : List (List (List ℕ))) → IsVolume (map sample_bytes d.header.fields) (length (points d.header.box)) volume →
+    ((r : Run) → IsOneOf (runs_in d.awaited) r → HasSamples d.header (sample_of d.header volume) r) → dock_bytes d ≡ file_bytes Hz (placing_of d.header) volume d.file
+complete_bytes d is none volume are samples = complete_bytes_as Hz d is none volume are samples
 
 -- deliveries of two pieces, in either order
 pub swapped : (p q : ℕ) (rs qs : List Run) → (p ≡ q → ⊥) → (awaited : List Awaited) → with_runs p rs (with_runs q qs awaited) ≡ with_runs q qs (with_runs p rs awaited)

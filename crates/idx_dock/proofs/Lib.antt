@@ -7,3 +7,4 @@ pub mod ApartLemmas
 pub mod CompleteLemmas
 pub mod ReachLemmas
 pub mod PartialLemmas
+pub mod PlaceLemmas

@@ -1,10 +1,11 @@
 -- What stands at the addresses of a range: zeros up to the next run, and then its samples.
-use Rattle.std.proofs.Common.{◌≡◌, ℕ, zero, suc, ◌+◌, ◌-◌, ◌*◌, ◌<◌, ◌≤◌, Bool, true, false, cond, List, [], ◌∷◌, ◌++◌, take, drop, refl, sym, ap, ◌∙◌, arith, inl, inr, Option, Some, None, ltb-true, lt-ltb, eqb-true, eq-eqb, leb-true, le-leb}
+use Rattle.std.proofs.Common.{◌≡◌, ℕ, zero, suc, ◌+◌, ◌-◌, ◌*◌, ◌<◌, ◌≤◌, Bool, true, false, cond, List, [], ◌∷◌, ◌++◌, length, take, drop, refl, sym, ap, ◌∙◌, arith, inl, inr, Option, Some, None, ltb-true, lt-ltb, eqb-true, eq-eqb, leb-true, le-leb}
 use Rattle.std.specs.Prelude.{◌&&◌, ◌==◌, nat_lt, nat_le, find, replicate, slice_range}
 use Rattle.std.specs.List.{AllByRecursion, flat_map, range_with_len}
 use Rattle.std.specs.Option.{option_map_or}
+use Rattle.std.proofs.Math.Nat.{mul-le-mul_left}
 use Rattle.std.proofs.Math.Seq.{take-add, drop-drop}
-use Rattle.std.proofs.lemmas.List.{replicate-append-replicate}
+use Rattle.std.proofs.lemmas.List.{length-drop, length-take-le, replicate-append-replicate}
 use Rattle.std.proofs.lemmas.Grind.{flat_map-append}
 use Rattle.idx_layout.proofs.ListLemmas.{range-split}
 use Rattle.idx_header.specs.Header.{HeaderValue, sample_bytes_of}
@@ -132,6 +133,17 @@ samples_run h field from to runs r apart next begun le end =
     (λ k above below. sample_run h field k runs r apart next.1 (has_from h field k r is.0 (omega arith) (omega arith)))
     ∙ run_range h r from (to - from) begun
     ∙ ap (λ m. take m (drop (size * (from - r.first)) r.bytes)) count
+
+-- how long some samples of whole ones are, from an address on and before another
+pub length-cut : (size first count from to : ℕ) (bytes : List ℕ) → length bytes ≡ size * count → first ≤ from → from ≤ to → to ≤ first + count →
+    length (slice_range bytes (size * (from - first)) (size * (to - first))) ≡ size * (to - from)
+length-cut size first count from to bytes whole begun le end =
+    let skipped : ℕ = size * (from - first) in
+    let parts : to - first ≡ (from - first) + (to - from) = omega arith in
+    let product : size * (to - first) ≡ skipped + size * (to - from) = ap (λ m. size * m) parts ∙ omega arith in
+    let inside : to - first ≤ count = omega arith in
+    let most : size * (to - first) ≤ size * count = mul-le-mul_left size inside in
+    length-take-le (size * (to - first) - skipped) (drop skipped bytes) (omega (arith, product, most, whole, length-drop skipped bytes)) ∙ omega (arith, product)
 
 -- a range in two
 pub range_two : (f : ℕ → List ℕ) (from to end : ℕ) → from ≤ to → to ≤ end →

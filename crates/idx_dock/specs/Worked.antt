@@ -22,3 +22,16 @@ half_dock = with_shipment (two_samples 0 8 4 5) (with_shipment (two_samples 3 14
 -- the dock with those of all pieces
 abbrev pub full_dock : DockValue
 full_dock = with_shipment (two_samples 1 10 12 13) (with_shipment (two_samples 2 12 6 7) half_dock)
+
+-- a piece's two samples in the first file, each in a run of its own
+abbrev pub two_runs : ℕ → ℕ → ℕ → ℕ → ℕ → Shipment
+two_runs piece first one second other =
+    record {
+      piece = piece;
+      file = 0;
+      runs = record { field = 0; first = first; bytes = one ∷ [] } ∷ record { field = 0; first = second; bytes = other ∷ [] } ∷ [];
+    }
+
+-- a dock of the first file with the samples of the second and the third piece
+abbrev pub first_dock : DockValue
+first_dock = with_shipment (two_runs 1 2 8 5 9) (with_shipment (two_runs 2 1 2 6 3) (new_dock small_header (pieces_of small_header 2 1) 0))

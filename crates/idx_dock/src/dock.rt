@@ -1,5 +1,7 @@
-ghost use Rattle.std.specs.Prelude.{◌≡◌, [], All, Contains, IfErr, IfOk, MatchResult, None, OnErr, OnOk, Some};
+ghost use Rattle.std.specs.Prelude.{◌≡◌, ℕ, ◌^◌, ◌<◌, ◌≤◌, [], All, Contains, IfErr, IfOk, MatchResult, None, OnErr, OnOk, Some, length};
 ghost use Rattle.std.specs.Prelude.{max, min};
+ghost use Rattle.idx_header.specs.Header.{block_bytes};
+ghost use Rattle.idx_rowmajor.specs.declared.layout.Layout.{Layout};
 ghost use Rattle.idx_layout.specs.Files.{length_of_file};
 ghost use Rattle.idx_layout.specs.Placing.{file_numbers};
 ghost use Rattle.idx_layout.specs.OfHeader.{placing_of};
@@ -7,7 +9,7 @@ ghost use Rattle.idx_pieces.specs.Runs.{IsRun};
 ghost use Rattle.std.specs.Option.{ForSome, is_some, option_map};
 ghost use Rattle.idx_outside.specs.Cause.{Rose, counted};
 ghost use Rattle.idx_outside.specs.Files.{retold};
-ghost use Rattle.idx_dock.specs.Content.{dock_bytes};
+ghost use Rattle.idx_dock.specs.Content.{dock_bytes, dock_bytes_as};
 ghost use Rattle.idx_dock.specs.Dock.{FitsDock, IsDivision, awaited_at, IsDock, is_open_at, missing, new_dock, unwanted, with_shipment};
 
 use crate::awaited::copies;
@@ -20,6 +22,7 @@ use idx_header::Header;
 use idx_layout::file_len;
 use idx_outside::{Draft, NoMemory, Outage};
 use idx_pieces::{Piece, Shipment};
+use idx_rowmajor::Layout;
 use std::alloc::Global;
 use std::marker::Model;
 
@@ -38,6 +41,7 @@ pub struct Dock {
     awaited: Vec<Awaited>,
     passed: Vec<usize>,
     buffer: Vec<u8>,
+    rows: Vec<u8>,
 }
 
 impl Model for Dock {
@@ -75,14 +79,21 @@ impl Dock {
             awaited,
             passed,
             buffer: Vec::new(alloc),
+            rows: Vec::new(alloc),
         })
     }
 
-    /// Takes the buffer through which `write` gathers what is short. Without it each run is written by itself.
-    pub fn reserve(&mut self, alloc: Global) -> Result<(), NoMemory>
+    /// Takes the memory for writing the file with its blocks in a layout: the buffer through which what is short is
+    /// gathered, without which each run is written by itself, and for `Layout::Rows` also the room in which `write_rows`
+    /// puts a block together, without which it finds and writes each sample by itself, which is slow. Answers `NoMemory`
+    /// where there is no room for them; the dock can be written all the same.
+    pub fn reserve(&mut self, alloc: Global, layout: Layout) -> Result<(), NoMemory>
         ensures { self.new ≡ self.old }
     {
         self.buffer = Vec::with_capacity(alloc, buffer_len(&self.header, self.file))?;
+        if layout == Layout::Rows {
+            self.rows = Vec::with_capacity(alloc, longest_block(&self.header))?;
+        }
         Ok(())
     }
 
@@ -99,6 +110,7 @@ impl Dock {
             awaited,
             passed,
             buffer: Vec::new(alloc),
+            rows: Vec::new(alloc),
         })
     }
 
@@ -163,19 +175,54 @@ impl Dock {
         ensures once { IfErr result (λ back. D.faults back.0 ≡ counted (D.faults draft)) }
         ensures same_path { IfErr result (λ back. D.path back.0 ≡ D.path draft) }
     {
+        self.write_as(Layout::Hz, draft)
+    }
+
+    /// Appends the file to a draft as `write` does, but with the samples of each block in the row-major order of their
+    /// points, axis 0 fastest, and the rows of the table say so (the row-major layout of the blocks of IDX files). Takes
+    /// no memory.
+    pub fn write_rows<D: Draft>(self, draft: D) -> Result<D::Leaf, (D, Outage)>
+        requires complete { missing self ≡ None }
+        requires empty { ForSome (D.contents draft) (λ bytes. bytes ≡ []) }
+        ensures contents { IfOk result (λ leaf. D.Leaf.contents leaf ≡
+            retold (D.contents draft) (dock_bytes_as Layout.Rows self)) }
+        ensures unfailed { IfOk result (λ leaf. D.Leaf.faults leaf ≡ D.faults draft) }
+        ensures path { IfOk result (λ leaf. D.Leaf.path leaf ≡ D.path draft) }
+        ensures outage { IfErr result (λ back. Rose (D.faults draft) (D.faults back.0)) }
+        ensures once { IfErr result (λ back. D.faults back.0 ≡ counted (D.faults draft)) }
+        ensures same_path { IfErr result (λ back. D.path back.0 ≡ D.path draft) }
+    {
+        self.write_as(Layout::Rows, draft)
+    }
+
+    /// What both do: the blocks stand in a layout.
+    fn write_as<D: Draft>(self, layout: Layout, draft: D) -> Result<D::Leaf, (D, Outage)>
+        requires complete { missing self ≡ None }
+        requires empty { ForSome (D.contents draft) (λ bytes. bytes ≡ []) }
+        ensures contents { IfOk result (λ leaf. D.Leaf.contents leaf ≡
+            retold (D.contents draft) (dock_bytes_as layout self)) }
+        ensures unfailed { IfOk result (λ leaf. D.Leaf.faults leaf ≡ D.faults draft) }
+        ensures path { IfOk result (λ leaf. D.Leaf.path leaf ≡ D.path draft) }
+        ensures outage { IfErr result (λ back. Rose (D.faults draft) (D.faults back.0)) }
+        ensures once { IfErr result (λ back. D.faults back.0 ≡ counted (D.faults draft)) }
+        ensures same_path { IfErr result (λ back. D.path back.0 ≡ D.path draft) }
+    {
         let Dock {
             header,
             file,
             awaited,
             mut passed,
             mut buffer,
+            mut rows,
         } = self;
         let mut draft = draft;
         match write_file(
             &header,
+            layout,
             file,
             &awaited,
             &mut passed,
+            &mut rows,
             &mut buffer,
             &mut draft,
         ) {
@@ -192,4 +239,16 @@ fn buffer_len(header: &Header, file: u64) -> usize
     file_len(header, file)
         .min(LONGEST_BUFFER)
         .max(SHORTEST_BUFFER) as usize
+}
+
+/// How many bytes the longest block of a field has.
+fn longest_block(header: &Header) -> usize
+    ensures holds { (field : ℕ) → field < length header.now.fields → block_bytes header.now field ≤ result }
+    ensures few { result ≤ 2 ^ 24 }
+{
+    let mut longest = 0;
+    for field in 0..header.field_count() {
+        longest = header.block_bytes(field).max(longest);
+    }
+    longest as usize
 }

@@ -4,14 +4,14 @@ ghost use Rattle.std.specs.List.{flat_map};
 ghost use Rattle.idx_outside.specs.Cause.{Rose, counted};
 ghost use Rattle.idx_outside.specs.Contents.{appended};
 ghost use Rattle.idx_header.specs.Header.{block_count};
-ghost use Rattle.idx_layout.specs.declared.layout.Layout.{Layout};
 ghost use Rattle.idx_layout.specs.Files.{rows_of_file};
 ghost use Rattle.idx_layout.specs.OfHeader.{placing_of};
 ghost use Rattle.idx_table.specs.Row.{row_bytes};
 
 use idx_header::Header;
-use idx_layout::{Layout, file_rows};
+use idx_layout::file_rows;
 use idx_outside::{Draft, Outage};
+use idx_rowmajor::Layout;
 use idx_table::{ROW_BYTES, Row, write_row};
 
 /// So many bytes are written as they are.
@@ -85,11 +85,25 @@ pub(crate) fn flush<D: Draft>(buffer: &mut Vec<u8>, draft: &mut D) -> Result<(),
 }
 
 /// Appends bytes for which the buffer has room.
-fn gather(bytes: &[u8], buffer: &mut Vec<u8>)
+pub(crate) fn gather(bytes: &[u8], buffer: &mut Vec<u8>)
     requires { vec_len buffer.old + length bytes.now ≤ vec_capacity buffer.old }
-    ensures { buffer.new.items ≡ buffer.old.items ++ bytes.now }
+    ensures items { buffer.new.items ≡ buffer.old.items ++ bytes.now }
+    ensures len { vec_len buffer.new ≡ vec_len buffer.old + length bytes.now }
+    ensures room { vec_capacity buffer.old ≤ vec_capacity buffer.new }
 {
     let Ok(()) = buffer.extend_from_slice(bytes) else {
+        unreachable!()
+    };
+}
+
+/// Appends so many zeros for which the buffer has room.
+pub(crate) fn gather_zeros(count: usize, buffer: &mut Vec<u8>)
+    requires { vec_len buffer.old + count ≤ vec_capacity buffer.old }
+    ensures items { buffer.new.items ≡ buffer.old.items ++ replicate count 0 }
+    ensures len { vec_len buffer.new ≡ vec_len buffer.old + count }
+    ensures room { vec_capacity buffer.old ≤ vec_capacity buffer.new }
+{
+    let Ok(()) = buffer.resize(buffer.len() + count, 0) else {
         unreachable!()
     };
 }
@@ -135,10 +149,11 @@ fn put_copies<D: Draft>(
     Ok(())
 }
 
-/// Writes the table of a file behind what the draft and the buffer have so far: forty bytes of 0, and for each field a
-/// row for each of its block places.
+/// Writes the table of a file, whose blocks stand in a layout, behind what the draft and the buffer have so far: forty
+/// bytes of 0, and for each field a row for each of its block places.
 pub(crate) fn put_table<D: Draft>(
     header: &Header,
+    layout: Layout,
     file: u64,
     buffer: &mut Vec<u8>,
     draft: &mut D,
@@ -146,14 +161,14 @@ pub(crate) fn put_table<D: Draft>(
     requires exists { file < block_count header.now }
     ensures written { OnOk result (appended (D.contents draft.new) buffer.new.items ≡
         appended (appended (D.contents draft.old) buffer.old.items)
-        (replicate 40 0 ++ flat_map row_bytes (rows_of_file Layout.Hz (placing_of header.now) file))) }
+        (replicate 40 0 ++ flat_map row_bytes (rows_of_file layout (placing_of header.now) file))) }
     ensures quiet { OnOk result (D.faults draft.new ≡ D.faults draft.old) }
     ensures outage { OnErr result (Rose (D.faults draft.old) (D.faults draft.new)) }
     ensures once { OnErr result (D.faults draft.new ≡ counted (D.faults draft.old)) }
     ensures path { D.path draft.new ≡ D.path draft.old }
 {
     put(&[0; ROW_BYTES], buffer, draft)?;
-    for row in file_rows(header, Layout::Hz, file) {
+    for row in file_rows(header, layout, file) {
         put_row(&row, buffer, draft)?;
     }
     Ok(())

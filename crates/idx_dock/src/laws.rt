@@ -5,13 +5,13 @@ ghost use Rattle.idx_fields.specs.Field.{sample_bytes};
 ghost use Rattle.idx_geom.specs.Region.{points};
 ghost use Rattle.idx_geom.specs.Volume.{IsVolume};
 ghost use Rattle.idx_header.specs.Header.{HeaderValue, sample_bytes_of};
-ghost use Rattle.idx_layout.specs.declared.layout.Layout.{Layout};
+ghost use Rattle.idx_rowmajor.specs.declared.layout.Layout.{Layout};
 ghost use Rattle.idx_layout.specs.Files.{file_bytes};
 ghost use Rattle.idx_layout.specs.OfHeader.{placing_of};
 ghost use Rattle.idx_pieces.specs.declared.shipment.Shipment.{Shipment};
 ghost use Rattle.idx_pieces.specs.Runs.{HasSamples, file_addresses, has_address};
 ghost use Rattle.idx_dock.specs.Dock.{DockValue, IsDock, missing, reaches, with_shipment};
-ghost use Rattle.idx_dock.specs.Content.{dock_bytes, dock_sample, has_sample, run_sample, runs_in, sample_of};
+ghost use Rattle.idx_dock.specs.Content.{dock_bytes_as, dock_sample, has_sample, run_sample, runs_in, sample_of};
 
 /// A region has a point in a file exactly where some address of the file is that of one of its points.
 pub fn pieces_reach_their_addresses()
@@ -35,10 +35,11 @@ pub fn delivered_samples_stand()
         dock_sample d field address ≡ replicate (sample_bytes_of d.header field) 0 }
 {}
 
-/// A dock of which nothing is missing, and to which the samples of a volume were delivered, writes the volume's file.
+/// A dock of which nothing is missing, and to which the samples of a volume were delivered, writes the volume's file, in
+/// each layout.
 pub fn complete_docks_are_files()
-    ensures { (d : DockValue) (volume : List (List (List ℕ))) → IsDock d → missing d ≡ None →
+    ensures { (layout : Layout) (d : DockValue) (volume : List (List (List ℕ))) → IsDock d → missing d ≡ None →
         IsVolume (map sample_bytes d.header.fields) (length (points d.header.box)) volume →
         All (HasSamples d.header (sample_of d.header volume)) (runs_in d.awaited) →
-        dock_bytes d ≡ file_bytes Layout.Hz (placing_of d.header) volume d.file }
+        dock_bytes_as layout d ≡ file_bytes layout (placing_of d.header) volume d.file }
 {}

@@ -31,7 +31,7 @@ use Rattle.idx_layout.specs.Placing.{Placing, block_bytes, file_numbers, is_pres
 use Rattle.idx_layout.specs.Placing as placings
 use Rattle.idx_layout.specs.Shape.{shape_of}
 use Rattle.idx_layout.specs.Step.{step_files, volume_of_raw}
-use Rattle.idx_layout.specs.declared.layout.Layout.TheVariants.{Hz}
+use Rattle.idx_rowmajor.specs.declared.layout.Layout.TheVariants.{Hz}
 use Rattle.idx_layout.proofs.FileLemmas.{length-file_bytes}
 use Rattle.idx_layout.proofs.HeaderLemmas.{few_present}
 use Rattle.idx_layout.proofs.ListLemmas.{count-le}

@@ -3,7 +3,7 @@ use Rattle.std.specs.Prelude.{◌≡◌, ℕ, ◌+◌, ◌^◌, true, List, [], 
 use Rattle.std.specs.List.{range_with_len}
 use Rattle.idx_header.specs.Header.{block_count}
 use Rattle.idx_layout.specs.Step.{step_files, volume_of_raw}
-use Rattle.idx_layout.specs.declared.layout.Layout.TheVariants.{Hz}
+use Rattle.idx_rowmajor.specs.declared.layout.Layout.TheVariants.{Hz}
 use Rattle.idx_pieces.specs.Digits.{piece_digits}
 use Rattle.idx_pieces.specs.Pieces.{pieces_of}
 use Rattle.idx_events.specs.Setting.{Setting}

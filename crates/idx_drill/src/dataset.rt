@@ -6,6 +6,7 @@ ghost use Rattle.idx_drill_model.specs.Drill.{drill_bits, drill_extent, drill_he
 
 use idx_header::Header;
 use idx_outside::{Bytes, NoMemory};
+use idx_rowmajor::Layout;
 use idx_text::write_number;
 use idx_words::ConvertWords;
 use std::alloc::Global;
@@ -45,6 +46,7 @@ pub(crate) fn header_text(alloc: Global, number: u32) -> Result<Bytes, NoMemory>
         time: b"0 0 time%04d/",
         step: 0,
         ranks: 1,
+        layout: Layout::Hz,
     };
     words.header_text(alloc)
 }

@@ -10,6 +10,7 @@ use Rattle.idx_names.specs.declared.piece.Piece.TheVariants.{Byte, Mark}
 use Rattle.idx_names.specs.Template.{TemplateValue}
 use Rattle.idx_header.specs.Header.{HeaderValue}
 use Rattle.idx_header.specs.declared.steps.Steps.{Steps}
+use Rattle.idx_rowmajor.specs.declared.layout.Layout.TheVariants.{Hz}
 use Rattle.idx_words.specs.Built.{built_with}
 use Rattle.idx_words.specs.ConvertValue.{ConvertValue}
 use Rattle.idx_plan.specs.declared.ask.Ask.{Ask}
@@ -81,6 +82,7 @@ drill_words n =
       time = codes "0 0 time%04d/";
       step = 0;
       ranks = 1;
+      layout = Hz;
     }
 
 abbrev pub drill_text : ℕ → List ℕ

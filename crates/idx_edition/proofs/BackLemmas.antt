@@ -25,7 +25,7 @@ use Rattle.idx_table.specs.Table.{first_fault, rows_of}
 use Rattle.idx_header.specs.Header.{HeaderValue, IsHeader}
 use Rattle.idx_header.specs.Names.{file_name}
 use Rattle.idx_layout.specs.Content.{field_in, sample_in, volume_in}
-use Rattle.idx_layout.specs.declared.layout.Layout.{Layout}
+use Rattle.idx_rowmajor.specs.declared.layout.Layout.{Layout}
 use Rattle.idx_layout.specs.Placing.{Placing, block_bytes, block_count, block_of_samples, file_numbers, file_of, stored_sample}
 use Rattle.idx_layout.specs.Files.{file_bytes, row_count, rows_of_file}
 use Rattle.idx_layout.specs.OfHeader.{placing_of}
@@ -35,12 +35,12 @@ use Rattle.idx_layout.proofs.ListLemmas.{passing}
 use Rattle.idx_layout.proofs.RightLemmas.{no_fault, rows_fit}
 use Rattle.idx_layout.specs.Shape.{block_lengths}
 use Rattle.idx_edition.specs.Stored.{HasFiles, bad_table, fault_of_bytes, fault_of_file, file_of_block, first_bad, stored_block}
-use Rattle.idx_edition.specs.Tables.{bytes_by, row_among, value_at}
+use Rattle.idx_edition.specs.Tables.{bytes_by, order_of, row_among, value_at}
 use Rattle.idx_edition.specs.declared.load_fault.LoadFault.{LoadFault}
 use Rattle.idx_edition.proofs.HeldLemmas.{bytes_same}
 use Rattle.idx_edition.proofs.LeavesLemmas.{same_lists}
 use Rattle.idx_edition.proofs.LookupLemmas.{place_in_file, place_within}
-use Rattle.idx_edition.proofs.WrittenLemmas.{block_written, mapped_at}
+use Rattle.idx_edition.proofs.WrittenLemmas.{volume_each, block_written, mapped_at}
 
 -- ---- no table is faulty
 nothing_of : {X Y : Type 0} (f : X → Option Y) (xs : List X) → ((i : ℕ) (x : X) → slice_get xs i ≡ Some x → f x ≡ None) → filter_map f xs ≡ []
@@ -86,10 +86,10 @@ pub block_stored : (layout : Layout) (h : HeaderValue) (step : ℕ) (volume : Li
 block_stored layout h step volume files field block samples is fills has within at exists =
     sym (bytes_same l field block (file_of_block h step files block) len
     (get_or-lengths) (place_within field (length l.sizes) (block - file) h.blocks_per_file in_fields (place_in_file h.blocks_per_file block is.blocks_some)))
-    ∙ ap (λ o. bytes_by len (row_among h.blocks_per_file field block (option_map (λ bytes. rows_of bytes (row_count l)) o)) (option_map (λ bytes. bytes) o)) (file_found layout h step volume files block has)
+    ∙ ap (λ o. bytes_by (order_of l field block) len (row_among h.blocks_per_file field block (option_map (λ bytes. rows_of bytes (row_count l)) o)) (option_map (λ bytes. bytes) o)) (file_found layout h step volume files block has)
     ∙ by_test (list_any (λ k. k == file) (file_numbers l))
-    ∙ ap (λ o. bytes_by len (row_among h.blocks_per_file field block o) (cond (list_any (λ k. k == file) (file_numbers l)) (Some whole) None)) (sym (mapped_at (rows_of_file layout l) file (file_numbers l)))
-    ∙ ap (bytes_by len (row_among h.blocks_per_file field block (value_at file (file_numbers l) (map (rows_of_file layout l) (file_numbers l))))) (sym (mapped_at (file_bytes layout l volume) file (file_numbers l)))
+    ∙ ap (λ o. bytes_by (order_of l field block) len (row_among h.blocks_per_file field block o) (cond (list_any (λ k. k == file) (file_numbers l)) (Some whole) None)) (sym (mapped_at (rows_of_file layout l) file (file_numbers l)))
+    ∙ ap (bytes_by (order_of l field block) len (row_among h.blocks_per_file field block (value_at file (file_numbers l) (map (rows_of_file layout l) (file_numbers l))))) (sym (mapped_at (file_bytes layout l volume) file (file_numbers l)))
     ∙ block_written layout h field block is within volume samples fills at exists
   where
     l : Placing
@@ -114,9 +114,9 @@ block_stored layout h step volume files field block samples is fills has within 
     rows_whole = rows_of-file_bytes layout l volume file (rows_fit layout l file (fits_rows h file is))
 
     by_test : (b : Bool) →
-        bytes_by len (row_among h.blocks_per_file field block (option_map (λ bytes. rows_of bytes (row_count l)) (cond b (Some whole) None))) (option_map (λ bytes. bytes) (cond b (Some whole) None))
-        ≡ bytes_by len (row_among h.blocks_per_file field block (cond b (Some (rows_of_file layout l file)) None)) (cond b (Some whole) None)
-    by_test true = ap (λ rows. bytes_by len (row_among h.blocks_per_file field block (Some rows)) (Some whole)) rows_whole
+        bytes_by (order_of l field block) len (row_among h.blocks_per_file field block (option_map (λ bytes. rows_of bytes (row_count l)) (cond b (Some whole) None))) (option_map (λ bytes. bytes) (cond b (Some whole) None))
+        ≡ bytes_by (order_of l field block) len (row_among h.blocks_per_file field block (cond b (Some (rows_of_file layout l file)) None)) (cond b (Some whole) None)
+    by_test true = ap (λ rows. bytes_by (order_of l field block) len (row_among h.blocks_per_file field block (Some rows)) (Some whole)) rows_whole
     by_test false = refl
 
 -- ---- samples of a block
@@ -215,17 +215,6 @@ sample_back h content volume field k samples p is has within at count sizes here
   where
     powers : (a b : ℕ) → 2 ^ (a + b) ≡ 2 ^ a * 2 ^ b
     powers a b = pow-add 2 a b
-
--- the samples of a volume's field
-volume_each : (sizes : List ℕ) (n : ℕ) (volume : List (List (List ℕ))) (field : ℕ) (samples : List (List ℕ)) → IsVolume sizes n volume → slice_get volume field ≡ Some samples →
-    (length samples ≡ n) × All (λ sample. length sample ≡ slice_index sizes field) samples
-volume_each [] n [] field samples fills at = let wrong : None ≡ Some samples = at in absurd (cc)
-volume_each [] n (v ∷ volume) field samples fills at = absurd fills
-volume_each (size ∷ sizes) n [] field samples fills at = absurd fills
-volume_each (size ∷ sizes) n (v ∷ volume) zero samples fills at =
-    let same : v ≡ samples = cc in
-    (ap length (sym same) ∙ fills.0, subst (λ (s : List (List ℕ)). All (λ sample. length sample ≡ size) s) same fills.1)
-volume_each (size ∷ sizes) n (v ∷ volume) (suc field) samples fills at = volume_each sizes n volume field samples fills.2 at
 
 pub volume_count : (sizes : List ℕ) (n : ℕ) (volume : List (List (List ℕ))) → IsVolume sizes n volume → length volume ≡ length sizes
 volume_count [] n [] fills = refl

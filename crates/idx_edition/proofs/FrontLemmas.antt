@@ -1,6 +1,6 @@
 -- The table stands in the first bytes of a file, and its rows are right where none is faulty.
 use Rattle.std.proofs.Common.{◌≡◌, ℕ, zero, suc, ◌+◌, ◌-◌, ◌*◌, ◌/◌, ◌<◌, ◌≤◌, Bool, true, false, cond, min, List, ◌∷◌, length, map, take, drop, Some, None, refl, sym, ap, ◌∙◌, arith, add-zero, zero-add}
-use Rattle.std.specs.Prelude.{Option, nat_lt, slice_get, slice_index, ◌||◌, ◌==◌}
+use Rattle.std.specs.Prelude.{Option, nat_lt, not, slice_get, slice_index, ◌||◌, ◌==◌}
 use Rattle.std.specs.Option.{option_map}
 use Rattle.std.specs.List.{cons_option, filter_map, range_with_len}
 use Rattle.std.proofs.Math.Nat.{mul-div_cancel_left}
@@ -9,11 +9,11 @@ use Rattle.std.proofs.lemmas.List.{drop-take, take-take}
 use Rattle.std.proofs.lemmas.List.FromFn.{get_or-map-range_with_len, length-map-range_with_len}
 use Rattle.std.proofs.lemmas.Option.{slice_get_within, get_or_from_slice_get}
 use Rattle.idx_table.specs.Row.{row_of}
-use Rattle.idx_table.specs.Table.{table_bytes, row_at, rows_of, field_of, row_major, fault_in, fault_at, fault_of_row, kind_of_row, first_fault}
+use Rattle.idx_table.specs.Table.{table_bytes, row_at, rows_of, field_of, is_raw, fault_in, fault_at, fault_of_row, kind_of_row, first_fault}
 use Rattle.idx_table.specs.declared.row.Row.{Row}
 use Rattle.idx_table.specs.declared.table_fault.TableFault.{TableFault}
 use Rattle.idx_table.specs.declared.table_fault.TableKind.{TableKind}
-use Rattle.idx_table.specs.declared.table_fault.TableKind.TheVariants.{CutShort, Compressed, RowMajor, WrongSize, OutsideFile}
+use Rattle.idx_table.specs.declared.table_fault.TableKind.TheVariants.{CutShort, Compressed, WrongSize, OutsideFile}
 use Rattle.idx_table.proofs.FaultLemmas.{none-first_fault, is_whole, kind_of_row-whole}
 use Rattle.idx_edition.specs.Tables.{EndWithin, IsTable}
 
@@ -88,19 +88,18 @@ record IsRight (rows size len : ℕ) (row : Row) : Type 0 where
 
 right_row : (rows size len : ℕ) (row : Row) → fault_in rows size len row ≡ None → 0 < row.size → IsRight rows size len row
 right_row rows size len row none some =
-    by_tests (row.size == 0) (row.flags == row_major) (nat_lt 0 row.flags) (nat_lt row.size size) (nat_lt size row.size) (nat_lt row.offset (table_bytes rows)) (nat_lt len (row.offset + row.size)) refl refl refl refl none
+    by_tests (row.size == 0) (not (is_raw row.flags)) (nat_lt row.size size) (nat_lt size row.size) (nat_lt row.offset (table_bytes rows)) (nat_lt len (row.offset + row.size)) refl refl refl refl none
   where
-    by_tests : (absent major flagged less more before behind : Bool) → (row.size == 0) ≡ absent → nat_lt row.size size ≡ less → nat_lt size row.size ≡ more →
+    by_tests : (absent flagged less more before behind : Bool) → (row.size == 0) ≡ absent → nat_lt row.size size ≡ less → nat_lt size row.size ≡ more →
         nat_lt len (row.offset + row.size) ≡ behind →
-        cond absent None (cond major (Some RowMajor) (cond flagged (Some Compressed) (cond (less || more) (Some WrongSize) (cond (before || behind) (Some OutsideFile) None)))) ≡ None → IsRight rows size len row
-    by_tests true major flagged less more before behind a b c d e = absurd (omega (arith, eqb-true row.size 0 a, some))
-    by_tests false true flagged less more before behind a b c d e = let wrong : Some RowMajor ≡ None = e in absurd (cc)
-    by_tests false false true less more before behind a b c d e = let wrong : Some Compressed ≡ None = e in absurd (cc)
-    by_tests false false false true more before behind a b c d e = let wrong : Some WrongSize ≡ None = e in absurd (cc)
-    by_tests false false false false true before behind a b c d e = let wrong : Some WrongSize ≡ None = e in absurd (cc)
-    by_tests false false false false false true behind a b c d e = let wrong : Some OutsideFile ≡ None = e in absurd (cc)
-    by_tests false false false false false false true a b c d e = let wrong : Some OutsideFile ≡ None = e in absurd (cc)
-    by_tests false false false false false false false a b c d e = record {
+        cond absent None (cond flagged (Some Compressed) (cond (less || more) (Some WrongSize) (cond (before || behind) (Some OutsideFile) None))) ≡ None → IsRight rows size len row
+    by_tests true flagged less more before behind a b c d e = absurd (omega (arith, eqb-true row.size 0 a, some))
+    by_tests false true less more before behind a b c d e = let wrong : Some Compressed ≡ None = e in absurd (cc)
+    by_tests false false true more before behind a b c d e = let wrong : Some WrongSize ≡ None = e in absurd (cc)
+    by_tests false false false true before behind a b c d e = let wrong : Some WrongSize ≡ None = e in absurd (cc)
+    by_tests false false false false true behind a b c d e = let wrong : Some OutsideFile ≡ None = e in absurd (cc)
+    by_tests false false false false false true a b c d e = let wrong : Some OutsideFile ≡ None = e in absurd (cc)
+    by_tests false false false false false false a b c d e = record {
       same = omega (arith, ltb-false row.size size b, ltb-false size row.size c);
       ends = ltb-false len (row.offset + row.size) d;
     }

@@ -17,7 +17,7 @@ use Rattle.idx_layout.specs.Files.{row_count}
 use Rattle.idx_layout.specs.OfHeader.{placing_of}
 use Rattle.idx_layout.specs.Shape.{block_lengths}
 use Rattle.idx_edition.specs.Stored.{block_in, fault_of_file, file_of_block, first_bad, found_file, has_block, has_in, row_in, stored_block}
-use Rattle.idx_edition.specs.Tables.{TablesValue, all_known, bytes_by, bytes_in, has_in_tables, is_there, row_among, row_for, shape_in, stored_in, tables_of, value_at, with_known}
+use Rattle.idx_edition.specs.Tables.{TablesValue, all_known, bytes_by, bytes_in, has_in_tables, is_there, order_of, row_among, row_for, shape_in, stored_in, tables_of, value_at, with_known}
 use Rattle.idx_edition.specs.Loaded.{HoldsStored, leaf_at, number_at, rows_at}
 use Rattle.idx_edition.proofs.LookupLemmas.{place_in_file, place_within}
 use Rattle.idx_edition.proofs.SoFarLemmas.{HoldSoFar, completed}
@@ -84,11 +84,11 @@ module _ (l : Placing) (field block : ℕ) where
   has_same (Some bytes) within = ap is_there (row_there bytes within)
 
   pub bytes_same : (o : Option (List ℕ)) (len : ℕ) → len ≡ block_bytes l field → place < row_count l →
-      bytes_by len (row_among l.per_file field block (option_map (λ bytes. rows_of bytes (row_count l)) o)) (option_map (λ bytes. bytes) o) ≡ block_in l o field block
+      bytes_by (order_of l field block) len (row_among l.per_file field block (option_map (λ bytes. rows_of bytes (row_count l)) o)) (option_map (λ bytes. bytes) o) ≡ block_in l o field block
   bytes_same None len is within = ap (λ n. replicate n 0) is
   bytes_same (Some bytes) len is within =
-      ap (λ r. bytes_by len r (Some bytes)) (row_there bytes within)
-      ∙ ap (λ n. bytes_by n (Some (row_in l bytes field block)) (Some bytes)) is
+      ap (λ r. bytes_by (order_of l field block) len r (Some bytes)) (row_there bytes within)
+      ∙ ap (λ n. bytes_by (order_of l field block) n (Some (row_in l bytes field block)) (Some bytes)) is
 
 -- the bytes of the files that are there, all known
 all_found : (path : ℕ → List ℕ) (g : ℕ → Option (List ℕ)) (numbers : List ℕ) →
@@ -165,8 +165,8 @@ module _ (h : HeaderValue) (step : ℕ) (files : List MemFile) where
       let l : Placing = placing_of h in
       let len : ℕ = slice_index (block_lengths l) field in
       let count : field < length l.sizes = omega (arith, within, length-map-range_with_len (block_bytes l) 0 (length l.sizes)) in
-      ap (λ r. bytes_by len r (value_at (file_of l block) numbers_there bytes_there)) (row_of_file field block)
-      ∙ ap (bytes_by len (row_among h.blocks_per_file field block (option_map (λ bytes. rows_of bytes (row_count l)) (file_of_block h step files block))))
+      ap (λ r. bytes_by (order_of l field block) len r (value_at (file_of l block) numbers_there bytes_there)) (row_of_file field block)
+      ∙ ap (bytes_by (order_of l field block) len (row_among h.blocks_per_file field block (option_map (λ bytes. rows_of bytes (row_count l)) (file_of_block h step files block))))
       (looked_up (λ file. file_at (file_name h step file) files) (λ bytes. bytes) (file_of l block) (file_numbers l))
       ∙ bytes_same l field block (file_of_block h step files block) len
       (get_or-map-range_with_len (block_bytes l) 0 (length l.sizes) field field 0 count (zero-add field)) (row_within field block within some)

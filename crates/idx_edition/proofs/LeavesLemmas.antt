@@ -11,7 +11,7 @@ use Rattle.idx_fields.specs.Field.{sample_bytes}
 use Rattle.idx_table.specs.declared.row.Row.{Row}
 use Rattle.idx_header.specs.Header.{HeaderValue, IsHeader}
 use Rattle.idx_header.specs.Names.{file_name}
-use Rattle.idx_layout.specs.declared.layout.Layout.{Layout}
+use Rattle.idx_rowmajor.specs.declared.layout.Layout.{Layout}
 use Rattle.idx_layout.specs.Placing.{Placing, block_bytes, file_numbers, is_present}
 use Rattle.idx_layout.specs.Files.{file_bytes, rows_of_file}
 use Rattle.idx_layout.specs.OfHeader.{placing_of}

@@ -1,5 +1,6 @@
 pub mod RowLemmas
 pub mod LookupLemmas
+pub mod OrderLemmas
 pub mod FrontLemmas
 pub mod LoadLemmas
 pub mod SoFarLemmas

@@ -114,6 +114,5 @@ cause-table IsBad file fault result b b' memory table bad same' = by_kind fault.
     by_kind kinds.NoMemory is = subst (IsReadCause IsBad b b') (sym (memory is)) same'
     by_kind kinds.CutShort is = of_table (λ e. let wrong : kinds.CutShort ≡ kinds.NoMemory = sym is ∙ e in cc)
     by_kind kinds.Compressed is = of_table (λ e. let wrong : kinds.Compressed ≡ kinds.NoMemory = sym is ∙ e in cc)
-    by_kind kinds.RowMajor is = of_table (λ e. let wrong : kinds.RowMajor ≡ kinds.NoMemory = sym is ∙ e in cc)
     by_kind kinds.WrongSize is = of_table (λ e. let wrong : kinds.WrongSize ≡ kinds.NoMemory = sym is ∙ e in cc)
     by_kind kinds.OutsideFile is = of_table (λ e. let wrong : kinds.OutsideFile ≡ kinds.NoMemory = sym is ∙ e in cc)

@@ -15,7 +15,7 @@ use Rattle.idx_outside.specs.Files.{entry_shown, shown}
 use Rattle.idx_table.specs.declared.row.Row.{Row}
 use Rattle.idx_layout.specs.OfHeader.{placing_of}
 use Rattle.idx_layout.specs.Shape.{block_lengths}
-use Rattle.idx_edition.specs.Tables.{TablesValue, AreTables, AreTablesOf, RiseFrom, StandsAt, all_known, bytes_by, bytes_in, file_in, has_in_tables, is_there, row_among, row_for, stored_in, value_at, with_known}
+use Rattle.idx_edition.specs.Tables.{TablesValue, AreTables, AreTablesOf, RiseFrom, StandsAt, all_known, bytes_by, bytes_in, file_in, has_in_tables, is_there, order_of, row_among, row_for, stored_in, value_at, with_known}
 
 -- numbers that rise from one on are no lower
 above : (a : ℕ) (xs : List ℕ) (i : ℕ) → RiseFrom a xs → i < length xs → a ≤ get_or xs i 0
@@ -112,20 +112,20 @@ pub row_for-place : (t : TablesValue) (field block file : ℕ) (rows : List Row)
 row_for-place t field block file rows are within at table =
     ap (row_among t.header.blocks_per_file field block) (value_at-place 0 (file_in t.header.blocks_per_file block) t.numbers t.tables file are.rising are.same within at ∙ table)
 
-pub row_for-stands : (t : TablesValue) (field block file offset : ℕ) → AreTables t → (s : StandsAt t field block file offset) → row_for t field block ≡ Some s.row
-row_for-stands t field block file offset are s =
+pub row_for-stands : (t : TablesValue) (field block file offset flags : ℕ) → AreTables t → (s : StandsAt t field block file offset flags) → row_for t field block ≡ Some s.row
+row_for-stands t field block file offset flags are s =
     row_for-place t field block file s.rows are (slice_get_within t.numbers file (file_in t.header.blocks_per_file block) s.number) (get_or_from_slice_get t.numbers file (file_in t.header.blocks_per_file block) 0 s.number) s.table
     ∙ s.at
 
-pub stands-has : (t : TablesValue) (field block file offset : ℕ) → AreTables t → StandsAt t field block file offset → has_in_tables t field block ≡ true
-stands-has t field block file offset are s =
-    ap is_there (row_for-stands t field block file offset are s) ∙ lt-ltb 0 s.row.size s.some
+pub stands-has : (t : TablesValue) (field block file offset flags : ℕ) → AreTables t → StandsAt t field block file offset flags → has_in_tables t field block ≡ true
+stands-has t field block file offset flags are s =
+    ap is_there (row_for-stands t field block file offset flags are s) ∙ lt-ltb 0 s.row.size s.some
 
 -- where the row of a block says that it is there, the block stands
-pub row-stands : (t : TablesValue) (field block file number offset : ℕ) (rows : List Row) (row : Row) → AreTables t → (file < length t.numbers) × (get_or t.numbers file 0 ≡ number) →
+pub row-stands : (t : TablesValue) (field block file number offset flags : ℕ) (rows : List Row) (row : Row) → AreTables t → (file < length t.numbers) × (get_or t.numbers file 0 ≡ number) →
     number ≡ file_in t.header.blocks_per_file block → slice_get t.tables file ≡ Some rows →
-    slice_get rows (field * t.header.blocks_per_file + (block - file_in t.header.blocks_per_file block)) ≡ Some row → (row.size ≡ 0 → ⊥) → offset ≡ row.offset → StandsAt t field block file offset
-row-stands t field block file number offset rows row are found is table at some begins = record {
+    slice_get rows (field * t.header.blocks_per_file + (block - file_in t.header.blocks_per_file block)) ≡ Some row → (row.size ≡ 0 → ⊥) → offset ≡ row.offset → flags ≡ row.flags → StandsAt t field block file offset flags
+row-stands t field block file number offset flags rows row are found is table at some begins flagged = record {
   number = slice_get-get_or t.numbers file 0 found.0 ∙ ap (λ n. Some n) (found.1 ∙ is);
   rows = rows;
   table = table;
@@ -133,6 +133,7 @@ row-stands t field block file number offset rows row are found is table at some 
   at = at;
   some = omega (arith, some);
   begins = begins;
+  flagged = flagged;
 }
 
 -- where its row says that it is not there, it is not
@@ -150,24 +151,24 @@ shown_at contents leaves i leaf within at =
     slice_get-map (entry_shown contents) leaves i ∙ ap (option_map (entry_shown contents)) (slice_get_read leaves (length leaves) i leaf refl within at)
 
 -- a file that is there has a leaf
-pub leaf_exists : {L : Type 0} (contents : L → Option (List ℕ)) (leaves : List (List ℕ × L)) (t : TablesValue) (field block file offset : ℕ) →
-    AreTablesOf t.tables (shown contents leaves) → StandsAt t field block file offset → file < length leaves
-leaf_exists contents leaves t field block file offset fit s =
+pub leaf_exists : {L : Type 0} (contents : L → Option (List ℕ)) (leaves : List (List ℕ × L)) (t : TablesValue) (field block file offset flags : ℕ) →
+    AreTablesOf t.tables (shown contents leaves) → StandsAt t field block file offset flags → file < length leaves
+leaf_exists contents leaves t field block file offset flags fit s =
     omega (arith, slice_get_within t.tables file s.rows s.table, fit.same, length-map leaves (entry_shown contents))
 
 -- the block of a row has the length of its field's blocks
-stands-size : (t : TablesValue) (field block file offset : ℕ) → AreTables t → (s : StandsAt t field block file offset) → block - file_in t.header.blocks_per_file block < t.header.blocks_per_file → s.row.size ≡ slice_index (block_lengths (placing_of t.header)) field
-stands-size t field block file offset are s place =
+stands-size : (t : TablesValue) (field block file offset flags : ℕ) → AreTables t → (s : StandsAt t field block file offset flags) → block - file_in t.header.blocks_per_file block < t.header.blocks_per_file → s.row.size ≡ slice_index (block_lengths (placing_of t.header)) field
+stands-size t field block file offset flags are s place =
     (are.each file s.rows s.table).sizes (field * t.header.blocks_per_file + (block - file_in t.header.blocks_per_file block)) s.row s.at s.some
     ∙ ap (slice_index (block_lengths (placing_of t.header))) (field_of_place field (block - file_in t.header.blocks_per_file block) t.header.blocks_per_file place)
 
 -- where its file's bytes are known the block ends inside them
-pub block_within : (t : TablesValue) (leaves : List (List ℕ × Option (List ℕ))) (field block file offset len : ℕ) (leaf : List ℕ × Option (List ℕ)) →
-    AreTables t → AreTablesOf t.tables leaves → StandsAt t field block file offset → slice_get leaves file ≡ Some leaf →
+pub block_within : (t : TablesValue) (leaves : List (List ℕ × Option (List ℕ))) (field block file offset flags len : ℕ) (leaf : List ℕ × Option (List ℕ)) →
+    AreTables t → AreTablesOf t.tables leaves → StandsAt t field block file offset flags → slice_get leaves file ≡ Some leaf →
     len ≡ slice_index (block_lengths (placing_of t.header)) field → ForSome leaf.1 (λ bytes. offset + len ≤ length bytes)
-block_within t leaves field block file offset len leaf are fit s at room = λ bytes known.
+block_within t leaves field block file offset flags len leaf are fit s at room = λ bytes known.
     let ends = (fit.within file s.rows leaf s.table at bytes known).ends (field * t.header.blocks_per_file + (block - file_in t.header.blocks_per_file block)) s.row s.at s.some in
-    omega (arith, ends, stands-size t field block file offset are s (place_in_file t.header.blocks_per_file block are.places), s.begins, room)
+    omega (arith, ends, stands-size t field block file offset flags are s (place_in_file t.header.blocks_per_file block are.places), s.begins, room)
 
 with_known-some : (o : Option (List ℕ)) (rest : Option (List (List ℕ))) (all : List (List ℕ)) → with_known o rest ≡ Some all →
     (bytes : List ℕ) × (more : List (List ℕ)) × (o ≡ Some bytes) × (rest ≡ Some more) × (all ≡ bytes ∷ more)
@@ -196,25 +197,31 @@ known_each (leaf ∷ leaves) all e =
     at_place bytes more first is rest (suc i) other at =
         rest i other at ∙ ap (λ (fs : List (List ℕ)). slice_get fs (suc i)) (sym is)
 
--- what was read is what the edition stores
-pub read_stored : (t : TablesValue) (leaves : List (List ℕ × Option (List ℕ))) (field block file offset len : ℕ) (leaf : List ℕ × Option (List ℕ)) (into : List ℕ) →
-    AreTables t → AreTablesOf t.tables leaves → StandsAt t field block file offset → slice_get leaves file ≡ Some leaf → len ≡ slice_index (block_lengths (placing_of t.header)) field →
-    IfSome leaf.1 (λ bytes. into ≡ take len (drop offset bytes)) → IfSome (stored_in t leaves) (λ stored. into ≡ stored field block)
-read_stored t leaves field block file offset len leaf into are fit s at room read = by_known (all_known leaves) refl
+-- what was read and put into order is what the edition stores
+pub read_stored : (t : TablesValue) (leaves : List (List ℕ × Option (List ℕ))) (field block file offset flags len : ℕ) (leaf : List ℕ × Option (List ℕ)) (read into : List ℕ) →
+    AreTables t → AreTablesOf t.tables leaves → StandsAt t field block file offset flags → slice_get leaves file ≡ Some leaf → len ≡ slice_index (block_lengths (placing_of t.header)) field →
+    IfSome leaf.1 (λ bytes. read ≡ take len (drop offset bytes)) → into ≡ order_of (placing_of t.header) field block flags read → IfSome (stored_in t leaves) (λ stored. into ≡ stored field block)
+read_stored t leaves field block file offset flags len leaf read into are fit s at room is_read ordered = by_known (all_known leaves) refl
   where
     number : ℕ
     number = file_in t.header.blocks_per_file block
 
-    of_bytes : (files : List (List ℕ)) (o : Option (List ℕ)) → value_at number t.numbers files ≡ o → IfSome o (λ bytes. into ≡ take len (drop offset bytes)) →
+    size : ℕ
+    size = slice_index (block_lengths (placing_of t.header)) field
+
+    order : ℕ → List ℕ → List ℕ
+    order = order_of (placing_of t.header) field block
+
+    of_bytes : (files : List (List ℕ)) (o : Option (List ℕ)) → value_at number t.numbers files ≡ o → IfSome o (λ bytes. read ≡ take len (drop offset bytes)) →
         (o ≡ None → ⊥) → into ≡ bytes_in t files field block
     of_bytes files None is read some = absurd (some refl)
     of_bytes files (Some bytes) is read some =
-        read
-        ∙ ap (λ n. take n (drop offset bytes)) room
-        ∙ ap (λ n. take (slice_index (block_lengths (placing_of t.header)) field) (drop n bytes)) s.begins
-        ∙ ap (λ (b : Bool). cond b (take (slice_index (block_lengths (placing_of t.header)) field) (drop s.row.offset bytes)) (replicate (slice_index (block_lengths (placing_of t.header)) field) 0)) (sym (lt-ltb 0 s.row.size s.some))
-        ∙ ap (λ o. bytes_by (slice_index (block_lengths (placing_of t.header)) field) o (Some bytes)) (sym (row_for-stands t field block file offset are s))
-        ∙ ap (bytes_by (slice_index (block_lengths (placing_of t.header)) field) (row_for t field block)) (sym is)
+        ordered
+        ∙ ap (order flags) (read ∙ ap (λ n. take n (drop offset bytes)) room ∙ ap (λ n. take size (drop n bytes)) s.begins)
+        ∙ ap (λ f. order f (take size (drop s.row.offset bytes))) s.flagged
+        ∙ ap (λ (b : Bool). cond b (order s.row.flags (take size (drop s.row.offset bytes))) (replicate size 0)) (sym (lt-ltb 0 s.row.size s.some))
+        ∙ ap (λ o. bytes_by order size o (Some bytes)) (sym (row_for-stands t field block file offset flags are s))
+        ∙ ap (bytes_by order size (row_for t field block)) (sym is)
 
     by_known : (o : Option (List (List ℕ))) → all_known leaves ≡ o → IfSome (option_map (bytes_in t) o) (λ stored. into ≡ stored field block)
     by_known None is = tt
@@ -225,5 +232,5 @@ read_stored t leaves field block file offset len leaf into are fit s at room rea
         let at_file : value_at number t.numbers files ≡ leaf.1 =
         value_at-place 0 number t.numbers files file are.rising (omega (arith, known.0, fit.same, are.same)) within (get_or_from_slice_get t.numbers file number 0 s.number)
         ∙ sym (known.1 file leaf at) in
-        of_bytes files leaf.1 at_file read (λ none.
+        of_bytes files leaf.1 at_file is_read (λ none.
         let wrong : ◌≡◌ {A = Option (List ℕ)} None (Some (get_or files file [])) = sym none ∙ known.1 file leaf at ∙ there in cc)

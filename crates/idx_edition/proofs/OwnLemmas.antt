@@ -10,7 +10,7 @@ use Rattle.std.specs.Prelude.{IfSome}
 use Rattle.idx_header.specs.declared.steps.Steps.{Steps}
 use Rattle.idx_header.specs.Header.{AreSteps, HasTime, HasTimeAmong, HeaderValue, IsHeader}
 use Rattle.idx_header.specs.Names.{file_name, name_with}
-use Rattle.idx_layout.specs.declared.layout.Layout.{Layout}
+use Rattle.idx_rowmajor.specs.declared.layout.Layout.{Layout}
 use Rattle.idx_layout.specs.Placing.{file_numbers}
 use Rattle.idx_layout.specs.Files.{file_bytes}
 use Rattle.idx_layout.specs.OfHeader.{placing_of}

@@ -14,7 +14,7 @@ use Rattle.idx_outside.specs.declared.mem_file.MemFile.{MemFile}
 use Rattle.idx_table.specs.Table.{rows_of}
 use Rattle.idx_header.specs.Header.{HeaderValue, IsHeader}
 use Rattle.idx_header.specs.Names.{file_name}
-use Rattle.idx_layout.specs.declared.layout.Layout.{Layout}
+use Rattle.idx_rowmajor.specs.declared.layout.Layout.{Layout}
 use Rattle.idx_layout.specs.Placing.{Placing, block_count, file_numbers, file_of, is_present}
 use Rattle.idx_layout.specs.Files.{file_bytes, row_count, rows_of_file}
 use Rattle.idx_layout.specs.OfHeader.{placing_of}

@@ -1,6 +1,6 @@
 -- The files of a step as the writer lays them out.
 use Rattle.std.proofs.Common.{◌≡◌, ℕ, zero, suc, ◌+◌, ◌-◌, ◌*◌, ◌/◌, ◌%◌, ◌<◌, ◌≤◌, Bool, true, false, cond, List, [], ◌∷◌, length, map, take, drop, Some, None, refl, sym, ap, subst, ◌∙◌, arith, zero-add}
-use Rattle.std.specs.Prelude.{filter, nat_lt, replicate, slice_get, slice_index, ◌||◌, ◌==◌}
+use Rattle.std.specs.Prelude.{All, filter, nat_lt, replicate, slice_get, slice_index, ◌||◌, ◌==◌}
 use Rattle.std.specs.List.{AllByRecursion, list_any, range_with_len}
 use Rattle.std.proofs.Math.Nat.{div-add-mod', mod-lt, mod-eq_of_lt, mul_comm, mul-add-mod_self_right}
 use Rattle.std.proofs.lemmas.Bool.{eqb-true, lt-ltb}
@@ -12,17 +12,18 @@ use Rattle.idx_geom.specs.Volume.{IsVolume}
 use Rattle.idx_fields.specs.Field.{sample_bytes}
 use Rattle.idx_table.specs.declared.row.Row.{Row}
 use Rattle.idx_header.specs.Header.{HeaderValue, IsHeader, block_count}
-use Rattle.idx_layout.specs.declared.layout.Layout.{Layout}
+use Rattle.idx_rowmajor.specs.declared.layout.Layout.{Layout}
+use Rattle.idx_rowmajor.proofs.HeaderLemmas.{IsBlock-header}
 use Rattle.idx_layout.specs.Placing.{Placing, block_bytes, block_of_samples, file_numbers, file_of, is_present}
-use Rattle.idx_layout.specs.declared.layout.Layout.TheVariants.{Hz}
-use Rattle.idx_layout.specs.Layout.{arranged, flags_of}
+use Rattle.idx_layout.specs.Layout.{flags_of}
 use Rattle.idx_layout.specs.Files.{FitsRows, file_bytes, length_of_file, offset_of, row_count, row_of_block, rows_of_file}
 use Rattle.idx_layout.specs.OfHeader.{placing_of}
-use Rattle.idx_layout.proofs.FileLemmas.{block_at_offset, length-rows_of_file, rows_of-file_bytes}
+use Rattle.idx_layout.proofs.ArrangedLemmas.{in_hz_order-arranged}
+use Rattle.idx_layout.proofs.FileLemmas.{block_at_offset, length-block_of_samples, length-rows_of_file, rows_of-file_bytes}
 use Rattle.idx_layout.proofs.HeaderLemmas.{fits_rows}
 use Rattle.idx_layout.proofs.RightLemmas.{no_fault, row_at_place, rows_fit}
 use Rattle.idx_layout.specs.Shape.{block_lengths}
-use Rattle.idx_edition.specs.Tables.{EndWithin, IsTable, bytes_by, bytes_in, has_in_tables, is_there, row_among, value_at, written_tables}
+use Rattle.idx_edition.specs.Tables.{EndWithin, IsTable, bytes_by, bytes_in, has_in_tables, is_there, order_of, row_among, value_at, written_tables}
 use Rattle.idx_edition.proofs.AbsentLemmas.{absent_zeros, file_listed, some_block}
 use Rattle.idx_edition.proofs.FrontLemmas.{rows-right}
 use Rattle.idx_edition.proofs.LookupLemmas.{field_of_place, place_in_file, place_within}
@@ -64,9 +65,16 @@ mapped_at {X = X} f n (k ∷ numbers) = by_test (mapped_at f n numbers) (k == n)
     by_test rest false e = rest
 
 -- ---- a block and its row
--- what stands in a file is read as the block in hierarchical order
-arranged_back : (layout : Layout) (l : Placing) (size block : ℕ) (bytes : List ℕ) → arranged layout l size block bytes ≡ bytes
-arranged_back Hz l size block bytes = refl
+-- the samples of a volume's field
+pub volume_each : (sizes : List ℕ) (n : ℕ) (volume : List (List (List ℕ))) (field : ℕ) (samples : List (List ℕ)) → IsVolume sizes n volume → slice_get volume field ≡ Some samples →
+    (length samples ≡ n) × All (λ sample. length sample ≡ slice_index sizes field) samples
+volume_each [] n [] field samples fills at = let wrong : None ≡ Some samples = at in absurd (cc)
+volume_each [] n (v ∷ volume) field samples fills at = absurd fills
+volume_each (size ∷ sizes) n [] field samples fills at = absurd fills
+volume_each (size ∷ sizes) n (v ∷ volume) zero samples fills at =
+    let same : v ≡ samples = cc in
+    (ap length (sym same) ∙ fills.0, subst (λ (s : List (List ℕ)). All (λ sample. length sample ≡ size) s) same fills.1)
+volume_each (size ∷ sizes) n (v ∷ volume) (suc field) samples fills at = volume_each sizes n volume field samples fills.2 at
 
 -- the row of a block, by whether it is present
 abbrev row_by : ℕ → ℕ → ℕ → Bool → Row
@@ -135,8 +143,8 @@ module _ (layout : Layout) (h : HeaderValue) (field block : ℕ) (is : IsHeader 
       bytes_in (written_tables layout h) (map (file_bytes layout (placing_of h) volume) (file_numbers (placing_of h))) field block
       ≡ block_of_samples (placing_of h) (slice_index (placing_of h).sizes field) samples block
   block_written volume samples fills at exists =
-      ap (λ o. bytes_by len (row_among h.blocks_per_file field block o) (value_at file (file_numbers l) (map (file_bytes layout l volume) (file_numbers l)))) (mapped_at (rows_of_file layout l) file (file_numbers l))
-      ∙ ap (bytes_by len (row_among h.blocks_per_file field block (cond (list_any (λ k. k == file) (file_numbers l)) (Some (rows_of_file layout l file)) None))) (mapped_at (file_bytes layout l volume) file (file_numbers l))
+      ap (λ o. bytes_by (order_of l field block) len (row_among h.blocks_per_file field block o) (value_at file (file_numbers l) (map (file_bytes layout l volume) (file_numbers l)))) (mapped_at (rows_of_file layout l) file (file_numbers l))
+      ∙ ap (bytes_by (order_of l field block) len (row_among h.blocks_per_file field block (cond (list_any (λ k. k == file) (file_numbers l)) (Some (rows_of_file layout l file)) None))) (mapped_at (file_bytes layout l volume) file (file_numbers l))
       ∙ by_tests (list_any (λ k. k == file) (file_numbers l)) (is_present l block) refl refl
     where
       l : Placing
@@ -157,26 +165,30 @@ module _ (layout : Layout) (h : HeaderValue) (field block : ℕ) (is : IsHeader 
       result : List ℕ
       result = block_of_samples (placing_of h) (slice_index (placing_of h).sizes field) samples block
 
+      each : (length samples ≡ length (points h.box)) × All (λ sample. length sample ≡ slice_index (placing_of h).sizes field) samples
+      each = volume_each (placing_of h).sizes (length (points h.box)) volume field samples fills at
+
       zeros : is_present l block ≡ false → replicate len 0 ≡ result
       zeros absent = ap (λ n. replicate n 0) len_is ∙ sym (absent_zeros l (slice_index l.sizes field) samples block absent)
 
       taken : Row → List ℕ
-      taken row = cond (nat_lt 0 row.size) (take len (drop row.offset whole)) (replicate len 0)
+      taken row = cond (nat_lt 0 row.size) (order_of l field block row.flags (take len (drop row.offset whole))) (replicate len 0)
 
       of_row : (b : Bool) → is_present l block ≡ b → taken (row_of_block layout l file field block) ≡ result
       of_row true e =
           ap (λ (b : Bool). taken (row_by (flags_of layout) (offset_of l file field block) (block_bytes l field) b)) e
-          ∙ ap (λ (b : Bool). cond b (take len (drop (offset_of l file field block) whole)) (replicate len 0)) (lt-ltb 0 (block_bytes l field) (some_block h field is within))
-          ∙ ap (λ n. take n (drop (offset_of l file field block) whole)) len_is
-          ∙ block_at_offset layout l volume file field block samples fills at from_file (omega (arith, place_of_block, from_file)) e
-          ∙ arranged_back layout l (slice_index l.sizes field) block (block_of_samples l (slice_index l.sizes field) samples block)
+          ∙ ap (λ (b : Bool). cond b (order_of l field block (flags_of layout) (take len (drop (offset_of l file field block) whole))) (replicate len 0)) (lt-ltb 0 (block_bytes l field) (some_block h field is within))
+          ∙ ap (λ n. order_of l field block (flags_of layout) (take n (drop (offset_of l file field block) whole))) len_is
+          ∙ ap (order_of l field block (flags_of layout)) (block_at_offset layout l volume file field block samples fills at from_file (omega (arith, place_of_block, from_file)) e)
+          ∙ in_hz_order-arranged layout l (slice_index l.sizes field) block result (IsBlock-header h block is exists)
+          (length-block_of_samples l (slice_index l.sizes field) samples block each.0 each.1)
       of_row false e =
           ap (λ (b : Bool). taken (row_by (flags_of layout) (offset_of l file field block) (block_bytes l field) b)) e
           ∙ zeros e
 
       by_tests : (a b : Bool) → list_any (λ k. k == file) (file_numbers l) ≡ a → is_present l block ≡ b →
-          bytes_by len (row_among h.blocks_per_file field block (cond a (Some (rows_of_file layout l file)) None)) (cond a (Some whole) None) ≡ result
-      by_tests true b listed e = ap (λ r. bytes_by len r (Some whole)) row_at_block ∙ of_row b e
+          bytes_by (order_of l field block) len (row_among h.blocks_per_file field block (cond a (Some (rows_of_file layout l file)) None)) (cond a (Some whole) None) ≡ result
+      by_tests true b listed e = ap (λ r. bytes_by (order_of l field block) len r (Some whole)) row_at_block ∙ of_row b e
       by_tests false true listed e =
           let wrong : false ≡ true = sym listed ∙ file_listed l block exists from_file e in absurd (cc)
       by_tests false false listed e = zeros e

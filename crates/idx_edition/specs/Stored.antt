@@ -1,5 +1,5 @@
 -- What a step stores, by the header and the committed files: the first faulty row of its files, and the bytes of each block.
-use Rattle.std.specs.Prelude.{◌≡◌, ℕ, Bool, false, ◌+◌, ◌-◌, ◌*◌, ◌==◌, nat_lt, if◌then◌else◌, List, length, take, drop, replicate, slice_get, Option, Some, None}
+use Rattle.std.specs.Prelude.{◌≡◌, ℕ, Bool, false, ◌+◌, ◌-◌, ◌*◌, ◌==◌, nat_lt, if◌then◌else◌, List, length, take, drop, replicate, slice_get, slice_index, Option, Some, None}
 use Rattle.std.specs.Option.{option_map, IfSome}
 use Rattle.std.specs.List.{filter_map, list_any}
 use Rattle.idx_outside.specs.Files.{file_at, HasStep as HasCommitted}
@@ -10,8 +10,9 @@ use Rattle.idx_table.specs.declared.table_fault.TableFault.{TableFault}
 use Rattle.idx_header.specs.Header.{HeaderValue, HasTime}
 use Rattle.idx_header.specs.Names.{file_name, step_folder}
 use Rattle.idx_header.specs.Revisions.{header_that_stands}
-use Rattle.idx_layout.specs.declared.layout.Layout.{Layout}
+use Rattle.idx_rowmajor.specs.declared.layout.Layout.{Layout}
 use Rattle.idx_layout.specs.Placing.{Placing, block_bytes, file_numbers, file_of}
+use Rattle.idx_layout.specs.Layout.{in_hz_order}
 use Rattle.idx_layout.specs.Files.{file_bytes, row_count}
 use Rattle.idx_layout.specs.OfHeader.{placing_of}
 use Rattle.idx_layout.specs.Shape.{block_lengths}
@@ -68,12 +69,14 @@ abbrev pub has_in : Placing → Option (List ℕ) → ℕ → ℕ → Bool
 has_in l None field block = false
 has_in l (Some bytes) field block = nat_lt 0 (row_in l bytes field block).size
 
--- the block's bytes in such a file: those at the row's offset, or zeros where the file lacks the block
+-- the block's bytes in such a file, in hierarchical order: those at the row's offset, which stand as the row's flags say, or
+-- zeros where the file lacks the block
 abbrev pub block_in : Placing → Option (List ℕ) → ℕ → ℕ → List ℕ
 block_in l None field block = replicate (block_bytes l field) 0
 block_in l (Some bytes) field block =
     if nat_lt 0 (row_in l bytes field block).size then
-    take (block_bytes l field) (drop (row_in l bytes field block).offset bytes)
+    in_hz_order l (slice_index l.sizes field) block (row_in l bytes field block).flags
+    (take (block_bytes l field) (drop (row_in l bytes field block).offset bytes))
     else replicate (block_bytes l field) 0
 
 -- the bytes of the block's file, where that is one that the writer would write, and there

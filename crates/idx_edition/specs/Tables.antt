@@ -3,8 +3,9 @@ use Rattle.std.specs.Prelude.{◌≡◌, ℕ, ◌+◌, ◌-◌, ◌*◌, ◌/◌
 use Rattle.std.specs.Option.{option_map, ForSome}
 use Rattle.idx_outside.specs.Shape.{Shape}
 use Rattle.idx_header.specs.Header.{HeaderValue}
-use Rattle.idx_layout.specs.declared.layout.Layout.{Layout}
-use Rattle.idx_layout.specs.Placing.{file_numbers}
+use Rattle.idx_rowmajor.specs.declared.layout.Layout.{Layout}
+use Rattle.idx_layout.specs.Placing.{Placing, file_numbers}
+use Rattle.idx_layout.specs.Layout.{in_hz_order}
 use Rattle.idx_layout.specs.Files.{rows_of_file}
 use Rattle.idx_layout.specs.OfHeader.{placing_of}
 use Rattle.idx_layout.specs.Shape.{block_lengths, shape_of}
@@ -56,16 +57,21 @@ is_there (Some row) = nat_lt 0 row.size
 abbrev pub has_in_tables : TablesValue → ℕ → ℕ → Bool
 has_in_tables t field block = is_there (row_for t field block)
 
--- the bytes of the block of a row in a file: those at the row's offset, or zeros where it is not there
-abbrev pub bytes_by : ℕ → Option Row → Option (List ℕ) → List ℕ
-bytes_by len None file = replicate len 0
-bytes_by len (Some row) None = replicate len 0
-bytes_by len (Some row) (Some bytes) =
-    if nat_lt 0 row.size then take len (drop row.offset bytes) else replicate len 0
+-- the order of a block of a field by the flags of its row
+abbrev pub order_of : Placing → ℕ → ℕ → ℕ → List ℕ → List ℕ
+order_of l field block = in_hz_order l (slice_index l.sizes field) block
+
+-- the bytes of the block of a row in a file: those at the row's offset, in the order that its flags say, or zeros where it is
+-- not there
+abbrev pub bytes_by : (ℕ → List ℕ → List ℕ) → ℕ → Option Row → Option (List ℕ) → List ℕ
+bytes_by order len None file = replicate len 0
+bytes_by order len (Some row) None = replicate len 0
+bytes_by order len (Some row) (Some bytes) =
+    if nat_lt 0 row.size then order row.flags (take len (drop row.offset bytes)) else replicate len 0
 
 abbrev pub bytes_in : TablesValue → List (List ℕ) → ℕ → ℕ → List ℕ
 bytes_in t files field block =
-    bytes_by (slice_index (block_lengths (placing_of t.header)) field) (row_for t field block)
+    bytes_by (order_of (placing_of t.header) field block) (slice_index (block_lengths (placing_of t.header)) field) (row_for t field block)
     (value_at (file_in t.header.blocks_per_file block) t.numbers files)
 
 -- the bytes of a leaf before those of others, if all are known
@@ -113,8 +119,9 @@ pub record AreTablesOf (tables : List (List Row)) (leaves : List (List ℕ × Op
   pub within : (i : ℕ) (rows : List Row) (leaf : List ℕ × Option (List ℕ)) → slice_get tables i ≡ Some rows →
       slice_get leaves i ≡ Some leaf → ForSome leaf.1 (λ bytes. EndWithin rows (length bytes))
 
--- where the block of a field stands: in the file with this place among those that are there, from this offset on
-pub record StandsAt (t : TablesValue) (field block file offset : ℕ) : Type 0 where
+-- where the block of a field stands: in the file with this place among those that are there, from this offset on, under these
+-- flags
+pub record StandsAt (t : TablesValue) (field block file offset flags : ℕ) : Type 0 where
   pub number : slice_get t.numbers file ≡ Some (file_in t.header.blocks_per_file block)
   pub rows : List Row
   pub table : slice_get t.tables file ≡ Some rows
@@ -122,3 +129,4 @@ pub record StandsAt (t : TablesValue) (field block file offset : ℕ) : Type 0 w
   pub at : slice_get rows (field * t.header.blocks_per_file + (block - file_in t.header.blocks_per_file block)) ≡ Some row
   pub some : 0 < row.size
   pub begins : offset ≡ row.offset
+  pub flagged : flags ≡ row.flags

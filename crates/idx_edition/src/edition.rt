@@ -8,7 +8,7 @@ ghost use Rattle.idx_outside.specs.declared.mem_file.MemFile.{MemFile};
 ghost use Rattle.idx_header.specs.Header.{HasTime, IsHeader};
 ghost use Rattle.idx_header.specs.Names.{step_folder};
 ghost use Rattle.idx_table.specs.Table.{table_bytes};
-ghost use Rattle.idx_layout.specs.declared.layout.Layout.{Layout};
+ghost use Rattle.idx_rowmajor.specs.declared.layout.Layout.{Layout};
 ghost use Rattle.idx_layout.specs.Placing.{is_present};
 ghost use Rattle.idx_layout.specs.Files.{row_count};
 ghost use Rattle.idx_layout.specs.OfHeader.{placing_of};
@@ -26,8 +26,9 @@ use crate::load::{folder_stands, open_file};
 use crate::rows::Rows;
 use crate::tables::Tables;
 use idx_header::Header;
-use idx_layout::{Layout, files};
+use idx_layout::files;
 use idx_outside::{Bay, Blocks, Bytes, Fetched, Leaf, NoMemory, Outage, Reader};
+use idx_rowmajor::Layout;
 use std::alloc::Global;
 
 /// The files of one step with their tables, and a copy of the dataset's header: the step as blocks.
@@ -70,7 +71,41 @@ impl<L: Leaf> Edition<L> {
         ensures leaves { IfOk result (λ edition. edition.leaves.items ≡ leaves.items) }
         ensures valid { IfOk result (λ _. IsHeader header.now) }
     {
-        let tables = Tables::of_header(alloc, header, Layout::Hz)?;
+        Edition::of_leaves_as(alloc, header, time, leaves, Layout::Hz)
+    }
+
+    /// The edition of the files of a step as the writer lays them out in a layout, with their paths, in the order of their
+    /// numbers. Makes no read.
+    pub fn of_leaves_as(
+        alloc: Global,
+        header: &Header,
+        time: u64,
+        leaves: Vec<(Bytes, L)>,
+        layout: Layout,
+    ) -> Result<Edition<L>, NoMemory>
+        requires written { ∥ ((volume : _) ×
+            AreWritten layout header.now time volume (shown L.contents leaves.items)) ∥₁ }
+        ensures time { IfOk result (λ edition. edition.time ≡ time) }
+        ensures own_header { IfOk result (λ edition. edition.tables.header ≡ header.now) }
+        ensures shape { IfOk result (λ edition. shape_in edition.tables ≡ shape_of header.now) }
+        ensures has { IfOk result (λ edition. OfBlocks (shape_of header.now)
+            (λ field block. has_in_tables edition.tables field block ≡ is_present (placing_of header.now) block)) }
+        ensures stored { IfOk result (λ edition. (volume : _) →
+            AreWritten layout header.now time volume (shown L.contents leaves.items) →
+            ForSome (stored_in edition.tables (shown L.contents edition.leaves.items)) (λ stored.
+            OfBlocks (shape_of header.now) (λ field block.
+            IsWrittenBlock header.now volume field block (stored field block)))) }
+        ensures holds { IfOk result (λ edition. (volume : _) (files : List MemFile) →
+            IsVolume (placing_of header.now).sizes (length (points header.now.box)) volume →
+            HasFiles layout header.now time volume files →
+            shown L.contents leaves.items ≡ known_files (Some files) (step_files layout header.now volume time) →
+            HoldsStored header.now time files (shape_in edition.tables) (has_in_tables edition.tables)
+            (stored_in edition.tables (shown L.contents edition.leaves.items))
+            (shown L.contents edition.leaves.items)) }
+        ensures leaves { IfOk result (λ edition. edition.leaves.items ≡ leaves.items) }
+        ensures valid { IfOk result (λ _. IsHeader header.now) }
+    {
+        let tables = Tables::of_header(alloc, header, layout)?;
         Ok(Edition {
             time,
             tables,
@@ -234,7 +269,8 @@ impl<L: Leaf> Blocks for Edition<L> {
         self.time
     }
 
-    /// Finds the block's file by a binary search among the numbers of the files that are there.
+    /// Finds the block's file by a binary search among the numbers of the files that are there. Samples that stand in
+    /// row-major order are put into hierarchical order in place.
     fn fetch<R: Reader<L>>(
         &self,
         reader: &mut R,
@@ -248,6 +284,7 @@ impl<L: Leaf> Blocks for Edition<L> {
         };
         let (_, leaf) = &self.leaves[place.file];
         reader.read_at(leaf, place.offset, into)?;
+        self.tables.put_in_hz_order(field, block, place.flags, into);
         Ok(Fetched::Read)
     }
 }

@@ -5,7 +5,7 @@ ghost use Rattle.idx_geom.specs.Volume.{IsVolume};
 ghost use Rattle.idx_outside.specs.Files.{files_of};
 ghost use Rattle.idx_outside.specs.declared.mem_file.MemFile.{MemFile};
 ghost use Rattle.idx_header.specs.Header.{HasTime, HeaderValue, IsHeader};
-ghost use Rattle.idx_layout.specs.declared.layout.Layout.{Layout};
+ghost use Rattle.idx_rowmajor.specs.declared.layout.Layout.{Layout};
 ghost use Rattle.idx_layout.specs.Content.{volume_in};
 ghost use Rattle.idx_layout.specs.OfHeader.{placing_of};
 ghost use Rattle.idx_layout.specs.Step.{step_files};

@@ -4,8 +4,9 @@ ghost use Rattle.idx_layout.specs.Files.{rows_of_file};
 ghost use Rattle.idx_layout.specs.OfHeader.{placing_of};
 
 use idx_header::Header;
-use idx_layout::{Layout, file_rows};
+use idx_layout::file_rows;
 use idx_outside::NoMemory;
+use idx_rowmajor::Layout;
 use idx_table::{Row, Table};
 use std::alloc::Global;
 use std::marker::Model;

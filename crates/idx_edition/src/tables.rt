@@ -1,22 +1,26 @@
-ghost use Rattle.std.specs.Prelude.{◌≡◌, ℕ, ◌*◌, ◌+◌, ◌/◌, ◌<◌, ◌≤◌, false, List, None, Some, IfOk, IfSome, length, slice_get};
-ghost use Rattle.idx_header.specs.Header.{IsHeader};
+ghost use Rattle.std.specs.Prelude.{◌≡◌, ℕ, ◌*◌, ◌+◌, ◌/◌, ◌<◌, ◌≤◌, false, List, None, Some, IfOk, IfSome, length, slice_get, slice_index};
+ghost use Rattle.idx_header.specs.Header.{IsHeader, block_count};
 ghost use Rattle.idx_table.specs.declared.row.Row.{Row};
 ghost use Rattle.idx_layout.specs.OfHeader.{placing_of};
 ghost use Rattle.idx_layout.specs.Shape.{block_lengths};
-ghost use Rattle.idx_edition.specs.Tables.{AreTables, IsTable, RiseFrom, StandsAt, has_in_tables, tables_of, written_tables};
+ghost use Rattle.idx_edition.specs.Tables.{AreTables, IsTable, RiseFrom, StandsAt, has_in_tables, order_of, tables_of, written_tables};
 
 use crate::rows::Rows;
 use idx_header::Header;
-use idx_layout::{Layout, files};
+use idx_layout::files;
 use idx_outside::NoMemory;
+use idx_rowmajor::{Layout, to_hz};
+use idx_table::ROW_MAJOR;
 use std::alloc::Global;
 use std::marker::Model;
 
-/// Where a block stands: in which file, by its place among those that are there, and from which offset on.
+/// Where a block stands: in which file, by its place among those that are there, from which offset on, and in which order
+/// of its samples, by the flags of its row.
 #[derive(Clone, Copy)]
 pub(crate) struct BlockPlace {
     pub(crate) file: usize,
     pub(crate) offset: u64,
+    pub(crate) flags: u32,
 }
 
 /// The tables of the files of a step that are there, and the header by which their blocks are found.
@@ -87,7 +91,8 @@ impl Tables {
     /// files.
     pub(crate) fn find(&self, field: u32, block: u64) -> Option<BlockPlace>
         requires { field < length (block_lengths (placing_of self.now.header)) }
-        ensures stands { IfSome result (λ place. StandsAt self.now field block place.file place.offset) }
+        ensures stands { IfSome result (λ place.
+            StandsAt self.now field block place.file place.offset place.flags) }
         ensures none { result ≡ None → has_in_tables self.now field block ≡ false }
         ensures valid { AreTables self.now }
     {
@@ -103,7 +108,21 @@ impl Tables {
         Some(BlockPlace {
             file,
             offset: row.offset,
+            flags: row.flags,
         })
+    }
+
+    /// Puts the samples of a block that was read into hierarchical order, where the flags of its row say that they stand in
+    /// row-major order. Takes no memory.
+    pub(crate) fn put_in_hz_order(&self, field: u32, block: u64, flags: u32, bytes: &mut [u8])
+        requires field { field < length (block_lengths (placing_of self.now.header)) }
+        requires exists { block < block_count self.now.header }
+        requires room { length bytes.old ≡ slice_index (block_lengths (placing_of self.now.header)) field }
+        ensures { bytes.new ≡ order_of (placing_of self.now.header) field block flags bytes.old }
+    {
+        if flags == ROW_MAJOR {
+            to_hz(&self.header, field, block, bytes);
+        }
     }
 }
 

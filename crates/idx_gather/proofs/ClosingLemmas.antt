@@ -12,7 +12,7 @@ use Rattle.idx_outside.specs.Files.{AllNamed, IsNamed, entry_shown, known_files,
 use Rattle.idx_outside.specs.declared.mem_file.MemFile.{MemFile}
 use Rattle.idx_header.specs.Header.{HeaderValue}
 use Rattle.idx_header.specs.Names.{file_name}
-use Rattle.idx_layout.specs.declared.layout.Layout.TheVariants.{Hz}
+use Rattle.idx_rowmajor.specs.declared.layout.Layout.{Layout}
 use Rattle.idx_layout.specs.OfHeader.{placing_of}
 use Rattle.idx_layout.specs.Placing.{block_count, file_numbers}
 use Rattle.idx_layout.specs.Step.{step_file}
@@ -82,7 +82,7 @@ one_order (x ∷ xs) (y ∷ ys) rise rise' in_ys in_xs =
 
 -- ---- the window
 
-module _ {L : Type 0} (contents : L → Option (List ℕ)) (h : HeaderValue) (step ranks room : ℕ) (pieces : List Piece) (files : List ℕ) (leaves : List (List ℕ × L))
+module _ {L : Type 0} (layout : Layout) (contents : L → Option (List ℕ)) (h : HeaderValue) (step ranks room : ℕ) (pieces : List Piece) (files : List ℕ) (leaves : List (List ℕ × L))
     (opening : IsOpening h step ranks room pieces files (map (λ leaf. leaf.0) leaves)) (sealed sorted : List (ℕ × (List ℕ × L))) (left : List Piece)
     (state : AreOpen h pieces (drop (length leaves) files) (map (λ entry. entry.0) sealed) left [])
     (moved : IsPermutation sealed sorted) (rising : IsNonDecreasingBy (λ entry. entry.0) sorted) where
@@ -159,24 +159,24 @@ module _ {L : Type 0} (contents : L → Option (List ℕ)) (h : HeaderValue) (st
       ∙ ap (λ k. take k files) (sym whole_count ∙ sym (length-map (leaves ++ more) (entry_shown contents)))
 
   shown_more : (known : Option (List MemFile)) (v : List (List (List ℕ))) (es : List (ℕ × (List ℕ × L))) →
-      All (λ e. entry_shown contents e.1 ≡ entry_shown (known_with known) (step_file Hz h v step e.0)) es →
-      map (entry_shown contents) (map leaf_of es) ≡ known_files known (map (step_file Hz h v step) (map number es))
+      All (λ e. entry_shown contents e.1 ≡ entry_shown (known_with known) (step_file layout h v step e.0)) es →
+      map (entry_shown contents) (map leaf_of es) ≡ known_files known (map (step_file layout h v step) (map number es))
   shown_more known v [] all = refl
   shown_more known v (e ∷ es) all =
-      ap (λ x. x ∷ map (entry_shown contents) (map leaf_of es)) (All-head (λ e. entry_shown contents e.1 ≡ entry_shown (known_with known) (step_file Hz h v step e.0)) e es all)
-      ∙ ap (λ xs. entry_shown (known_with known) (step_file Hz h v step e.0) ∷ xs)
-      (shown_more known v es (All-tail (λ e. entry_shown contents e.1 ≡ entry_shown (known_with known) (step_file Hz h v step e.0)) e es all))
+      ap (λ x. x ∷ map (entry_shown contents) (map leaf_of es)) (All-head (λ e. entry_shown contents e.1 ≡ entry_shown (known_with known) (step_file layout h v step e.0)) e es all)
+      ∙ ap (λ xs. entry_shown (known_with known) (step_file layout h v step e.0) ∷ xs)
+      (shown_more known v es (All-tail (λ e. entry_shown contents e.1 ≡ entry_shown (known_with known) (step_file layout h v step e.0)) e es all))
 
   -- the files so far are the first ones
-  pub first_closed : (known : Option (List MemFile)) (told : Option (List ℕ)) → AreSealed h step known told files (shown contents leaves) (numbered contents sealed) →
-      AreFirstFiles h step known told files (shown contents (leaves ++ more))
+  pub first_closed : (known : Option (List MemFile)) (told : Option (List ℕ)) → AreSealed layout h step known told files (shown contents leaves) (numbered contents sealed) →
+      AreFirstFiles layout h step known told files (shown contents (leaves ++ more))
   first_closed known told are =
       let v : List (List (List ℕ)) = are.volume in
-      let sf : ℕ → List ℕ × List ℕ = step_file Hz h v step in
-      let given : All (λ e. entry_shown contents e.1 ≡ entry_shown (known_with known) (step_file Hz h v step e.0)) sealed =
-      All-of_map (IsFileOf h v step known) (λ (entry : ℕ × (List ℕ × L)). (entry.0, entry_shown contents entry.1)) sealed are.others_are in
-      let here : All (λ e. entry_shown contents e.1 ≡ entry_shown (known_with known) (step_file Hz h v step e.0)) sorted =
-      All-permutation (λ e. entry_shown contents e.1 ≡ entry_shown (known_with known) (step_file Hz h v step e.0)) sealed sorted moved given in
+      let sf : ℕ → List ℕ × List ℕ = step_file layout h v step in
+      let given : All (λ e. entry_shown contents e.1 ≡ entry_shown (known_with known) (step_file layout h v step e.0)) sealed =
+      All-of_map (IsFileOf layout h v step known) (λ (entry : ℕ × (List ℕ × L)). (entry.0, entry_shown contents entry.1)) sealed are.others_are in
+      let here : All (λ e. entry_shown contents e.1 ≡ entry_shown (known_with known) (step_file layout h v step e.0)) sorted =
+      All-permutation (λ e. entry_shown contents e.1 ≡ entry_shown (known_with known) (step_file layout h v step e.0)) sealed sorted moved given in
       record {
         volume = v;
         is = are.is;
@@ -189,26 +189,26 @@ module _ {L : Type 0} (contents : L → Option (List ℕ)) (h : HeaderValue) (st
             ∙ ap (known_files known) (sym (map-append sf (take n files) numbers) ∙ ap (map sf) whole_numbers);
       }
 
-  so_far : (known : Option (List MemFile)) (told : Option (List ℕ)) → AreFirstFiles h step known told files (shown contents (leaves ++ more)) → AreFilesSoFar h step files (shown contents (leaves ++ more))
+  so_far : (known : Option (List MemFile)) (told : Option (List ℕ)) → AreFirstFiles layout h step known told files (shown contents (leaves ++ more)) → AreFilesSoFar layout h step files (shown contents (leaves ++ more))
   so_far known told first =
       record {
         volume = first.volume;
         is = first.is;
-        tell = subst (λ (xs : List (List ℕ × Option (List ℕ))). AllZip TellsFile xs (map (step_file Hz h first.volume step) (take (length (shown contents (leaves ++ more))) files))) (sym first.same)
-            (told_known known (map (step_file Hz h first.volume step) (take (length (shown contents (leaves ++ more))) files)));
+        tell = subst (λ (xs : List (List ℕ × Option (List ℕ))). AllZip TellsFile xs (map (step_file layout h first.volume step) (take (length (shown contents (leaves ++ more))) files))) (sym first.same)
+            (told_known known (map (step_file layout h first.volume step) (take (length (shown contents (leaves ++ more))) files)));
       }
 
   firsts : (xs : List (List ℕ × L)) → map (λ (entry : List ℕ × Option (List ℕ)). entry.0) (shown contents xs) ≡ map (λ leaf. leaf.0) xs
   firsts [] = refl
   firsts (x ∷ xs) = ap (λ ps. x.0 ∷ ps) (firsts xs)
 
-  module _ (known : Option (List MemFile)) (told : Option (List ℕ)) (are : AreSealed h step known told files (shown contents leaves) (numbered contents sealed)) where
-    pub so_far_closed : AreFilesSoFar h step files (shown contents (leaves ++ more))
+  module _ (known : Option (List MemFile)) (told : Option (List ℕ)) (are : AreSealed layout h step known told files (shown contents leaves) (numbered contents sealed)) where
+    pub so_far_closed : AreFilesSoFar layout h step files (shown contents (leaves ++ more))
     so_far_closed = so_far known told (first_closed known told are)
 
     pub opening_closed : IsOpening h step ranks room pieces files (map (λ leaf. leaf.0) (leaves ++ more))
     opening_closed =
-        let all : AreFilesSoFar h step files (shown contents (leaves ++ more)) = so_far_closed in
+        let all : AreFilesSoFar layout h step files (shown contents (leaves ++ more)) = so_far_closed in
         let count : length (map (λ (leaf : List ℕ × L). leaf.0) (leaves ++ more)) ≡ n + length sealed = length-map (leaves ++ more) (λ (leaf : List ℕ × L). leaf.0) ∙ whole_count in
         record {
           some_rank = opening.some_rank;
@@ -219,7 +219,7 @@ module _ {L : Type 0} (contents : L → Option (List ℕ)) (h : HeaderValue) (st
           few = omega (arith, count, within);
           paths_are =
               sym (firsts (leaves ++ more))
-              ∙ paths_told h step all.volume (shown contents (leaves ++ more)) (take (length (shown contents (leaves ++ more))) files) all.tell
+              ∙ paths_told layout h step all.volume (shown contents (leaves ++ more)) (take (length (shown contents (leaves ++ more))) files) all.tell
               ∙ ap (λ k. map (file_name h step) (take k files)) (length-map (leaves ++ more) (entry_shown contents) ∙ whole_count ∙ sym count);
         }
 

@@ -12,7 +12,7 @@ use Rattle.idx_outside.specs.Shape.{Shape}
 use Rattle.idx_outside.specs.declared.mem_file.MemFile.{MemFile}
 use Rattle.idx_header.specs.Header.{HasTime, HeaderValue, IsHeader, volume_bytes}
 use Rattle.idx_header.specs.Names.{file_name}
-use Rattle.idx_layout.specs.declared.layout.Layout.TheVariants.{Hz}
+use Rattle.idx_rowmajor.specs.declared.layout.Layout.{Layout}
 use Rattle.idx_layout.specs.OfHeader.{placing_of}
 use Rattle.idx_layout.specs.Step.{step_files, volume_of_raw}
 use Rattle.idx_edition.specs.Stored.{HasFiles}
@@ -38,26 +38,26 @@ at_behind path (file ∷ files) more none = by_test (at_behind path files more) 
         ∙ rest (sym (ap (λ (b : Bool). cond b (Some file.bytes) (file_at path files)) e) ∙ none)
 
 -- An edition that holds what files store that have those of the step, whatever else they have.
-pub record HoldsAny (h : HeaderValue) (step : ℕ) (volume : List (List (List ℕ))) (shape : Shape) (has : ℕ → ℕ → Bool)
+pub record HoldsAny (layout : Layout) (h : HeaderValue) (step : ℕ) (volume : List (List (List ℕ))) (shape : Shape) (has : ℕ → ℕ → Bool)
     (stored : Option (ℕ → ℕ → List ℕ)) (leaves : List (List ℕ × Option (List ℕ))) : Type 0 where
-  pub any : (files : List MemFile) → HasFiles Hz h step volume files → leaves ≡ known_files (Some files) (step_files Hz h volume step) → HoldsStored h step files shape has stored leaves
+  pub any : (files : List MemFile) → HasFiles layout h step volume files → leaves ≡ known_files (Some files) (step_files layout h volume step) → HoldsStored h step files shape has stored leaves
 
-module _ (h : HeaderValue) (step : ℕ) (is : IsHeader h) (here : HasTime h step) (volume : List (List (List ℕ))) (folder : List ℕ) (shape : Shape) (has : ℕ → ℕ → Bool) (stored : Option (ℕ → ℕ → List ℕ)) (leaves : List (List ℕ × Option (List ℕ))) (holds : HoldsAny h step volume shape has stored leaves) where
+module _ (layout : Layout) (h : HeaderValue) (step : ℕ) (is : IsHeader h) (here : HasTime h step) (volume : List (List (List ℕ))) (folder : List ℕ) (shape : Shape) (has : ℕ → ℕ → Bool) (stored : Option (ℕ → ℕ → List ℕ)) (leaves : List (List ℕ × Option (List ℕ))) (holds : HoldsAny layout h step volume shape has stored leaves) where
   more : List MemFile
-  more = files_of folder (step_files Hz h volume step)
+  more = files_of folder (step_files layout h volume step)
 
-  holds_own : (files : List MemFile) → leaves ≡ known_files (Some files) (step_files Hz h volume step) → HoldsStored h step (drop (length files) (files ++ more)) shape has stored leaves
+  holds_own : (files : List MemFile) → leaves ≡ known_files (Some files) (step_files layout h volume step) → HoldsStored h step (drop (length files) (files ++ more)) shape has stored leaves
   unfolding more
   holds_own files same =
       subst (λ fs. HoldsStored h step fs shape has stored leaves) (sym (drop-append_seam files more))
-      (holds.any more (own_files Hz h step volume folder is here) same)
+      (holds.any more (own_files layout h step volume folder is here) same)
 
-  holds_all : (files : List MemFile) → LackPaths h step files → leaves ≡ known_files (Some files) (step_files Hz h volume step) → HoldsStored h step (files ++ more) shape has stored leaves
+  holds_all : (files : List MemFile) → LackPaths h step files → leaves ≡ known_files (Some files) (step_files layout h volume step) → HoldsStored h step (files ++ more) shape has stored leaves
   unfolding more
   holds_all files lack same =
-      holds.any (files ++ more) (λ i file at. at_behind (file_name h step file) files more (lack file) ∙ own_files Hz h step volume folder is here i file at) same
+      holds.any (files ++ more) (λ i file at. at_behind (file_name h step file) files more (lack file) ∙ own_files layout h step volume folder is here i file at) same
 
-  pub holds_added : (old new : Option (List MemFile)) → leaves ≡ known_files old (step_files Hz h volume step) → new ≡ added old (files_of folder (step_files Hz h volume step)) →
+  pub holds_added : (old new : Option (List MemFile)) → leaves ≡ known_files old (step_files layout h volume step) → new ≡ added old (files_of folder (step_files layout h volume step)) →
       HoldsAdded h step old new shape has stored leaves
   unfolding more
   holds_added None new same stands = record {

@@ -10,6 +10,7 @@ use Rattle.idx_layout.specs.Files.{length_of_file}
 use Rattle.idx_layout.specs.OfHeader.{placing_of}
 use Rattle.idx_pieces.specs.declared.piece.Piece.{Piece}
 use Rattle.idx_dock.specs.Dock.{DockValue}
+use Rattle.idx_rowmajor.specs.declared.layout.Layout.{Layout}
 use Rattle.idx_seal.specs.Files.{dock_file}
 use Rattle.idx_gather.specs.Windows.{run_count}
 use Rattle.idx_gather.specs.States.{AreDocks, IsOpening}
@@ -33,10 +34,10 @@ pub run_some : {X : Type 0} (size : X → ℕ) (room : ℕ) (xs : List X) → 0 
 run_some size room [] some = absurd (omega arith)
 run_some size room (x ∷ xs) some = omega arith
 
-module _ {L : Type 0} (contents : L → Option (List ℕ)) (h : HeaderValue) (step : ℕ) where
+module _ {L : Type 0} (layout : Layout) (contents : L → Option (List ℕ)) (h : HeaderValue) (step : ℕ) where
   -- the paths of sealed files
   paths_of : (known : Option (List MemFile)) (leaves : List (List ℕ × L)) (docks : List DockValue) →
-      shown contents leaves ≡ known_files known (map (dock_file h step) docks) → map (λ leaf. leaf.0) leaves ≡ map (file_name h step) (map (λ d. d.file) docks)
+      shown contents leaves ≡ known_files known (map (dock_file layout h step) docks) → map (λ leaf. leaf.0) leaves ≡ map (file_name h step) (map (λ d. d.file) docks)
   paths_of known leaves docks same =
       sym (firsts (entry_shown contents) leaves (λ leaf. refl))
       ∙ ap (map (λ (entry : List ℕ × Option (List ℕ)). entry.0)) same
@@ -46,7 +47,7 @@ module _ {L : Type 0} (contents : L → Option (List ℕ)) (h : HeaderValue) (st
       firsts f [] each = refl
       firsts f (x ∷ xs) each = ap (λ p. p ∷ map (λ (entry : List ℕ × Option (List ℕ)). entry.0) (map f xs)) (each x) ∙ ap (λ ps. x.0 ∷ ps) (firsts f xs each)
 
-      firsts_of : (ds : List DockValue) → map (λ (entry : List ℕ × Option (List ℕ)). entry.0) (known_files known (map (dock_file h step) ds)) ≡ map (file_name h step) (map (λ d. d.file) ds)
+      firsts_of : (ds : List DockValue) → map (λ (entry : List ℕ × Option (List ℕ)). entry.0) (known_files known (map (dock_file layout h step) ds)) ≡ map (file_name h step) (map (λ d. d.file) ds)
       firsts_of [] = refl
       firsts_of (d ∷ ds) = ap (λ ps. file_name h step d.file ∷ ps) (firsts_of ds)
 
@@ -59,14 +60,14 @@ module _ {L : Type 0} (contents : L → Option (List ℕ)) (h : HeaderValue) (st
     count_within = run_within (length_of_file (placing_of h)) room (drop (length leaves) files)
 
     -- as many files are sealed as the window has
-    more_count : AreDocks h room pieces (drop (length leaves) files) done left docks → shown contents more ≡ known_files known (map (dock_file h step) docks) → length more ≡ count
+    more_count : AreDocks h room pieces (drop (length leaves) files) done left docks → shown contents more ≡ known_files known (map (dock_file layout h step) docks) → length more ≡ count
     unfolding count
     more_count are same =
         sym (length-map more (λ leaf. leaf.0)) ∙ ap length (paths_of known more docks same)
         ∙ length-map (map (λ d. d.file) docks) (file_name h step) ∙ ap length are.window
         ∙ length_take count (drop (length leaves) files) count_within
 
-    pub more_leaves : AreDocks h room pieces (drop (length leaves) files) done left docks → shown contents more ≡ known_files known (map (dock_file h step) docks) → length leaves < length (leaves ++ more)
+    pub more_leaves : AreDocks h room pieces (drop (length leaves) files) done left docks → shown contents more ≡ known_files known (map (dock_file layout h step) docks) → length leaves < length (leaves ++ more)
     unfolding count
     more_leaves are same =
         let some = run_some (length_of_file (placing_of h)) room (drop (length leaves) files) are.some in
@@ -74,7 +75,7 @@ module _ {L : Type 0} (contents : L → Option (List ℕ)) (h : HeaderValue) (st
         omega (arith, length-append leaves more, many, some)
 
     pub next_opening : (ranks : ℕ) → IsOpening h step ranks room pieces files (map (λ leaf. leaf.0) leaves) → AreDocks h room pieces (drop (length leaves) files) done left docks →
-        shown contents more ≡ known_files known (map (dock_file h step) docks) → IsOpening h step ranks room pieces files (map (λ leaf. leaf.0) (leaves ++ more))
+        shown contents more ≡ known_files known (map (dock_file layout h step) docks) → IsOpening h step ranks room pieces files (map (λ leaf. leaf.0) (leaves ++ more))
     unfolding count
     next_opening ranks opening are same =
         let first : List ℕ × L → List ℕ = λ leaf. leaf.0 in

@@ -13,7 +13,7 @@ use Rattle.idx_geom.specs.Region.{upper_ends}
 use Rattle.idx_geom.proofs.LiesInLemmas.{LiesIn-upper_ends}
 use Rattle.idx_hz.specs.Address.{hz_address}
 use Rattle.idx_header.specs.Header.{HeaderValue, IsHeader}
-use Rattle.idx_layout.specs.declared.layout.Layout.{Layout}
+use Rattle.idx_rowmajor.specs.declared.layout.Layout.{Layout}
 use Rattle.idx_layout.specs.Placing.{Placing, block_count, file_numbers, file_of, is_present}
 use Rattle.idx_layout.specs.OfHeader.{placing_of}
 use Rattle.idx_layout.specs.Step.{step_file, step_files}

@@ -12,7 +12,7 @@ use Rattle.idx_names.specs.Path as paths
 use Rattle.idx_header.specs.Header.{HeaderValue, block_count}
 use Rattle.idx_header.specs.Names.{file_name, step_folder, name_with}
 use Rattle.idx_header.specs.declared.steps.Steps.{Steps}
-use Rattle.idx_layout.specs.declared.layout.Layout.{Layout}
+use Rattle.idx_rowmajor.specs.declared.layout.Layout.{Layout}
 use Rattle.idx_layout.specs.Placing.{file_numbers}
 use Rattle.idx_layout.specs.OfHeader.{placing_of}
 use Rattle.idx_layout.specs.Step.{step_file, step_files}

@@ -10,7 +10,7 @@ use Rattle.idx_outside.specs.Files.{AllLieIn, LiesIn, entry_shown, known_files, 
 use Rattle.idx_outside.specs.declared.mem_file.MemFile.{MemFile}
 use Rattle.idx_header.specs.Header.{HeaderValue, IsHeader, volume_bytes}
 use Rattle.idx_header.specs.Names.{file_name}
-use Rattle.idx_layout.specs.declared.layout.Layout.TheVariants.{Hz}
+use Rattle.idx_rowmajor.specs.declared.layout.Layout.{Layout}
 use Rattle.idx_layout.specs.Files.{file_bytes}
 use Rattle.idx_layout.specs.OfHeader.{placing_of}
 use Rattle.idx_layout.specs.Placing.{file_numbers}
@@ -68,67 +68,67 @@ known_told known (leaf ∷ leaves) (file ∷ files) tell all =
 
 -- ---- no file yet, and all files
 
-pub none_so_far : (h : HeaderValue) (step : ℕ) (files : List ℕ) → AreFilesSoFar h step files []
-none_so_far h step files =
+pub none_so_far : (layout : Layout) (h : HeaderValue) (step : ℕ) (files : List ℕ) → AreFilesSoFar layout h step files []
+none_so_far layout h step files =
     let bytes : List ℕ = replicate (volume_bytes h) 0 in
     record { volume = volume_of_raw h bytes; is = is_volume h bytes (length-replicate (volume_bytes h) 0); tell = tt }
 
-pub all_files : (h : HeaderValue) (step : ℕ) (files : List ℕ) (sealed : List (List ℕ × Option (List ℕ))) → files ≡ file_numbers (placing_of h) → length sealed ≡ length files →
-    AreFilesSoFar h step files sealed → AreAllFiles h step sealed
-all_files h step files sealed numbers all so_far = record {
+pub all_files : (layout : Layout) (h : HeaderValue) (step : ℕ) (files : List ℕ) (sealed : List (List ℕ × Option (List ℕ))) → files ≡ file_numbers (placing_of h) → length sealed ≡ length files →
+    AreFilesSoFar layout h step files sealed → AreAllFiles layout h step sealed
+all_files layout h step files sealed numbers all so_far = record {
   volume = so_far.volume;
   is = so_far.is;
-  tell = subst (λ (fs : List ℕ). AllZip TellsFile sealed (map (step_file Hz h so_far.volume step) fs))
+  tell = subst (λ (fs : List ℕ). AllZip TellsFile sealed (map (step_file layout h so_far.volume step) fs))
       (ap (λ n. take n files) all ∙ take_all (length files) files (omega arith) ∙ numbers) so_far.tell;
 }
 
 -- ---- the step
 
 -- they are as the writer lays out
-pub paths_told : (h : HeaderValue) (step : ℕ) (v : List (List (List ℕ))) (leaves : List (List ℕ × Option (List ℕ))) (numbers : List ℕ) → AllZip TellsFile leaves (map (step_file Hz h v step) numbers) →
+pub paths_told : (layout : Layout) (h : HeaderValue) (step : ℕ) (v : List (List (List ℕ))) (leaves : List (List ℕ × Option (List ℕ))) (numbers : List ℕ) → AllZip TellsFile leaves (map (step_file layout h v step) numbers) →
     map (λ leaf. leaf.0) leaves ≡ map (file_name h step) numbers
-paths_told h step v [] [] all = refl
-paths_told h step v [] (n ∷ numbers) all = absurd all
-paths_told h step v (leaf ∷ leaves) [] all = absurd all
-paths_told h step v (leaf ∷ leaves) (n ∷ numbers) all =
-    ap (λ path. path ∷ map (λ (l : List ℕ × Option (List ℕ)). l.0) leaves) all.0.0 ∙ ap (λ paths. file_name h step n ∷ paths) (paths_told h step v leaves numbers all.1)
+paths_told layout h step v [] [] all = refl
+paths_told layout h step v [] (n ∷ numbers) all = absurd all
+paths_told layout h step v (leaf ∷ leaves) [] all = absurd all
+paths_told layout h step v (leaf ∷ leaves) (n ∷ numbers) all =
+    ap (λ path. path ∷ map (λ (l : List ℕ × Option (List ℕ)). l.0) leaves) all.0.0 ∙ ap (λ paths. file_name h step n ∷ paths) (paths_told layout h step v leaves numbers all.1)
 
-bytes_told : (h : HeaderValue) (step : ℕ) (v : List (List (List ℕ))) (leaves : List (List ℕ × Option (List ℕ))) (numbers : List ℕ) → AllZip TellsFile leaves (map (step_file Hz h v step) numbers) →
-    (i file : ℕ) (path bytes : List ℕ) → slice_get numbers i ≡ Some file → slice_get leaves i ≡ Some (path, Some bytes) → bytes ≡ file_bytes Hz (placing_of h) v file
-bytes_told h step v leaves [] all i file path bytes number at = let wrong : None ≡ Some file = number in absurd (cc)
-bytes_told h step v [] (n ∷ numbers) all i file path bytes number at = absurd all
-bytes_told h step v (leaf ∷ leaves) (n ∷ numbers) all zero file path bytes number at =
+bytes_told : (layout : Layout) (h : HeaderValue) (step : ℕ) (v : List (List (List ℕ))) (leaves : List (List ℕ × Option (List ℕ))) (numbers : List ℕ) → AllZip TellsFile leaves (map (step_file layout h v step) numbers) →
+    (i file : ℕ) (path bytes : List ℕ) → slice_get numbers i ≡ Some file → slice_get leaves i ≡ Some (path, Some bytes) → bytes ≡ file_bytes layout (placing_of h) v file
+bytes_told layout h step v leaves [] all i file path bytes number at = let wrong : None ≡ Some file = number in absurd (cc)
+bytes_told layout h step v [] (n ∷ numbers) all i file path bytes number at = absurd all
+bytes_told layout h step v (leaf ∷ leaves) (n ∷ numbers) all zero file path bytes number at =
     let same : n ≡ file = cc in
     let both : ◌≡◌ {A = Option (List ℕ × Option (List ℕ))} (Some leaf) (Some (path, Some bytes)) = at in
     let own : ◌≡◌ {A = List ℕ × Option (List ℕ)} leaf (path, Some bytes) = cc in
-    subst (λ (k : ℕ). bytes ≡ file_bytes Hz (placing_of h) v k) same
-    (subst (λ (l : List ℕ × Option (List ℕ)). IfSome l.1 (λ told. told ≡ file_bytes Hz (placing_of h) v n)) own all.0.1)
-bytes_told h step v (leaf ∷ leaves) (n ∷ numbers) all (suc i) file path bytes number at = bytes_told h step v leaves numbers all.1 i file path bytes number at
+    subst (λ (k : ℕ). bytes ≡ file_bytes layout (placing_of h) v k) same
+    (subst (λ (l : List ℕ × Option (List ℕ)). IfSome l.1 (λ told. told ≡ file_bytes layout (placing_of h) v n)) own all.0.1)
+bytes_told layout h step v (leaf ∷ leaves) (n ∷ numbers) all (suc i) file path bytes number at = bytes_told layout h step v leaves numbers all.1 i file path bytes number at
 
-pub written_told : (h : HeaderValue) (step : ℕ) (leaves : List (List ℕ × Option (List ℕ))) → (are : AreAllFiles h step leaves) → AreWritten Hz h step are.volume leaves
-written_told h step leaves are = record {
+pub written_told : (layout : Layout) (h : HeaderValue) (step : ℕ) (leaves : List (List ℕ × Option (List ℕ))) → (are : AreAllFiles layout h step leaves) → AreWritten layout h step are.volume leaves
+written_told layout h step leaves are = record {
   whole = are.is;
-  paths = paths_told h step are.volume leaves (file_numbers (placing_of h)) are.tell;
-  bytes = bytes_told h step are.volume leaves (file_numbers (placing_of h)) are.tell;
+  paths = paths_told layout h step are.volume leaves (file_numbers (placing_of h)) are.tell;
+  bytes = bytes_told layout h step are.volume leaves (file_numbers (placing_of h)) are.tell;
 }
 
 -- where they tell their bytes as the committed files are known, they are those of some raw input
-pub step_told : (h : HeaderValue) (step : ℕ) (known : Option (List MemFile)) (sealed : List (List ℕ × Option (List ℕ))) → AreAllFiles h step sealed → TellAs known sealed →
-    (raw : List ℕ) × IsStepOf h step known sealed raw
-step_told h step known sealed are tell =
+pub step_told : (layout : Layout) (h : HeaderValue) (step : ℕ) (known : Option (List MemFile)) (sealed : List (List ℕ × Option (List ℕ))) → AreAllFiles layout h step sealed → TellAs known sealed →
+    (raw : List ℕ) × IsStepOf layout h step known sealed raw
+step_told layout h step known sealed are tell =
     let some = raw_is h are.volume are.is in (
       some.0,
       record {
         whole = some.1.0;
-        same = known_told known sealed (step_files Hz h are.volume step) tell are.tell ∙ ap (λ v. known_files known (step_files Hz h v step)) (sym some.1.1);
+        same = known_told known sealed (step_files layout h are.volume step) tell are.tell ∙ ap (λ v. known_files known (step_files layout h v step)) (sym some.1.1);
       },
     )
 
 -- there is one
-pub some_told : {L : Type 0} (contents : L → Option (List ℕ)) (h : HeaderValue) (step : ℕ) (leaves : List (List ℕ × L)) → IsHeader h → AreAllFiles h step (shown contents leaves) → 0 < length leaves
-some_told contents h step leaves valid are =
-    let many : length (step_files Hz h are.volume step) ≡ length leaves = zip_count TellsFile (shown contents leaves) (step_files Hz h are.volume step) are.tell ∙ length-map leaves (entry_shown contents) in
-    subst (λ (n : ℕ). 0 < n) many (some_step_file Hz h are.volume step valid)
+pub some_told : {L : Type 0} (layout : Layout) (contents : L → Option (List ℕ)) (h : HeaderValue) (step : ℕ) (leaves : List (List ℕ × L)) → IsHeader h → AreAllFiles layout h step (shown contents leaves) → 0 < length leaves
+some_told layout contents h step leaves valid are =
+    let many : length (step_files layout h are.volume step) ≡ length leaves = zip_count TellsFile (shown contents leaves) (step_files layout h are.volume step) are.tell ∙ length-map leaves (entry_shown contents) in
+    subst (λ (n : ℕ). 0 < n) many (some_step_file layout h are.volume step valid)
 
 -- that leaves lie in a folder has one proof at most
 pub lie_fact : {L : Type 0} (folder : List ℕ) (leaves : List (List ℕ × L)) → IsProp (AllLieIn folder leaves)

@@ -11,8 +11,8 @@ use Rattle.idx_outside.specs.declared.bay_call.BayCall.TheVariants as calls
 use Rattle.idx_outside.specs.declared.mem_file.MemFile.{MemFile}
 use Rattle.idx_header.specs.Header.{HeaderValue, HasTime, volume_bytes}
 use Rattle.idx_header.specs.Names.{file_name, step_folder}
-use Rattle.idx_layout.specs.declared.layout.Layout.{Layout}
-use Rattle.idx_layout.specs.declared.layout.Layout.TheVariants.{Hz}
+use Rattle.idx_rowmajor.specs.declared.layout.Layout.{Layout}
+use Rattle.idx_rowmajor.specs.declared.layout.Layout.TheVariants.{Hz}
 use Rattle.idx_layout.specs.Files.{length_of_file}
 use Rattle.idx_layout.specs.Placing.{file_numbers, is_present}
 use Rattle.idx_layout.specs.OfHeader.{placing_of}
@@ -51,9 +51,12 @@ abbrev pub StepAdded : HeaderValue → ℕ → Option (List MemFile) → Option 
 StepAdded = StepAddedAs Hz
 
 -- The same of some bytes, as many as a volume has; they are those of the raw volume where these are known.
+abbrev pub SomeStepAddedAs : Layout → HeaderValue → ℕ → Option (List ℕ) → Option (List MemFile) → Option (List MemFile) → Type 0
+SomeStepAddedAs layout h step raw old new =
+    (bytes : List ℕ) × ((length bytes ≡ volume_bytes h) × IfSome raw (λ known. bytes ≡ known) × StepAddedAs layout h step old new bytes)
+
 abbrev pub SomeStepAdded : HeaderValue → ℕ → Option (List ℕ) → Option (List MemFile) → Option (List MemFile) → Type 0
-SomeStepAdded h step raw old new =
-    (bytes : List ℕ) × ((length bytes ≡ volume_bytes h) × IfSome raw (λ known. bytes ≡ known) × StepAdded h step old new bytes)
+SomeStepAdded = SomeStepAddedAs Hz
 
 -- the bytes of no raw volume are known, or those of all, and then they are the same
 abbrev pub HaveSame : {V : Type 0} → (V → Option (List ℕ)) → List V → Type 0
@@ -92,9 +95,12 @@ IsStoreFault before after NoMemory = after ≡ before
 
 -- What each fault leaves of the committed files: they are those from before. A store's fault may come of the commit itself,
 -- which then may have added the step, whole.
+abbrev pub LeavesAs : Layout → HeaderValue → ℕ → Option (List ℕ) → Option (List MemFile) → Option (List MemFile) → GatherFault → Type 0
+LeavesAs layout h step raw old new (StoreFault faults) = (new ≡ old) ⊎ SomeStepAddedAs layout h step raw old new
+LeavesAs layout h step raw old new fault = new ≡ old
+
 abbrev pub Leaves : HeaderValue → ℕ → Option (List ℕ) → Option (List MemFile) → Option (List MemFile) → GatherFault → Type 0
-Leaves h step raw old new (StoreFault faults) = (new ≡ old) ⊎ SomeStepAdded h step raw old new
-Leaves h step raw old new fault = new ≡ old
+Leaves = LeavesAs Hz
 
 -- The bytes of the raw volume are known, and have another length than the samples of the box take.
 abbrev pub LacksVolume : HeaderValue → Option (List ℕ) → Type 0

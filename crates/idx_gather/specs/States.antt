@@ -12,7 +12,7 @@ use Rattle.idx_header.specs.Names.{file_name}
 use Rattle.idx_layout.specs.Placing.{file_numbers}
 use Rattle.idx_layout.specs.OfHeader.{placing_of}
 use Rattle.idx_layout.specs.Step.{step_file, step_files, volume_of_raw}
-use Rattle.idx_layout.specs.declared.layout.Layout.TheVariants.{Hz}
+use Rattle.idx_rowmajor.specs.declared.layout.Layout.{Layout}
 use Rattle.idx_pieces.specs.Digits.{piece_digits}
 use Rattle.idx_pieces.specs.Pieces.{pieces_of}
 use Rattle.idx_pieces.specs.Refusals.{why_not}
@@ -88,35 +88,35 @@ HaveSamples h sample docks = All (λ d. All (HasSamples h sample) (runs_in d.awa
 abbrev pub AreFull : List DockValue → Type 0
 AreFull docks = All (λ d. missing d ≡ None) docks
 
--- Sealed files, by their paths and what is known of their bytes, are those of the step of the volume with this raw input; `known` is
--- what is known of the committed files.
-pub record IsStepOf (h : HeaderValue) (step : ℕ) (known : Option (List MemFile)) (sealed : List (List ℕ × Option (List ℕ))) (raw : List ℕ) : Type 0 where
+-- Sealed files, by their paths and what is known of their bytes, are those of the step of the volume with this raw input, in a
+-- layout; `known` is what is known of the committed files.
+pub record IsStepOf (layout : Layout) (h : HeaderValue) (step : ℕ) (known : Option (List MemFile)) (sealed : List (List ℕ × Option (List ℕ))) (raw : List ℕ) : Type 0 where
   pub whole : length raw ≡ volume_bytes h
-  pub same : sealed ≡ known_files known (step_files Hz h (volume_of_raw h raw) step)
+  pub same : sealed ≡ known_files known (step_files layout h (volume_of_raw h raw) step)
 
 -- Sealed files are the first files of the step of some volume, which is that of the raw input where this is told.
-pub record AreFirstFiles (h : HeaderValue) (step : ℕ) (known : Option (List MemFile)) (told : Option (List ℕ)) (files : List ℕ)
+pub record AreFirstFiles (layout : Layout) (h : HeaderValue) (step : ℕ) (known : Option (List MemFile)) (told : Option (List ℕ)) (files : List ℕ)
     (sealed : List (List ℕ × Option (List ℕ))) : Type 0 where
   pub volume : List (List (List ℕ))
   pub is : IsVolume (map sample_bytes h.fields) (length (points h.box)) volume
   pub told_is : IfSome told (λ raw. volume ≡ volume_of_raw h raw)
-  pub same : sealed ≡ known_files known (map (step_file Hz h volume step) (take (length sealed) files))
+  pub same : sealed ≡ known_files known (map (step_file layout h volume step) (take (length sealed) files))
 
 -- a leaf has the path of this file, and its bytes where it tells its own
 abbrev pub TellsFile : List ℕ × Option (List ℕ) → List ℕ × List ℕ → Type 0
 TellsFile leaf file = (leaf.0 ≡ file.0) × IfSome leaf.1 (λ bytes. bytes ≡ file.1)
 
 -- Sealed files, by their paths and what they tell of their bytes, are the first files of the step of some volume, each once.
-pub record AreFilesSoFar (h : HeaderValue) (step : ℕ) (files : List ℕ) (sealed : List (List ℕ × Option (List ℕ))) : Type 0 where
+pub record AreFilesSoFar (layout : Layout) (h : HeaderValue) (step : ℕ) (files : List ℕ) (sealed : List (List ℕ × Option (List ℕ))) : Type 0 where
   pub volume : List (List (List ℕ))
   pub is : IsVolume (map sample_bytes h.fields) (length (points h.box)) volume
-  pub tell : AllZip TellsFile sealed (map (step_file Hz h volume step) (take (length sealed) files))
+  pub tell : AllZip TellsFile sealed (map (step_file layout h volume step) (take (length sealed) files))
 
 -- Sealed files are all files of the step of some volume, each once.
-pub record AreAllFiles (h : HeaderValue) (step : ℕ) (sealed : List (List ℕ × Option (List ℕ))) : Type 0 where
+pub record AreAllFiles (layout : Layout) (h : HeaderValue) (step : ℕ) (sealed : List (List ℕ × Option (List ℕ))) : Type 0 where
   pub volume : List (List (List ℕ))
   pub is : IsVolume (map sample_bytes h.fields) (length (points h.box)) volume
-  pub tell : AllZip TellsFile sealed (step_files Hz h volume step)
+  pub tell : AllZip TellsFile sealed (step_files layout h volume step)
 
 -- sealed files tell their bytes exactly where the committed files are known
 abbrev pub TellAs : Option (List MemFile) → List (List ℕ × Option (List ℕ)) → Type 0

@@ -12,7 +12,7 @@ use Rattle.idx_header.specs.Header.{HeaderValue}
 use Rattle.idx_layout.specs.Files.{length_of_file}
 use Rattle.idx_layout.specs.OfHeader.{placing_of}
 use Rattle.idx_layout.specs.Step.{step_file, volume_of_raw}
-use Rattle.idx_layout.specs.declared.layout.Layout.TheVariants.{Hz}
+use Rattle.idx_rowmajor.specs.declared.layout.Layout.{Layout}
 use Rattle.idx_pieces.specs.declared.piece.Piece.{Piece}
 use Rattle.idx_dock.specs.Dock.{DockValue, is_open_at, missing, new_dock}
 use Rattle.idx_seal.specs.Files.{dock_file}
@@ -60,20 +60,20 @@ other_docks docks = filter (λ d. not (is_full d)) docks
 abbrev pub numbered : {L : Type 0} → (L → Option (List ℕ)) → List (ℕ × (List ℕ × L)) → List (ℕ × (List ℕ × Option (List ℕ)))
 numbered contents sealed = map (λ entry. (entry.0, entry_shown contents entry.1)) sealed
 
--- the sealed file of a dock; `known` is what is known of the committed files
-abbrev pub dock_entry : HeaderValue → ℕ → Option (List MemFile) → DockValue → ℕ × (List ℕ × Option (List ℕ))
-dock_entry h step known d = (d.file, entry_shown (known_with known) (dock_file h step d))
+-- the sealed file of a dock in a layout; `known` is what is known of the committed files
+abbrev pub dock_entry : Layout → HeaderValue → ℕ → Option (List MemFile) → DockValue → ℕ × (List ℕ × Option (List ℕ))
+dock_entry layout h step known d = (d.file, entry_shown (known_with known) (dock_file layout h step d))
 
 -- a sealed file is that of a volume
-abbrev pub IsFileOf : HeaderValue → List (List (List ℕ)) → ℕ → Option (List MemFile) → ℕ × (List ℕ × Option (List ℕ)) → Type 0
-IsFileOf h volume step known entry = entry.1 ≡ entry_shown (known_with known) (step_file Hz h volume step entry.0)
+abbrev pub IsFileOf : Layout → HeaderValue → List (List (List ℕ)) → ℕ → Option (List MemFile) → ℕ × (List ℕ × Option (List ℕ)) → Type 0
+IsFileOf layout h volume step known entry = entry.1 ≡ entry_shown (known_with known) (step_file layout h volume step entry.0)
 
 -- Sealed files are the first files of the step of some volume, and others of its files by their numbers. The volume is that of the
 -- raw input where this is told.
-pub record AreSealed (h : HeaderValue) (step : ℕ) (known : Option (List MemFile)) (told : Option (List ℕ)) (files : List ℕ)
+pub record AreSealed (layout : Layout) (h : HeaderValue) (step : ℕ) (known : Option (List MemFile)) (told : Option (List ℕ)) (files : List ℕ)
     (first : List (List ℕ × Option (List ℕ))) (others : List (ℕ × (List ℕ × Option (List ℕ)))) : Type 0 where
   pub volume : List (List (List ℕ))
   pub is : IsVolume (map sample_bytes h.fields) (length (points h.box)) volume
   pub told_is : IfSome told (λ raw. volume ≡ volume_of_raw h raw)
-  pub first_are : first ≡ known_files known (map (step_file Hz h volume step) (take (length first) files))
-  pub others_are : All (IsFileOf h volume step known) others
+  pub first_are : first ≡ known_files known (map (step_file layout h volume step) (take (length first) files))
+  pub others_are : All (IsFileOf layout h volume step known) others

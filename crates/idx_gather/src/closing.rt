@@ -22,19 +22,20 @@ pub(crate) fn close_stream<L: Leaf>(
         (drop (length stream.opening.leaves.items) stream.opening.files.items)
         (map (λ entry. entry.0) stream.sealed.items) stream.left.items stream.docks.items }
     requires sealed { (known : Option (List MemFile)) × ((told : Option (List ℕ)) ×
-        AreSealed stream.opening.header stream.opening.step known told stream.opening.files.items
+        AreSealed stream.opening.layout stream.opening.header stream.opening.step known told stream.opening.files.items
         (shown L.contents stream.opening.leaves.items) (numbered L.contents stream.sealed.items)) }
     ensures same_header { IfOk result (λ done. done.header ≡ stream.opening.header) }
     ensures same_step { IfOk result (λ done. done.step ≡ stream.opening.step) }
     ensures same_ranks { IfOk result (λ done. done.ranks ≡ stream.opening.ranks) }
     ensures same_room { IfOk result (λ done. done.room ≡ stream.opening.room) }
+    ensures same_layout { IfOk result (λ done. done.layout ≡ stream.opening.layout) }
     ensures same_pieces { IfOk result (λ done. done.pieces ≡ stream.opening.pieces) }
     ensures same_files { IfOk result (λ done. done.files ≡ stream.opening.files) }
     ensures more { IfOk result (λ done. length stream.opening.leaves.items < length done.leaves.items) }
     ensures first { IfOk result (λ done. (known : Option (List MemFile)) (told : Option (List ℕ)) →
-        AreSealed stream.opening.header stream.opening.step known told stream.opening.files.items
+        AreSealed stream.opening.layout stream.opening.header stream.opening.step known told stream.opening.files.items
         (shown L.contents stream.opening.leaves.items) (numbered L.contents stream.sealed.items) →
-        AreFirstFiles stream.opening.header stream.opening.step known told stream.opening.files.items
+        AreFirstFiles stream.opening.layout stream.opening.header stream.opening.step known told stream.opening.files.items
         (shown L.contents done.leaves.items)) }
 {
     let Stream {

@@ -2,6 +2,7 @@
 ghost use Rattle.std.specs.Prelude.{ℕ, List, Option};
 ghost use Rattle.idx_outside.specs.declared.mem_file.MemFile.{MemFile};
 ghost use Rattle.idx_header.specs.Header.{HeaderValue};
+ghost use Rattle.idx_rowmajor.specs.declared.layout.Layout.{Layout};
 ghost use Rattle.idx_layout.specs.Files.{length_of_file};
 ghost use Rattle.idx_layout.specs.OfHeader.{placing_of};
 ghost use Rattle.idx_pieces.specs.Samples.{region_bytes};
@@ -24,7 +25,7 @@ pub fn batches_fit_the_room()
 /// Sealed files are those of the step of some raw input, where they tell their bytes exactly where the committed files are
 /// known: so what a commit says of such an input it says of them.
 pub fn sealed_files_are_a_step()
-    ensures { (h : HeaderValue) (step : ℕ) (known : Option (List MemFile))
-        (sealed : List (List ℕ × Option (List ℕ))) → ∥ AreAllFiles h step sealed ∥₁ → TellAs known sealed →
-        ∥ ((raw : List ℕ) × IsStepOf h step known sealed raw) ∥₁ }
+    ensures { (layout : Layout) (h : HeaderValue) (step : ℕ) (known : Option (List MemFile))
+        (sealed : List (List ℕ × Option (List ℕ))) → ∥ AreAllFiles layout h step sealed ∥₁ → TellAs known sealed →
+        ∥ ((raw : List ℕ) × IsStepOf layout h step known sealed raw) ∥₁ }
 {}

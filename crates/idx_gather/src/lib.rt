@@ -28,7 +28,7 @@ mod window;
 
 pub use docking::Docking;
 pub use gather_fault::GatherFault;
-pub use gathering::{gather, gather_room};
+pub use gathering::{gather, gather_as, gather_room};
 pub use laws::{batches_fit_the_room, sealed_files_are_a_step, windows_fit_the_room};
 pub use opening::Opening;
 pub use parcelled::Parcelled;

@@ -14,7 +14,7 @@ use std::alloc::Global;
 use std::thread::Threads;
 
 impl<L: Leaf> Docking<L> {
-    /// Writes the files of the window, with as many workers as there are ranks, and seals them. After a refusal every draft
+    /// Writes the files of the window in the step's layout, with as many workers as there are ranks, and seals them. After a refusal every draft
     /// was given up.
     pub fn seal<B: Bay<Leaf = L>, G: Gate, R: Threads + Sync>(
         self,
@@ -32,13 +32,14 @@ impl<L: Leaf> Docking<L> {
         ensures same_step { IfOk result (λ opening. opening.step ≡ self.opening.step) }
         ensures same_ranks { IfOk result (λ opening. opening.ranks ≡ self.opening.ranks) }
         ensures same_room { IfOk result (λ opening. opening.room ≡ self.opening.room) }
+        ensures same_layout { IfOk result (λ opening. opening.layout ≡ self.opening.layout) }
         ensures same_pieces { IfOk result (λ opening. opening.pieces ≡ self.opening.pieces) }
         ensures same_files { IfOk result (λ opening. opening.files ≡ self.opening.files) }
         ensures more { IfOk result (λ opening. length self.opening.leaves.items < length opening.leaves.items) }
         ensures leaves { IfOk result (λ opening. shown L.contents opening.leaves.items ≡
             shown L.contents self.opening.leaves.items
             ++ known_files (B.files bay.old)
-            (map (dock_file self.opening.header self.opening.step) self.docks.items)) }
+            (map (dock_file self.opening.layout self.opening.header self.opening.step) self.docks.items)) }
         ensures cause { IfErr result (IsStoreFault (B.faults bay.old) (B.faults bay.new)) }
         ensures files { B.files bay.new ≡ B.files bay.old }
         ensures header { B.header bay.new ≡ B.header bay.old }
@@ -61,6 +62,7 @@ impl<L: Leaf> Docking<L> {
             &opening.header,
             opening.step,
             docks,
+            opening.layout,
             opening.ranks,
             bay,
             gate,

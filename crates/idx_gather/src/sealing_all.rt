@@ -35,16 +35,17 @@ where
     requires room { opening.room ≡ 2 ^ 28 }
     requires right { HasVolume opening.header (contents_at V.contents raws.old.items 0) }
     requires admits { (file : ℕ) → B.admits bay.old (file_name opening.header opening.step file) }
-    requires first { AreFirstFiles opening.header opening.step (B.files bay.old)
+    requires first { AreFirstFiles opening.layout opening.header opening.step (B.files bay.old)
         (contents_at V.contents raws.old.items 0) opening.files.items (shown B.Leaf.contents opening.leaves.items) }
     ensures same_header { IfOk result (λ done. done.header ≡ opening.header) }
     ensures same_step { IfOk result (λ done. done.step ≡ opening.step) }
     ensures same_ranks { IfOk result (λ done. done.ranks ≡ opening.ranks) }
     ensures same_room { IfOk result (λ done. done.room ≡ opening.room) }
+    ensures same_layout { IfOk result (λ done. done.layout ≡ opening.layout) }
     ensures same_pieces { IfOk result (λ done. done.pieces ≡ opening.pieces) }
     ensures same_files { IfOk result (λ done. done.files ≡ opening.files) }
     ensures sealed { IfOk result (λ done. length done.leaves.items ≡ length done.files.items) }
-    ensures files_made { IfOk result (λ done. AreFirstFiles opening.header opening.step (B.files bay.old)
+    ensures files_made { IfOk result (λ done. AreFirstFiles opening.layout opening.header opening.step (B.files bay.old)
         (contents_at V.contents raws.old.items 0) opening.files.items (shown B.Leaf.contents done.leaves.items)) }
     ensures cause { IfErr result (IsCaused opening.header (contents_at V.contents raws.old.items 0)
         (map V.faults raws.old.items) (map V.faults raws.new.items) (B.faults bay.old) (B.faults bay.new)) }
@@ -90,17 +91,18 @@ where
     requires state { AreOpen stream.opening.header stream.opening.pieces.items
         (drop (length stream.opening.leaves.items) stream.opening.files.items) [] stream.left.items stream.docks.items }
     requires empty { (h : HeaderValue) (sample : ℕ → List ℕ → List ℕ) → HaveSamples h sample stream.docks.items }
-    requires first { AreFirstFiles stream.opening.header stream.opening.step (B.files bay.old)
+    requires first { AreFirstFiles stream.opening.layout stream.opening.header stream.opening.step (B.files bay.old)
         (contents_at V.contents raws.old.items 0) stream.opening.files.items
         (shown B.Leaf.contents stream.opening.leaves.items) }
     ensures same_header { IfOk result (λ done. done.header ≡ stream.opening.header) }
     ensures same_step { IfOk result (λ done. done.step ≡ stream.opening.step) }
     ensures same_ranks { IfOk result (λ done. done.ranks ≡ stream.opening.ranks) }
     ensures same_room { IfOk result (λ done. done.room ≡ stream.opening.room) }
+    ensures same_layout { IfOk result (λ done. done.layout ≡ stream.opening.layout) }
     ensures same_pieces { IfOk result (λ done. done.pieces ≡ stream.opening.pieces) }
     ensures same_files { IfOk result (λ done. done.files ≡ stream.opening.files) }
     ensures more { IfOk result (λ done. length stream.opening.leaves.items < length done.leaves.items) }
-    ensures files_made { IfOk result (λ done. AreFirstFiles stream.opening.header stream.opening.step (B.files bay.old)
+    ensures files_made { IfOk result (λ done. AreFirstFiles stream.opening.layout stream.opening.header stream.opening.step (B.files bay.old)
         (contents_at V.contents raws.old.items 0) stream.opening.files.items
         (shown B.Leaf.contents done.leaves.items)) }
     ensures cause { IfErr result (IsCaused stream.opening.header (contents_at V.contents raws.old.items 0)

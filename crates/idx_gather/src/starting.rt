@@ -7,18 +7,20 @@ use idx_header::Header;
 use idx_layout::files;
 use idx_outside::{Leaf, NoMemory};
 use idx_pieces::{piece_digits, pieces};
+use idx_rowmajor::Layout;
 use std::alloc::Global;
 
 impl<L: Leaf> Opening<L> {
     /// A step of a dataset of which nothing is sealed yet. The box is divided among so many ranks. No more than `room`
     /// bytes of files, and of samples that are on their way to them, are kept in memory at a time, but for one file and one
-    /// piece.
+    /// piece. The samples of each block are written in the order of the layout.
     pub fn new(
         alloc: Global,
         header: &Header,
         step: u64,
         ranks: u32,
         room: u64,
+        layout: Layout,
     ) -> Result<Opening<L>, GatherFault>
         requires some_rank { 1 ≤ ranks }
         requires few_ranks { ranks ≤ 256 }
@@ -27,10 +29,11 @@ impl<L: Leaf> Opening<L> {
         ensures step { IfOk result (λ opening. opening.step ≡ step) }
         ensures ranks { IfOk result (λ opening. opening.ranks ≡ ranks) }
         ensures room { IfOk result (λ opening. opening.room ≡ room) }
+        ensures layout { IfOk result (λ opening. opening.layout ≡ layout) }
         ensures empty { IfOk result (λ opening. opening.leaves.items ≡ []) }
         ensures only { IfErr result (λ fault. fault ≡ GatherFault.NoMemory) }
     {
-        let opening = open(alloc, header, step, ranks, room)?;
+        let opening = open(alloc, header, step, ranks, room, layout)?;
         Ok(opening)
     }
 
@@ -49,6 +52,7 @@ fn open<L: Leaf>(
     step: u64,
     ranks: u32,
     room: u64,
+    layout: Layout,
 ) -> Result<Opening<L>, NoMemory>
     requires some_rank { 1 ≤ ranks }
     requires few_ranks { ranks ≤ 256 }
@@ -57,12 +61,14 @@ fn open<L: Leaf>(
     ensures step { IfOk result (λ opening. opening.step ≡ step) }
     ensures ranks { IfOk result (λ opening. opening.ranks ≡ ranks) }
     ensures room { IfOk result (λ opening. opening.room ≡ room) }
+    ensures layout { IfOk result (λ opening. opening.layout ≡ layout) }
     ensures empty { IfOk result (λ opening. opening.leaves.items ≡ []) }
 {
     Ok(Opening {
         step,
         ranks,
         room,
+        layout,
         pieces: pieces(alloc, header, piece_digits(header, room), ranks)?,
         files: all_files(alloc, header)?,
         leaves: Vec::new(alloc),

@@ -36,7 +36,7 @@ where
     ensures docks { IfOk result (λ next. next.docks.items ≡ other_docks stream.docks.items) }
     ensures sealed { IfOk result (λ next. numbered B.Leaf.contents next.sealed.items ≡
         numbered B.Leaf.contents stream.sealed.items
-        ++ map (dock_entry stream.opening.header stream.opening.step (B.files bay.old)) (full_docks stream.docks.items)) }
+        ++ map (dock_entry stream.opening.layout stream.opening.header stream.opening.step (B.files bay.old)) (full_docks stream.docks.items)) }
     ensures valid { IfOk result (λ next. All IsDock stream.docks.items) }
     ensures cause { IfErr result (IsStoreFault (B.faults bay.old) (B.faults bay.new)) }
     ensures files { B.files bay.new ≡ B.files bay.old }
@@ -98,7 +98,7 @@ where
     requires admits { (file : ℕ) → B.admits bay.old (file_name opening.now.header opening.now.step file) }
     ensures sealed { OnOk result (numbered B.Leaf.contents sealed.new.items ≡
         numbered B.Leaf.contents sealed.old.items
-        ++ map (dock_entry opening.now.header opening.now.step (B.files bay.old)) docks.items) }
+        ++ map (dock_entry opening.now.layout opening.now.header opening.now.step (B.files bay.old)) docks.items) }
     ensures named { OnOk result (AllNamed B.Leaf.path (map (λ entry. entry.1) sealed.old.items) →
         AllNamed B.Leaf.path (map (λ entry. entry.1) sealed.new.items)) }
     ensures cause { IfErr result (IsStoreFault (B.faults bay.old) (B.faults bay.new)) }
@@ -117,6 +117,7 @@ where
         &opening.header,
         opening.step,
         docks,
+        opening.layout,
         opening.ranks,
         bay,
         gate,

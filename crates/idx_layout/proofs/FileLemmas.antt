@@ -15,14 +15,13 @@ use Rattle.idx_hz.specs.Address.{hz_address}
 use Rattle.idx_geom.specs.Region.{points, place_of}
 use Rattle.idx_geom.specs.Volume.{IsVolume, sample_at}
 use Rattle.idx_geom.proofs.PointsLemmas.{LiesIn-slice_get, place_of-lt, length-points}
-use Rattle.idx_layout.specs.declared.layout.Layout.{Layout}
-use Rattle.idx_layout.specs.declared.layout.Layout.TheVariants.{Hz}
-use Rattle.idx_layout.specs.Layout.{arranged}
+use Rattle.idx_rowmajor.specs.declared.layout.Layout.{Layout}
 use Rattle.idx_layout.specs.Placing.{Placing, block_bytes, present_blocks, is_present, stored_sample, block_of_samples}
 use Rattle.idx_layout.specs.Files.{block_in_file, blocks_of_file, file_bytes, rows_of_file, row_of_block, offset_of, length_of_file, row_count}
 use Rattle.idx_table.specs.Row.{IsRow, row_bytes}
 use Rattle.idx_table.specs.Table.{rows_of, table_bytes}
 use Rattle.idx_table.proofs.ReadBackLemmas.{length-written, rows_of-written}
+use Rattle.idx_layout.proofs.ArrangedLemmas.{length-arranged}
 use Rattle.idx_layout.proofs.ListLemmas.{range-split}
 use Rattle.idx_layout.proofs.OffsetLemmas.{offset_of-sums, present_before, length_of_file-sums}
 
@@ -66,14 +65,11 @@ length-block_of_samples l size samples block count sizes =
     length-flat_map_same (stored_sample l size samples) size (range_with_len (block * 2 ^ l.bits) (2 ^ l.bits)) (λ address. length-stored_sample l size samples address count sizes)
     ∙ ap (λ n. size * n) (length-range_with_len (block * 2 ^ l.bits) (2 ^ l.bits))
 
-length-arranged : (layout : Layout) (l : Placing) (size block : ℕ) (bytes : List ℕ) → length (arranged layout l size block bytes) ≡ length bytes
-length-arranged Hz l size block bytes = refl
-
 pub length-block_in_file : (layout : Layout) (l : Placing) (size : ℕ) (samples : List (List ℕ)) (block : ℕ) →
     length samples ≡ length (points l.region) → All (λ sample. length sample ≡ size) samples →
     length (block_in_file layout l size samples block) ≡ size * 2 ^ l.bits
 length-block_in_file layout l size samples block count sizes =
-    length-arranged layout l size block (block_of_samples l size samples block) ∙ length-block_of_samples l size samples block count sizes
+    length-arranged layout l size block (block_of_samples l size samples block) (length-block_of_samples l size samples block count sizes)
 
 -- ---- the fields before a field
 

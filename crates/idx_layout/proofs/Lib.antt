@@ -1,6 +1,7 @@
 pub mod ListLemmas
 pub mod PresentLemmas
 pub mod OffsetLemmas
+pub mod ArrangedLemmas
 pub mod FileLemmas
 pub mod RightLemmas
 pub mod HeaderLemmas

@@ -1,13 +1,13 @@
 -- No row of a file as the writer lays it out is faulty.
-use Rattle.std.proofs.Common.{◌≡◌, ℕ, zero, suc, ◌+◌, ◌-◌, ◌*◌, ◌/◌, ◌%◌, ◌<◌, ◌≤◌, Bool, true, false, List, [], ◌∷◌, ◌++◌, Some, None, length, length-append, map, refl, sym, ap, ◌∙◌, subst, arith, zero-add, add_assoc, get_or, take, cond, lit<}
+use Rattle.std.proofs.Common.{◌≡◌, ℕ, zero, suc, ◌+◌, ◌-◌, ◌*◌, ◌/◌, ◌%◌, ◌^◌, ◌<◌, ◌≤◌, Bool, true, false, List, [], ◌∷◌, ◌++◌, Some, None, length, length-append, map, refl, sym, ap, ◌∙◌, subst, arith, zero-add, add_assoc, get_or, take, cond, lit<}
 use Rattle.std.specs.Prelude.{slice_get, slice_index, All, sum_by, filter, nat_lt}
 use Rattle.std.specs.List.{range_with_len, flat_map}
 use Rattle.idx_geom.specs.Volume.{IsVolume}
 use Rattle.idx_table.specs.declared.row.Row.{Row}
 use Rattle.idx_table.specs.Table.{table_bytes, fault_in, field_of, first_fault, row_at}
 use Rattle.std.proofs.lemmas.Bool.Decides.{nat_tests}
-use Rattle.idx_layout.specs.declared.layout.Layout.{Layout}
-use Rattle.idx_layout.specs.declared.layout.Layout.TheVariants.{Hz}
+use Rattle.idx_rowmajor.specs.declared.layout.Layout.{Layout}
+use Rattle.idx_rowmajor.specs.declared.layout.Layout.TheVariants.{Hz, Rows}
 use Rattle.idx_layout.specs.Layout.{flags_of}
 use Rattle.idx_layout.specs.Placing.{Placing, block_bytes, present_blocks, is_present}
 use Rattle.idx_layout.specs.Files.{FitsRows, file_bytes, row_of_block, rows_of_file, offset_of, length_of_file, row_count}
@@ -30,13 +30,15 @@ has_samples (size ∷ sizes) [] n field h within = absurd h
 has_samples (size ∷ sizes) (v ∷ volume) n zero h within = (v, refl)
 has_samples (size ∷ sizes) (v ∷ volume) n (suc field) h within = has_samples sizes volume n field h.2 (omega arith)
 
--- the flags say that the samples are as they are read
-flags_none : (layout : Layout) → flags_of layout ≡ 0
-flags_none Hz = refl
-
 -- a row that says where such a block stands is right
-right_row : (rows size len offset : ℕ) → table_bytes rows ≤ offset → offset + size ≤ len → fault_in rows size len (record { offset = offset; size = size; flags = 0 }) ≡ None
-right_row rows size len offset from to = grind (arith, nat_tests)
+right_row : (layout : Layout) (rows size len offset : ℕ) → table_bytes rows ≤ offset → offset + size ≤ len → fault_in rows size len (record { offset = offset; size = size; flags = flags_of layout }) ≡ None
+right_row Hz rows size len offset from to = grind (arith, nat_tests)
+right_row Rows rows size len offset from to = grind (arith, nat_tests)
+
+-- its flags are a word
+small_flags : (layout : Layout) → flags_of layout < 2 ^ 32
+small_flags Hz = lit< tt
+small_flags Rows = lit< tt
 
 -- what the fields before one and it have
 sums_within : (g : ℕ → ℕ) (field n : ℕ) → field < n → (rest : ℕ) × (sum_by g (range_with_len 0 n) ≡ sum_by g (range_with_len 0 field) + g field + rest)
@@ -101,11 +103,11 @@ right_block : (layout : Layout) (l : Placing) (file field block : ℕ) → FitsR
     (fault_in (row_count l) (block_bytes l field) (length_of_file l file) (row_of_block layout l file field block) ≡ None) × IsRow (row_of_block layout l file field block)
 right_block layout l file field block fits within from to = by_test (is_present l block) refl
   where
-    there : ℕ → Row
-    there flags = record { offset = offset_of l file field block; size = block_bytes l field; flags = flags }
+    there : Row
+    there = record { offset = offset_of l file field block; size = block_bytes l field; flags = flags_of layout }
 
     row : Bool → Row
-    row b = cond b (there (flags_of layout)) (record { offset = 0; size = 0; flags = 0 })
+    row b = cond b there (record { offset = 0; size = 0; flags = 0 })
 
     by_test : (b : Bool) → is_present l block ≡ b →
         (fault_in (row_count l) (block_bytes l field) (length_of_file l file) (row_of_block layout l file field block) ≡
@@ -113,11 +115,10 @@ right_block layout l file field block fits within from to = by_test (is_present 
     by_test true is =
         let ends = ends_within l file field block within from to is in
         let begins = offset_of-sums l file field block within in
-        let e : row_of_block layout l file field block ≡ record { offset = offset_of l file field block; size = block_bytes l field; flags = 0 } =
-        ap row is ∙ ap there (flags_none layout) in (
+        let e : row_of_block layout l file field block ≡ there = ap row is in (
           ap (fault_in (row_count l) (block_bytes l field) (length_of_file l file)) e
-              ∙ right_row (row_count l) (block_bytes l field) (length_of_file l file) (offset_of l file field block) (omega (arith, begins)) ends,
-          subst IsRow (sym e) (record { offset = omega (arith, ends, fits.bytes); size = fits.sizes field within; flags = lit< tt }),
+              ∙ right_row layout (row_count l) (block_bytes l field) (length_of_file l file) (offset_of l file field block) (omega (arith, begins)) ends,
+          subst IsRow (sym e) (record { offset = omega (arith, ends, fits.bytes); size = fits.sizes field within; flags = small_flags layout }),
         )
     by_test false is =
         let e : row_of_block layout l file field block ≡ record { offset = 0; size = 0; flags = 0 } = ap row is in (

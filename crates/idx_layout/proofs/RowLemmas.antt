@@ -12,7 +12,7 @@ use Rattle.idx_fields.specs.Field.{sample_bytes}
 use Rattle.idx_header.specs.Header.{HeaderValue, IsHeader}
 use Rattle.idx_table.specs.Table.{table_bytes}
 use Rattle.idx_table.specs.declared.row.Row.{Row}
-use Rattle.idx_layout.specs.declared.layout.Layout.{Layout}
+use Rattle.idx_rowmajor.specs.declared.layout.Layout.{Layout}
 use Rattle.idx_layout.specs.Placing.{Placing, block_bytes, is_present, present_blocks}
 use Rattle.idx_layout.specs.Files.{offset_of, row_count, row_of_block, rows_of_file}
 use Rattle.idx_layout.specs.OfHeader.{placing_of}

@@ -5,7 +5,7 @@ use Rattle.std.specs.List.{flat_map, range_with_len, zip}
 use Rattle.idx_table.specs.Row.{absent, row_bytes, row_length}
 use Rattle.idx_table.specs.Table.{table_bytes}
 use Rattle.idx_table.specs.declared.row.Row.{Row}
-use Rattle.idx_layout.specs.declared.layout.Layout.{Layout}
+use Rattle.idx_rowmajor.specs.declared.layout.Layout.{Layout}
 use Rattle.idx_layout.specs.Placing.{Placing, block_bytes, is_present, present_blocks, block_of_samples}
 use Rattle.idx_layout.specs.Layout.{arranged, flags_of}
 

@@ -5,7 +5,7 @@ use Rattle.idx_geom.specs.Volume.{volume_of}
 use Rattle.idx_fields.specs.Field.{sample_bytes}
 use Rattle.idx_header.specs.Header.{HeaderValue}
 use Rattle.idx_header.specs.Names.{file_name}
-use Rattle.idx_layout.specs.declared.layout.Layout.{Layout}
+use Rattle.idx_rowmajor.specs.declared.layout.Layout.{Layout}
 use Rattle.idx_layout.specs.Placing.{file_numbers}
 use Rattle.idx_layout.specs.Files.{file_bytes}
 use Rattle.idx_layout.specs.OfHeader.{placing_of}

@@ -2,7 +2,7 @@
 ghost use Rattle.std.specs.Prelude.{◌≡◌, [], ◌∷◌, ◌++◌, false, map, replicate};
 ghost use Rattle.idx_geom.specs.Volume.{volume_of};
 ghost use Rattle.idx_table.specs.Row.{row_bytes};
-ghost use Rattle.idx_layout.specs.declared.layout.Layout.{Layout};
+ghost use Rattle.idx_rowmajor.specs.declared.layout.Layout.{Layout};
 ghost use Rattle.idx_layout.specs.Placing.{file_numbers, is_present, present_blocks};
 ghost use Rattle.idx_layout.specs.Files.{blocks_of_file, file_bytes, length_of_file, rows_of_file};
 ghost use Rattle.idx_layout.specs.Worked.{square, of_bytes};

@@ -1,14 +1,15 @@
 //! Laws of the definitions, each the contract of a function that does nothing.
-ghost use Rattle.std.specs.Prelude.{◌≡◌, ℕ, ◌+◌, ◌-◌, ◌*◌, ◌<◌, ◌≤◌, All, IsTrue, List, None, Some, drop, filter, length, map, nat_lt, slice_get, slice_index, sum_by, take};
+ghost use Rattle.std.specs.Prelude.{◌≡◌, ℕ, ◌+◌, ◌-◌, ◌*◌, ◌^◌, ◌<◌, ◌≤◌, All, IsTrue, List, None, Some, drop, filter, length, map, nat_lt, slice_get, slice_index, sum_by, take};
 ghost use Rattle.std.specs.List.{range_with_len};
 ghost use Rattle.idx_geom.specs.Region.{points};
 ghost use Rattle.idx_geom.specs.Volume.{IsVolume};
 ghost use Rattle.idx_header.specs.Header.{HeaderValue, IsHeader};
 ghost use Rattle.idx_table.specs.Row.{IsRow};
 ghost use Rattle.idx_table.specs.Table.{first_fault, rows_of, table_bytes};
-ghost use Rattle.idx_layout.specs.declared.layout.Layout.{Layout};
+ghost use Rattle.idx_rowmajor.specs.RowPlace.{IsBlock};
+ghost use Rattle.idx_rowmajor.specs.declared.layout.Layout.{Layout};
 ghost use Rattle.idx_layout.specs.Placing.{Placing, block_bytes, block_of_samples, is_present, present_blocks};
-ghost use Rattle.idx_layout.specs.Layout.{arranged};
+ghost use Rattle.idx_layout.specs.Layout.{arranged, flags_of, in_hz_order};
 ghost use Rattle.idx_layout.specs.OfHeader.{placing_of};
 ghost use Rattle.idx_layout.specs.Files.{FitsRows, file_bytes, length_of_file, offset_of, row_count, rows_of_file};
 
@@ -55,6 +56,13 @@ pub fn files_hold_their_blocks()
         take (block_bytes l field) (drop (offset_of l file field block) (file_bytes layout l volume file)) ≡
         arranged layout l (slice_index l.sizes field) block
         (block_of_samples l (slice_index l.sizes field) samples block) }
+{}
+
+/// Of a block that stands in a file in a layout, the flags of its row give its bytes back in hierarchical order.
+pub fn layouts_are_read_back()
+    ensures { (layout : Layout) (l : Placing) (size block : ℕ) (bytes : List ℕ) →
+        IsBlock l.mask (length l.region) l.bits block → length bytes ≡ size * 2 ^ l.bits →
+        in_hz_order l size block (flags_of layout) (arranged layout l size block bytes) ≡ bytes }
 {}
 
 /// The files of each header are such that a row's words can hold their offsets and sizes.

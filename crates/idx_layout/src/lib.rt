@@ -5,7 +5,6 @@ mod block_place;
 mod blocks_in_file;
 mod examples;
 mod laws;
-mod layout;
 mod next_block;
 mod places;
 mod points;
@@ -17,9 +16,9 @@ pub use block_place::Place;
 pub use blocks_in_file::FileBlocks;
 pub use examples::{worked_files, worked_placings};
 pub use laws::{
-    files_hold_their_blocks, headers_fit_rows, offsets_are_sums, written_files_are_right,
+    files_hold_their_blocks, headers_fit_rows, layouts_are_read_back, offsets_are_sums,
+    written_files_are_right,
 };
-pub use layout::Layout;
 pub use next_block::next_present;
 pub use places::{
     file_blocks, file_len, file_rows, files, offset_at, place, present, present_in_file, table_len,

@@ -8,11 +8,11 @@ ghost use Rattle.idx_layout.specs.OfHeader.{placing_of, place_of};
 
 use crate::block_place::Place;
 use crate::blocks_in_file::FileBlocks;
-use crate::layout::Layout;
 use crate::present_files::Files;
 use crate::rows_in_file::FileRows;
 use crate::{blocks_with_points, has_point_in};
 use idx_header::Header;
+use idx_rowmajor::Layout;
 use idx_table::table_bytes;
 
 /// Whether a block is present: some point of the header's box has its address in it. The answer takes a few operations

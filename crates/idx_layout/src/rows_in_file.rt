@@ -6,10 +6,10 @@ ghost use Rattle.idx_layout.specs.Layout.{flags_of};
 ghost use Rattle.idx_layout.specs.Files.{offset_of, row_of_block, rows_of_file};
 ghost use Rattle.idx_layout.specs.OfHeader.{placing_of};
 
-use crate::layout::Layout;
 use crate::places::{present, table_len};
 use idx_header::Header;
-use idx_table::{ABSENT, RAW, Row};
+use idx_rowmajor::Layout;
+use idx_table::{ABSENT, RAW, ROW_MAJOR, Row};
 use std::iter::FusedIterator;
 use std::marker::Model;
 
@@ -121,5 +121,6 @@ fn flags_of(layout: Layout) -> u32
 {
     match layout {
         Layout::Hz => RAW,
+        Layout::Rows => ROW_MAJOR,
     }
 }

@@ -32,7 +32,6 @@ pub fn plain_table_words(kind: TableKind) -> &'static str {
     match kind {
         TableKind::CutShort => "the table ends before this row does",
         TableKind::Compressed => "the block of this row is compressed, which is not read",
-        TableKind::RowMajor => "the block of this row is in row-major order, which is not read",
         TableKind::WrongSize => "the block of this row has another size than the field's blocks",
         TableKind::OutsideFile => {
             "the block of this row does not lie between the table and the end of the file"

@@ -32,7 +32,7 @@ idxtool: samples, headers and files of ViSUS IDX data, with proved answers
       DATASET  the header file, as run.idx
 
   idxtool convert DATASET RAW BOX FIELDS MASK BITS PERFILE TEMPLATE TIME STEP
-                  [--ranks RANKS]
+                  [--ranks RANKS] [--layout rows|hz]
       writes a step of a dataset out of a raw volume: the files of the step, all
       at once, and the header where none stands. A header that stands has to
       agree. A step that stands is written again as a new revision, of 256 at
@@ -54,6 +54,9 @@ idxtool: samples, headers and files of ViSUS IDX data, with proved answers
       STEP      the step that is written
       RANKS     how many ranks, each a worker thread, read and write; 1 to 256,
                 else 1
+      --layout  the order of the samples of a block in the files: rows, the
+                row-major order of their points, or hz, hierarchical order;
+                else hz
 
   idxtool query DATASET TIME FIELD REGION LO HI [--cache BLOCKS]
       writes to standard output the samples of a field of a step at the points

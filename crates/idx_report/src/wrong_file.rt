@@ -6,8 +6,9 @@ use crate::shown::Shown;
 use idx_check::WrongKind;
 use idx_commands::Cause;
 use idx_header::Header;
-use idx_layout::{Layout, file_len, file_rows, table_len};
+use idx_layout::{file_len, file_rows, table_len};
 use idx_outside::{Bay, Bytes, Leaf, Outage, Reader};
+use idx_rowmajor::Layout;
 use idx_table::{ROW_BYTES, write_row};
 use idx_words::{Command, read_words};
 use std::alloc::Global;
@@ -39,25 +40,55 @@ pub fn look_again<B: Bay, R: Reader<B::Leaf>>(
     ensures begun { B.begun bay.new ≡ B.begun bay.old }
     ensures changes { B.changes bay.new ≡ B.changes bay.old }
 {
-    let Cause::NotSame { file, at, .. } = cause else {
-        return None;
-    };
-    let Ok(Command::Check { time }) = read_words(words) else {
-        return None;
-    };
-    let header = Header::of_bay(alloc, bay).ok()?;
-    let revised = header.that_stands(alloc, time, bay).ok()??;
-    let path = revised.file_name(alloc, time, file).ok()?;
-    let found = match bay.leaf(path.as_slice()).ok()? {
-        Some(leaf) => byte_at(&leaf, at, reader).ok()?,
-        None => None,
-    };
-    let wanted = wanted_at(&revised, file, at);
+    let (time, file, at) = place_of(words, cause)?;
+    let header = newest_header(alloc, time, bay)?;
+    let path = header.file_name(alloc, time, file).ok()?;
+    let found = byte_there(path.as_slice(), at, bay, reader)?;
+    let wanted = wanted_at(&header, file, at);
     Some(WrongFile {
         path,
         found,
         wanted,
     })
+}
+
+/// The step that a check was asked for, the file that ended it, and the first wrong place of that; `None` where the run
+/// ended otherwise.
+fn place_of(words: &[String], cause: Cause) -> Option<(u64, u64, u64)> {
+    match (read_words(words), cause) {
+        (Ok(Command::Check { time }), Cause::NotSame { file, at, .. }) => Some((time, file, at)),
+        _ => None,
+    }
+}
+
+/// The header at the newest revision of a step that stands.
+fn newest_header<B: Bay>(alloc: Global, time: u64, bay: &mut B) -> Option<Header>
+    ensures header { B.header bay.new ≡ B.header bay.old }
+    ensures files { B.files bay.new ≡ B.files bay.old }
+    ensures begun { B.begun bay.new ≡ B.begun bay.old }
+    ensures changes { B.changes bay.new ≡ B.changes bay.old }
+{
+    let header = Header::of_bay(alloc, bay).ok()?;
+    header.that_stands(alloc, time, bay).ok()?
+}
+
+/// The byte at a place of the file of a path, in two steps: `None` where the file cannot be looked at, and no byte where it
+/// is not there or has ended.
+fn byte_there<B: Bay, R: Reader<B::Leaf>>(
+    path: &[u8],
+    at: u64,
+    bay: &mut B,
+    reader: &mut R,
+) -> Option<Option<u8>>
+    ensures header { B.header bay.new ≡ B.header bay.old }
+    ensures files { B.files bay.new ≡ B.files bay.old }
+    ensures begun { B.begun bay.new ≡ B.begun bay.old }
+    ensures changes { B.changes bay.new ≡ B.changes bay.old }
+{
+    match bay.leaf(path).ok()? {
+        Some(leaf) => byte_at(&leaf, at, reader).ok(),
+        None => Some(None),
+    }
 }
 
 /// The byte of a file at a place; `None` where the file has ended there.

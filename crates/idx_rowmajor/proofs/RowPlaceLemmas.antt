@@ -2,7 +2,7 @@
 use Rattle.std.proofs.Common.{◌≡◌, ℕ, zero, suc, ◌+◌, ◌-◌, ◌*◌, ◌/◌, ◌%◌, ◌^◌, ◌<◌, Bool, true, false, List, [], ◌∷◌, length, get_or, take, refl, sym, ap, ◌∙◌, ⊎_elim, arith, subst}
 use Rattle.std.specs.Prelude.{filter, not, ◌==◌}
 use Rattle.std.specs.List.{position_or_len}
-use Rattle.std.proofs.Math.Nat.{mod-add-div'}
+use Rattle.std.proofs.Math.Nat.{mod-add-div', mod-lt}
 use Rattle.std.proofs.lemmas.Bool.{cases_Bool, eq-eqb, ne_eqb}
 use Rattle.std.proofs.lemmas.List.Folds.{length-prefix_len}
 use Rattle.std.proofs.lemmas.Nat.{pow_pos, pow-add, div-mul-add, mod-mul-add, mod_below, mul-add-lt}
@@ -144,6 +144,11 @@ row_place-onto mask axes bits block place is small =
     let offset : ℕ = hz_address mask p % 2 ^ bits in
     let below : offset < 2 ^ bits = mod_below (hz_address mask p) (2 ^ bits) (pow_pos bits) in
     (offset, below, row_place-rank mask axes bits block offset p below is.named (at_own_offset mask axes bits block p found.1 found.2 found.3) ∙ found.4)
+
+-- an offset is a remainder, whatever the numbers are
+pub offset_at-small : (mask : List ℕ) (axes bits block place : ℕ) → offset_at mask axes bits block place < 2 ^ bits
+unfolding offset_at
+offset_at-small mask axes bits block place = mod-lt _ (pow_pos bits)
 
 pub offset_at-lt : (mask : List ℕ) (axes bits block place : ℕ) → IsBlock mask axes bits block → place < 2 ^ bits → offset_at mask axes bits block place < 2 ^ bits
 offset_at-lt mask axes bits block place is small =

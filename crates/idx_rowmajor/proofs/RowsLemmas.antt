@@ -8,7 +8,7 @@ use Rattle.idx_rowmajor.specs.Exchange.{AreTaken}
 use Rattle.idx_rowmajor.specs.RowPlace.{IsBlock, row_place, offset_at}
 use Rattle.idx_rowmajor.specs.Rows.{sample_of, hz_from_rows, rows_from_hz}
 use Rattle.idx_rowmajor.specs.Targets.{GiveRowPlaces}
-use Rattle.idx_rowmajor.proofs.RowPlaceLemmas.{row_place-lt, offset_at-lt, offset_at-row_place, row_place-offset_at}
+use Rattle.idx_rowmajor.proofs.RowPlaceLemmas.{row_place-lt, offset_at-lt, offset_at-small, offset_at-row_place, row_place-offset_at}
 
 -- ---- samples one behind the other
 
@@ -52,6 +52,14 @@ length-sample_of size n place bytes long within =
 
 -- ---- both orders
 
+-- the row-major order keeps the length, whatever the block's number is
+pub length-rows_from_hz : (mask : List ℕ) (axes bits block size : ℕ) (bytes : List ℕ) → length bytes ≡ size * 2 ^ bits → length (rows_from_hz mask axes bits block size bytes) ≡ size * 2 ^ bits
+unfolding rows_from_hz
+length-rows_from_hz mask axes bits block size bytes long =
+    length-samples (λ place. sample_of size bytes (offset_at mask axes bits block place)) size (2 ^ bits) 0
+    (λ k within. length-sample_of size (2 ^ bits) (offset_at mask axes bits block (0 + k)) bytes long (offset_at-small mask axes bits block (0 + k)))
+    ∙ (let h : 2 ^ bits * size ≡ size * 2 ^ bits = grind arith in h)
+
 module _ (mask : List ℕ) (axes bits block size : ℕ) (is : IsBlock mask axes bits block) (bytes : List ℕ) (long : length bytes ≡ size * 2 ^ bits) where
   sized_hz : (k : ℕ) → k < 2 ^ bits → length (sample_of size bytes (row_place mask axes bits block (0 + k))) ≡ size
   sized_hz k within = length-sample_of size (2 ^ bits) (row_place mask axes bits block (0 + k)) bytes long (row_place-lt mask axes bits block (0 + k) is (omega arith))
@@ -63,11 +71,6 @@ module _ (mask : List ℕ) (axes bits block size : ℕ) (is : IsBlock mask axes 
   unfolding hz_from_rows
   length-hz_from_rows =
       length-samples (λ offset. sample_of size bytes (row_place mask axes bits block offset)) size (2 ^ bits) 0 sized_hz ∙ (let h : 2 ^ bits * size ≡ size * 2 ^ bits = grind arith in h)
-
-  pub length-rows_from_hz : length (rows_from_hz mask axes bits block size bytes) ≡ size * 2 ^ bits
-  unfolding rows_from_hz
-  length-rows_from_hz =
-      length-samples (λ place. sample_of size bytes (offset_at mask axes bits block place)) size (2 ^ bits) 0 sized_rows ∙ (let h : 2 ^ bits * size ≡ size * 2 ^ bits = grind arith in h)
 
   pub sample_of-hz_from_rows : (offset : ℕ) → offset < 2 ^ bits → sample_of size (hz_from_rows mask axes bits block size bytes) offset ≡ sample_of size bytes (row_place mask axes bits block offset)
   unfolding hz_from_rows

@@ -46,8 +46,7 @@ pub fn orders_undo_each_other()
     ensures hz_length { (mask bytes : List ℕ) (axes bits block size : ℕ) → IsBlock mask axes bits block →
         length bytes ≡ size * 2 ^ bits →
         length (hz_from_rows mask axes bits block size bytes) ≡ size * 2 ^ bits }
-    ensures rows_length { (mask bytes : List ℕ) (axes bits block size : ℕ) → IsBlock mask axes bits block →
-        length bytes ≡ size * 2 ^ bits →
+    ensures rows_length { (mask bytes : List ℕ) (axes bits block size : ℕ) → length bytes ≡ size * 2 ^ bits →
         length (rows_from_hz mask axes bits block size bytes) ≡ size * 2 ^ bits }
 
     ensures hz_sample { (mask bytes : List ℕ) (axes bits block size offset : ℕ) → IsBlock mask axes bits block →

@@ -8,7 +8,8 @@ use Rattle.std.proofs.lemmas.List.Elements.{All-head, All-tail, All-weaker}
 use Rattle.std.proofs.lemmas.List.Sums.{sum_by-cons}
 use Rattle.idx_outside.specs.Files.{entry_shown, known_files, known_with, retold}
 use Rattle.idx_outside.specs.declared.mem_file.MemFile.{MemFile}
-use Rattle.idx_dock.specs.Content.{dock_bytes}
+use Rattle.idx_rowmajor.specs.declared.layout.Layout.{Layout}
+use Rattle.idx_dock.specs.Content.{dock_bytes_as}
 use Rattle.idx_dock.specs.Dock.{DockValue}
 use Rattle.idx_seal.specs.declared.job.Job.{Job}
 use Rattle.idx_seal.specs.declared.written.Written.{Written}
@@ -73,25 +74,25 @@ module _ {D L : Type 0} (contents path : D → Option (List ℕ)) (faults : D �
       let more : sum_by (faults_of faults) jobs ≡ 0 = opened_faultless jobs (All-tail P job jobs opened) in
       sum_by-cons (faults_of faults) job jobs ∙ omega (arith, none, more)
 
-  file_sealed : (dock : DockValue) (draft : D) (file : Option (Written D L)) → contents draft ≡ known_with known [] → WritesTo contents path faults leaf_contents leaf_path leaf_faults dock draft file → is_failed file ≡ false →
-      (is_sealed file ≡ true) × (leaf_shown leaf_contents file ≡ known_with known (dock_bytes dock))
-  file_sealed dock draft None empty written kept = absurd written
-  file_sealed dock draft (Some (Open other back)) empty written kept = absurd written
-  file_sealed dock draft (Some (Sealed leaf)) empty written kept = (refl, written.0 ∙ ap (λ c. retold c (dock_bytes dock)) empty ∙ known_retold known (dock_bytes dock))
-  file_sealed dock draft (Some (Failed back)) empty written kept = let wrong : true ≡ false = kept in absurd (cc)
+  file_sealed : (layout : Layout) (dock : DockValue) (draft : D) (file : Option (Written D L)) → contents draft ≡ known_with known [] → WritesTo contents path faults leaf_contents leaf_path leaf_faults layout dock draft file → is_failed file ≡ false →
+      (is_sealed file ≡ true) × (leaf_shown leaf_contents file ≡ known_with known (dock_bytes_as layout dock))
+  file_sealed layout dock draft None empty written kept = absurd written
+  file_sealed layout dock draft (Some (Open other back)) empty written kept = absurd written
+  file_sealed layout dock draft (Some (Sealed leaf)) empty written kept = (refl, written.0 ∙ ap (λ c. retold c (dock_bytes_as layout dock)) empty ∙ known_retold known (dock_bytes_as layout dock))
+  file_sealed layout dock draft (Some (Failed back)) empty written kept = let wrong : true ≡ false = kept in absurd (cc)
 
-  file_failed : (dock : DockValue) (draft : D) (file : Option (Written D L)) → WritesTo contents path faults leaf_contents leaf_path leaf_faults dock draft file → is_failed file ≡ true → 0 < file_faults faults file
-  file_failed dock draft None written failed = absurd written
-  file_failed dock draft (Some (Open other back)) written failed = absurd written
-  file_failed dock draft (Some (Sealed leaf)) written failed = let wrong : false ≡ true = failed in absurd (cc)
-  file_failed dock draft (Some (Failed back)) written failed = written.0
+  file_failed : (layout : Layout) (dock : DockValue) (draft : D) (file : Option (Written D L)) → WritesTo contents path faults leaf_contents leaf_path leaf_faults layout dock draft file → is_failed file ≡ true → 0 < file_faults faults file
+  file_failed layout dock draft None written failed = absurd written
+  file_failed layout dock draft (Some (Open other back)) written failed = absurd written
+  file_failed layout dock draft (Some (Sealed leaf)) written failed = let wrong : false ≡ true = failed in absurd (cc)
+  file_failed layout dock draft (Some (Failed back)) written failed = written.0
 
-  file_finished : (at : List ℕ) (dock : DockValue) (draft : D) (file : Option (Written D L)) → path draft ≡ known_with known at → faults draft ≡ 0 →
-      WritesTo contents path faults leaf_contents leaf_path leaf_faults dock draft file → ends_finished leaf_path leaf_faults known at file
-  file_finished at dock draft None named unfailed written = tt
-  file_finished at dock draft (Some (Open other back)) named unfailed written = tt
-  file_finished at dock draft (Some (Sealed leaf)) named unfailed written = (written.1 ∙ named, written.2 ∙ unfailed)
-  file_finished at dock draft (Some (Failed back)) named unfailed written = tt
+  file_finished : (layout : Layout) (at : List ℕ) (dock : DockValue) (draft : D) (file : Option (Written D L)) → path draft ≡ known_with known at → faults draft ≡ 0 →
+      WritesTo contents path faults leaf_contents leaf_path leaf_faults layout dock draft file → ends_finished leaf_path leaf_faults known at file
+  file_finished layout at dock draft None named unfailed written = tt
+  file_finished layout at dock draft (Some (Open other back)) named unfailed written = tt
+  file_finished layout at dock draft (Some (Sealed leaf)) named unfailed written = (written.1 ∙ named, written.2 ∙ unfailed)
+  file_finished layout at dock draft (Some (Failed back)) named unfailed written = tt
 
   -- those that were sealed tell the paths of their jobs, and no fault
   pub row_finished : (old new : List (Job D L)) → length new ≡ length old →
@@ -105,7 +106,7 @@ module _ {D L : Type 0} (contents path : D → Option (List ℕ)) (faults : D �
       let first = All-head P o os opened in
       let wrote = each 0 o (omega arith) in
       let named : path first.draft ≡ known_with known n.path = first.named ∙ ap (known_with known) (sym wrote.same) in (
-        file_finished n.path first.dock first.draft n.file named first.unfailed (wrote.file first.dock first.draft first.is),
+        file_finished o.layout n.path first.dock first.draft n.file named first.unfailed (wrote.file first.dock first.draft first.is),
         row_finished os ns (omega (arith, number)) (λ i d within. each (suc i) d (omega (arith, within))) (All-tail P o os opened),
       )
 
@@ -122,11 +123,11 @@ module _ {D L : Type 0} (contents path : D → Option (List ℕ)) (faults : D �
       let first = All-head P o os opened in
       let wrote = each 0 o (omega arith) in
       let none = or_false (has_failed n) (list_any has_failed ns) kept in
-      let made = file_sealed first.dock first.draft n.file first.empty (wrote.file first.dock first.draft first.is) none.0 in
+      let made = file_sealed o.layout first.dock first.draft n.file first.empty (wrote.file first.dock first.draft first.is) none.0 in
       let rest = row_sealed os ns (omega (arith, number)) (λ i d within. each (suc i) d (omega (arith, within))) (All-tail P o os opened) none.1 in
       let shown_first : job_shown leaf_contents n ≡ entry_shown (known_with known) (planned o) =
       ap (λ p. (p, leaf_shown leaf_contents n.file)) wrote.same
-      ∙ ap (λ c. (o.path, c)) (made.1 ∙ sym (ap (λ file. known_with known (planned_bytes file)) first.is)) in
+      ∙ ap (λ c. (o.path, c)) (made.1 ∙ sym (ap (λ file. known_with known (planned_bytes o.layout file)) first.is)) in
       ((made.0, rest.0), ap (λ s. s ∷ map (job_shown leaf_contents) ns) shown_first ∙ ap (λ s. entry_shown (known_with known) (planned o) ∷ s) rest.1)
 
   -- where a draft came back, it has counted a fault
@@ -142,7 +143,7 @@ module _ {D L : Type 0} (contents path : D → Option (List ℕ)) (faults : D �
       let wrote = each 0 o (omega arith) in
       let sum = sum_by-cons (faults_of faults) n ns in
       by_test (has_failed n) refl failed
-      (file_failed first.dock first.draft n.file (wrote.file first.dock first.draft first.is))
+      (file_failed o.layout first.dock first.draft n.file (wrote.file first.dock first.draft first.is))
       (row_failed os ns (omega (arith, number)) (λ i d within. each (suc i) d (omega (arith, within))) (All-tail P o os opened))
     where
       by_test : (b : Bool) → has_failed n ≡ b → (b || list_any has_failed ns) ≡ true → (has_failed n ≡ true → 0 < faults_of faults n) →

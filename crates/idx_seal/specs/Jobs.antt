@@ -4,7 +4,8 @@ use Rattle.std.specs.Option.{ForSome}
 use Rattle.idx_outside.specs.Cause.{counted}
 use Rattle.idx_outside.specs.Files.{known_with, retold}
 use Rattle.idx_outside.specs.declared.mem_file.MemFile.{MemFile}
-use Rattle.idx_dock.specs.Content.{dock_bytes}
+use Rattle.idx_rowmajor.specs.declared.layout.Layout.{Layout}
+use Rattle.idx_dock.specs.Content.{dock_bytes_as}
 use Rattle.idx_dock.specs.Dock.{DockValue, missing}
 use Rattle.idx_seal.specs.declared.job.Job.{Job}
 use Rattle.idx_seal.specs.declared.written.Written.{Written}
@@ -32,30 +33,30 @@ module _ {D L : Type 0} (contents : D → Option (List ℕ)) where
 
 module _ {D L : Type 0} (contents path : D → Option (List ℕ)) (faults : D → ℕ)
     (leaf_contents leaf_path : L → Option (List ℕ)) (leaf_faults : L → ℕ) where
-  -- A draft to which a dock was written was sealed, with the bytes of the dock and the draft's path and faults, or came
-  -- back with one fault more.
-  abbrev pub WritesTo : DockValue → D → Option (Written D L) → Type 0
-  WritesTo dock draft None = ⊥
-  WritesTo dock draft (Some (Open dock' back)) = ⊥
-  WritesTo dock draft (Some (Sealed leaf)) =
-      (leaf_contents leaf ≡ retold (contents draft) (dock_bytes dock)) × (leaf_path leaf ≡ path draft)
+  -- A draft to which a dock was written in a layout was sealed, with the bytes of the dock and the draft's path and faults,
+  -- or came back with one fault more.
+  abbrev pub WritesTo : Layout → DockValue → D → Option (Written D L) → Type 0
+  WritesTo layout dock draft None = ⊥
+  WritesTo layout dock draft (Some (Open dock' back)) = ⊥
+  WritesTo layout dock draft (Some (Sealed leaf)) =
+      (leaf_contents leaf ≡ retold (contents draft) (dock_bytes_as layout dock)) × (leaf_path leaf ≡ path draft)
       × (leaf_faults leaf ≡ faults draft)
-  WritesTo dock draft (Some (Failed back)) = (0 < faults back) × (faults back ≡ counted (faults draft))
+  WritesTo layout dock draft (Some (Failed back)) = (0 < faults back) × (faults back ≡ counted (faults draft))
 
   -- what a worker makes of a job
   pub record Writes (old new : Job D L) : Type 0 where
     pub same : new.path ≡ old.path
-    pub file : (dock : DockValue) (draft : D) → old.file ≡ Some (Open dock draft) → WritesTo dock draft new.file
+    pub file : (dock : DockValue) (draft : D) → old.file ≡ Some (Open dock draft) → WritesTo old.layout dock draft new.file
 
 module _ {D L : Type 0} where
-  -- the bytes that are to be written
-  abbrev pub planned_bytes : Option (Written D L) → List ℕ
-  planned_bytes (Some (Open dock draft)) = dock_bytes dock
-  planned_bytes file = []
+  -- the bytes that are to be written in a layout
+  abbrev pub planned_bytes : Layout → Option (Written D L) → List ℕ
+  planned_bytes layout (Some (Open dock draft)) = dock_bytes_as layout dock
+  planned_bytes layout file = []
 
   -- the path of a file, and the bytes that are to be written
   abbrev pub planned : Job D L → List ℕ × List ℕ
-  planned job = (job.path, planned_bytes job.file)
+  planned job = (job.path, planned_bytes job.layout job.file)
 
   -- whether a draft was sealed
   abbrev pub is_sealed : Option (Written D L) → Bool

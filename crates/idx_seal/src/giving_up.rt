@@ -27,7 +27,11 @@ fn give_up<B: Bay>(bay: &mut B, job: Job<B::Draft, B::Leaf>)
         (B.failed bay.old) (B.failed bay.new) }
     ensures kept { Keeps B.header B.files B.begun B.admits B.faults bay.old bay.new }
 {
-    let Job { path: _path, file } = job;
+    let Job {
+        path: _path,
+        layout: _layout,
+        file,
+    } = job;
     match file {
         Some(Written::Open(_dock, draft)) => bay.retire(draft),
         Some(Written::Failed(draft)) => bay.retire(draft),

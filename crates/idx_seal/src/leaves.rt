@@ -37,7 +37,11 @@ fn leaf_of<D, L: Leaf>(job: Job<D, L>) -> (Bytes, L)
     ensures finished { (known : Option (List MemFile)) → Finishes L.path L.faults known job →
         IsFinished L.path L.faults known result }
 {
-    let Job { path, file } = job;
+    let Job {
+        path,
+        layout: _layout,
+        file,
+    } = job;
     match file {
         Some(Written::Sealed(leaf)) => (path, leaf),
         Some(Written::Open(_dock, _draft)) => unreachable!(),

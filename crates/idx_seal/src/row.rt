@@ -16,6 +16,7 @@ use crate::writing::{any_failed, write_all};
 use idx_dock::Dock;
 use idx_header::Header;
 use idx_outside::{Bay, BayFault, Bytes, Gate};
+use idx_rowmajor::Layout;
 use std::alloc::Global;
 use std::thread::Threads;
 use std::vec::IntoIter;
@@ -28,6 +29,7 @@ pub(crate) fn seal_row<B: Bay, G: Gate, R: Threads + Sync>(
     header: &Header,
     step: u64,
     docks: &mut IntoIter<Dock, Global>,
+    layout: Layout,
     workers: u32,
     bay: &mut B,
     gate: &G,
@@ -43,9 +45,9 @@ where
     requires admits { (file : ℕ) → B.admits bay.old (file_name header.now step file) }
     requires room { vec_len leaves.old + into_iter_len docks.old ≤ vec_capacity leaves.old }
     ensures leaves { OnOk result (shown B.Leaf.contents leaves.new.items
-        ++ known_files (B.files bay.old) (map (dock_file header.now step) (into_iter_items docks.new))
+        ++ known_files (B.files bay.old) (map (dock_file layout header.now step) (into_iter_items docks.new))
         ≡ shown B.Leaf.contents leaves.old.items
-        ++ known_files (B.files bay.old) (map (dock_file header.now step) (into_iter_items docks.old))) }
+        ++ known_files (B.files bay.old) (map (dock_file layout header.now step) (into_iter_items docks.old))) }
     ensures finished { OnOk result (All (IsFinished B.Leaf.path B.Leaf.faults (B.files bay.old)) leaves.old.items →
         All (IsFinished B.Leaf.path B.Leaf.faults (B.files bay.old)) leaves.new.items) }
     ensures fewer { OnOk result (into_iter_len docks.new < into_iter_len docks.old) }
@@ -59,7 +61,7 @@ where
     let Ok(mut jobs) = Vec::with_capacity(alloc, count) else {
         return Err(BayFault::NoMemory);
     };
-    if let Err(fault) = open_row(alloc, header, step, docks, count, bay, &mut jobs) {
+    if let Err(fault) = open_row(alloc, header, step, docks, layout, count, bay, &mut jobs) {
         give_all_up(bay, jobs);
         return Err(fault);
     }

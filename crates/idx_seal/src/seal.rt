@@ -10,12 +10,13 @@ use crate::row::seal_row;
 use idx_dock::Dock;
 use idx_header::Header;
 use idx_outside::{Bay, BayFault, Bytes, Gate};
+use idx_rowmajor::Layout;
 use std::alloc::Global;
 use std::thread::Threads;
 
 /// Writes complete docks to drafts of a bay by so many workers, and seals them: the paths of their files of a step,
-/// each with its leaf, in the order of the docks. The paths are those of the header, the bytes those of the docks. Each
-/// file was made for its path, and no call on its draft has failed.
+/// each with its leaf, in the order of the docks. The paths are those of the header, the bytes those of the docks in a
+/// layout. Each file was made for its path, and no call on its draft has failed.
 ///
 /// The files are written in rows of as many as there are workers, so that the dock at place `j` is written by the
 /// worker `j % workers`, and the memory of the docks of a row is free before the next row begins. A worker passes the
@@ -29,6 +30,7 @@ pub fn seal_docks<B: Bay, G: Gate, R: Threads + Sync>(
     header: &Header,
     step: u64,
     docks: Vec<Dock>,
+    layout: Layout,
     workers: u32,
     bay: &mut B,
     gate: &G,
@@ -41,7 +43,7 @@ where
     requires complete { All (λ d. missing d ≡ None) docks.items }
     requires admits { (file : ℕ) → B.admits bay.old (file_name header.now step file) }
     ensures leaves { IfOk result (λ leaves. shown B.Leaf.contents leaves.items ≡
-        known_files (B.files bay.old) (map (dock_file header.now step) docks.items)) }
+        known_files (B.files bay.old) (map (dock_file layout header.now step) docks.items)) }
     ensures named { IfOk result (λ leaves. AllNamed B.Leaf.path leaves.items) }
     ensures paths { IfOk result (λ leaves.
         All (λ entry. B.Leaf.path entry.1 ≡ known_with (B.files bay.old) entry.0) leaves.items) }
@@ -66,6 +68,7 @@ where
             header,
             step,
             &mut docks,
+            layout,
             workers,
             bay,
             gate,

@@ -16,6 +16,10 @@ pub record IsRow (row : Row) : Type 0 where
 abbrev pub raw : ℕ
 raw = 0
 
+-- the flags of a block whose samples are raw and in the row-major order of their points
+abbrev pub row_major : ℕ
+row_major = 16
+
 -- the row of a block that its file lacks
 abbrev pub absent : Row
 absent = record { offset = 0; size = 0; flags = raw }

@@ -1,13 +1,13 @@
 -- The table of blocks at the head of a file: forty bytes, which are passed over, and then the rows of forty bytes each,
 -- as many for each field, field after field. The faults of its rows are tried row by row.
-use Rattle.std.specs.Prelude.{◌≡◌, ℕ, Bool, ◌<◌, ◌+◌, ◌*◌, ◌/◌, ◌==◌, ◌||◌, nat_lt, if◌then◌else◌, List, length, map, take, drop, slice_get, slice_index, Option, Some, None}
+use Rattle.std.specs.Prelude.{◌≡◌, ℕ, Bool, ◌<◌, ◌+◌, ◌*◌, ◌/◌, ◌==◌, ◌||◌, not, nat_lt, if◌then◌else◌, List, length, map, take, drop, slice_get, slice_index, Option, Some, None}
 use Rattle.std.specs.Option.{option_map}
 use Rattle.std.specs.List.{filter_map, range_with_len}
-use Rattle.idx_table.specs.Row.{raw, row_length, row_of}
+use Rattle.idx_table.specs.Row.{raw, row_major, row_length, row_of}
 use Rattle.idx_table.specs.declared.row.Row.{Row}
 use Rattle.idx_table.specs.declared.table_fault.TableFault.{TableFault}
 use Rattle.idx_table.specs.declared.table_fault.TableKind.{TableKind}
-use Rattle.idx_table.specs.declared.table_fault.TableKind.TheVariants.{CutShort, Compressed, RowMajor, WrongSize, OutsideFile}
+use Rattle.idx_table.specs.declared.table_fault.TableKind.TheVariants.{CutShort, Compressed, WrongSize, OutsideFile}
 
 -- how many bytes a table of so many rows has; row i ends where a table of i + 1 rows does
 abbrev pub table_bytes : ℕ → ℕ
@@ -29,17 +29,16 @@ field_of rows fields i = i / (rows / fields)
 abbrev pub is_outside : ℕ → ℕ → Row → Bool
 is_outside rows len row = nat_lt row.offset (table_bytes rows) || nat_lt len (row.offset + row.size)
 
--- the flags of a block whose samples are raw and in row-major order
-abbrev pub row_major : ℕ
-row_major = 16
+-- the samples of a block with these flags are raw, in one of the two orders
+abbrev pub is_raw : ℕ → Bool
+is_raw flags = flags == raw || flags == row_major
 
 -- what is wrong with a row that stands in such a file whole, if anything: `size` are the bytes of a block of its field. A
 -- row of size 0 says that the block is absent, whatever else it says
 abbrev pub fault_in : ℕ → ℕ → ℕ → Row → Option TableKind
 fault_in rows size len row =
     if row.size == 0 then None
-    else if row.flags == row_major then Some RowMajor
-    else if nat_lt raw row.flags then Some Compressed
+    else if not (is_raw row.flags) then Some Compressed
     else if nat_lt row.size size || nat_lt size row.size then Some WrongSize
     else if is_outside rows len row then Some OutsideFile
     else None

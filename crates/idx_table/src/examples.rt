@@ -27,7 +27,9 @@ pub fn worked_tables()
     ensures compressed { first_fault (replicate 40 0 ++ row_bytes (record { offset = 120; size = 5; flags = 3 })) 1
         (4 ∷ []) 128 ≡ Some (record { row = 0; kind = TableKind.Compressed }) }
     ensures row_major { first_fault (replicate 40 0 ++ row_bytes (record { offset = 120; size = 4; flags = 16 })) 1
-        (4 ∷ []) 128 ≡ Some (record { row = 0; kind = TableKind.RowMajor }) }
+        (4 ∷ []) 128 ≡ None }
+    ensures other_flags { first_fault (replicate 40 0 ++ row_bytes (record { offset = 120; size = 4; flags = 17 })) 1
+        (4 ∷ []) 128 ≡ Some (record { row = 0; kind = TableKind.Compressed }) }
     ensures wrong_size { first_fault (replicate 40 0 ++ row_bytes (record { offset = 0; size = 5; flags = 0 })) 1
         (4 ∷ []) 128 ≡ Some (record { row = 0; kind = TableKind.WrongSize }) }
     ensures in_table { first_fault (replicate 40 0 ++ row_bytes (record { offset = 79; size = 4; flags = 0 })) 1

@@ -152,9 +152,7 @@ fn fault_in(rows: u64, size: u64, len: u64, row: &Row) -> Option<TableKind>
 {
     if row.size == 0 {
         None
-    } else if row.flags == ROW_MAJOR {
-        Some(TableKind::RowMajor)
-    } else if row.flags != RAW {
+    } else if row.flags != RAW && row.flags != ROW_MAJOR {
         Some(TableKind::Compressed)
     } else if u64::from(row.size) != size {
         Some(TableKind::WrongSize)

@@ -19,9 +19,6 @@ pub enum TableKind {
     /// The block is compressed: its flags are neither 0 nor 16.
     #[error("the block is compressed")]
     Compressed,
-    /// The block's samples are in row-major order: its flags are 16.
-    #[error("the block is in row-major order")]
-    RowMajor,
     /// The size is not that of the field's blocks.
     #[error("the block has another size than the field's blocks")]
     WrongSize,

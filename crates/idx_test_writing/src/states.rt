@@ -11,6 +11,7 @@ use idx_gather::{Docking, GatherFault, Opening, Sealed};
 use idx_header::Header;
 use idx_memory::MemSource;
 use idx_outside::FreeGate;
+use idx_rowmajor::Layout;
 use std::alloc::Global;
 use std::process::Abort;
 use std::test::Fail;
@@ -83,7 +84,7 @@ fn sealed_within<R: Threads + Sync + Abort>(
     assert!(rt; !raws.is_empty());
     assert!(rt; raws.len() <= 256);
     assert!(rt; room >= 1);
-    let opening = Opening::new(alloc, header, 0, raws.len() as u32, room)?;
+    let opening = Opening::new(alloc, header, 0, raws.len() as u32, room, Layout::Hz)?;
     let opening = seal_all(rt, alloc, opening, raws, bay, batches)?;
     Ok(opening.finish())
 }

@@ -10,11 +10,11 @@ use Rattle.idx_hz.specs.Address.{hz_address}
 use Rattle.idx_header.specs.Header.{HeaderValue, sample_bytes_of}
 use Rattle.idx_layout.specs.Files.{file_bytes}
 use Rattle.idx_layout.specs.OfHeader.{placing_of}
-use Rattle.idx_layout.specs.declared.layout.Layout.TheVariants.{Hz}
+use Rattle.idx_rowmajor.specs.declared.layout.Layout.{Layout}
 use Rattle.idx_layout.proofs.PresentLemmas.{any_point}
 use Rattle.idx_pieces.specs.Runs.{IsRun, run_length, sample_at_address}
 use Rattle.idx_pieces.specs.declared.run.Run.{Run}
-use Rattle.idx_dock.specs.Content.{dock_bytes, dock_sample, fields_among, has_sample, run_sample, runs_in, sample_of}
+use Rattle.idx_dock.specs.Content.{dock_bytes_as, dock_sample, fields_among, has_sample, run_sample, runs_in, sample_of}
 use Rattle.idx_dock.specs.Dock.{DockValue, IsDock}
 use Rattle.idx_dock.specs.Next.{IsOneOf}
 use Rattle.idx_dock.proofs.ApartLemmas.{dock_writable, run_point}
@@ -88,7 +88,7 @@ dock_zeros d is field a unfound = by_run (find_run (has_sample h field a) runs)
 abbrev pub sample_by_point : DockValue → ℕ → List ℕ → List ℕ
 sample_by_point d field p = dock_sample d field (hz_address d.header.mask p)
 
-pub dock_volume : (d : DockValue) → IsDock d → (volume : List (List (List ℕ))) × (IsVolumeOf d.header volume × (dock_bytes d ≡ file_bytes Hz (placing_of d.header) volume d.file))
+pub dock_volume : (d : DockValue) → IsDock d → (volume : List (List (List ℕ))) × (IsVolumeOf d.header volume × ((layout : Layout) → dock_bytes_as layout d ≡ file_bytes layout (placing_of d.header) volume d.file))
 dock_volume d is =
     let h : HeaderValue = d.header in
     let s : ℕ → List ℕ → List ℕ = sample_by_point d in
@@ -98,9 +98,9 @@ dock_volume d is =
       volume,
       (
         are,
-        file_is h volume d.file (fields_among h d.file (runs_in d.awaited)) are
-            (blocks_agree h d.file (dock_sample d) (sample_at_address h s) (λ field a within from to.
+        λ layout. file_is layout h volume d.file (fields_among layout h d.file (runs_in d.awaited)) are
+            (blocks_agree layout h d.file (dock_sample d) (sample_at_address h s) (λ field a within from to.
             by_points h s field a (dock_sample d field a) (λ p found lies at. ap (dock_sample d field) (sym at)) (λ found. dock_zeros d is field a found))
-            ∙ points_agree h d.file s (sample_of h volume) (λ field p within inside. sym (made_sample h s field p within inside.lies))),
+            ∙ points_agree layout h d.file s (sample_of h volume) (λ field p within inside. sym (made_sample h s field p within inside.lies))),
       ),
     )

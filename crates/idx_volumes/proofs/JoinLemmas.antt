@@ -12,7 +12,6 @@ use Rattle.idx_header.specs.Header.{HeaderValue, IsHeader, volume_bytes}
 use Rattle.idx_layout.specs.Placing.{Placing, block_count, file_numbers, file_of, is_present}
 use Rattle.idx_layout.specs.Files.{file_bytes}
 use Rattle.idx_layout.specs.OfHeader.{placing_of}
-use Rattle.idx_layout.specs.declared.layout.Layout.TheVariants.{Hz}
 use Rattle.idx_layout.specs.Step.{volume_of_raw}
 use Rattle.idx_layout.proofs.ListLemmas.{passing}
 use Rattle.idx_layout.proofs.PresentLemmas.{any_point}
@@ -106,8 +105,8 @@ join_is : (h : HeaderValue) (v w : List (List (List ℕ))) (file : ℕ) (u : Lis
     (v ≡ w → u ≡ v) → IsJoin h v w file u
 join_is h v w file u among whole same = record {
   volume = whole.volume;
-  own = whole.files file among ∙ ap (λ (b : Bool). file_bytes Hz (placing_of h) (cond b w v) file) (eq-eqb file file refl);
-  others = λ other among other_one. whole.files other among ∙ ap (λ (b : Bool). file_bytes Hz (placing_of h) (cond b w v) other) (apart (other == file) refl other_one);
+  own = λ layout. whole.files file among layout ∙ ap (λ (b : Bool). file_bytes layout (placing_of h) (cond b w v) file) (eq-eqb file file refl);
+  others = λ other among other_one layout. whole.files other among layout ∙ ap (λ (b : Bool). file_bytes layout (placing_of h) (cond b w v) other) (apart (other == file) refl other_one);
   same = same;
 }
   where

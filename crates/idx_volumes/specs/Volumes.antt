@@ -4,7 +4,7 @@ use Rattle.idx_geom.specs.Region.{points}
 use Rattle.idx_geom.specs.Volume.{IsVolume}
 use Rattle.idx_fields.specs.Field.{sample_bytes}
 use Rattle.idx_header.specs.Header.{HeaderValue}
-use Rattle.idx_layout.specs.declared.layout.Layout.TheVariants.{Hz}
+use Rattle.idx_rowmajor.specs.declared.layout.Layout.{Layout}
 use Rattle.idx_layout.specs.Files.{file_bytes}
 use Rattle.idx_layout.specs.OfHeader.{placing_of}
 use Rattle.idx_layout.specs.Placing.{file_numbers}
@@ -13,9 +13,9 @@ use Rattle.idx_layout.specs.Placing.{file_numbers}
 abbrev pub IsVolumeOf : HeaderValue → List (List (List ℕ)) → Type 0
 IsVolumeOf h volume = IsVolume (map sample_bytes h.fields) (length (points h.box)) volume
 
--- two volumes have one file in hierarchical order
+-- two volumes have one file, in each layout
 abbrev pub HaveOneFile : HeaderValue → ℕ → List (List (List ℕ)) → List (List (List ℕ)) → Type 0
-HaveOneFile h file v w = file_bytes Hz (placing_of h) v file ≡ file_bytes Hz (placing_of h) w file
+HaveOneFile h file v w = (layout : Layout) → file_bytes layout (placing_of h) v file ≡ file_bytes layout (placing_of h) w file
 
 -- a volume each of whose files is that of the file's own volume
 pub record IsWhole (h : HeaderValue) (volumes : ℕ → List (List (List ℕ))) (u : List (List (List ℕ))) : Type 0 where

@@ -1,20 +1,21 @@
 //! What holds of the definitions, each the contract of a function that does nothing.
 ghost use Rattle.std.specs.Prelude.{◌≡◌, ℕ, Contains, List, None, length};
 ghost use Rattle.idx_header.specs.Header.{HeaderValue, IsHeader, volume_bytes};
-ghost use Rattle.idx_layout.specs.declared.layout.Layout.{Layout};
+ghost use Rattle.idx_rowmajor.specs.declared.layout.Layout.{Layout};
 ghost use Rattle.idx_layout.specs.Files.{file_bytes};
 ghost use Rattle.idx_layout.specs.OfHeader.{placing_of};
 ghost use Rattle.idx_layout.specs.Placing.{file_numbers};
 ghost use Rattle.idx_layout.specs.Step.{volume_of_raw};
-ghost use Rattle.idx_dock.specs.Content.{dock_bytes};
+ghost use Rattle.idx_dock.specs.Content.{dock_bytes_as};
 ghost use Rattle.idx_dock.specs.Dock.{DockValue, IsDock, missing};
 ghost use Rattle.idx_volumes.specs.Volumes.{IsJoin, IsVolumeOf, IsWhole};
 
-/// A dock of which nothing is missing writes the file of some volume.
+/// A dock of which nothing is missing writes the file of some volume, one in each layout.
 pub fn complete_docks_write_some_volume()
     ensures { (d : DockValue) → IsDock d → missing d ≡ None →
         (volume : List (List (List ℕ))) × (IsVolumeOf d.header volume
-        × (dock_bytes d ≡ file_bytes Layout.Hz (placing_of d.header) volume d.file)) }
+        × ((layout : Layout) →
+        dock_bytes_as layout d ≡ file_bytes layout (placing_of d.header) volume d.file)) }
 {}
 
 /// Of a volume for each file of a step there is one volume each of whose files is that of the file's own.

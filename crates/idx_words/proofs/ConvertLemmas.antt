@@ -7,7 +7,7 @@ use Rattle.idx_words.specs.declared.convert_word.ConvertWord.{ConvertWord}
 use Rattle.idx_words.specs.declared.convert_word.ConvertWord.TheVariants as words
 use Rattle.idx_words.specs.ConvertGrammar.{is_text}
 use Rattle.idx_words.specs.ConvertWord.{place_of, is_right_at}
-use Rattle.idx_words.specs.Options.{AreOptions, convert_options, ranks_of}
+use Rattle.idx_words.specs.Options.{AreOptions, convert_options, layout_of, ranks_of}
 use Rattle.idx_words.specs.PathWord.{is_path}
 use Rattle.idx_words.specs.Place.{SomeListBegins}
 use Rattle.idx_words.specs.WordAt.{word_at}
@@ -74,7 +74,7 @@ to_right (w0 ∷ w1 ∷ w2 ∷ w3 ∷ w4 ∷ w5 ∷ w6 ∷ w7 ∷ w8 ∷ w9 ∷ 
             h.2.bits_word.text,
             (
               h.2.per_file_word.text,
-              (h.2.template_word.text, (h.2.time_word.text, (ap is_some h.2.step_word, h.2.ranks_word.pairs))),
+              (h.2.template_word.text, (h.2.time_word.text, (ap is_some h.2.step_word, h.2.option_words.pairs))),
             ),
           ),
         ),
@@ -96,7 +96,7 @@ from_right (w0 ∷ w1 ∷ w2 ∷ w3 ∷ w4 ∷ w5 ∷ w6 ∷ w7 ∷ []) h = absu
 from_right (w0 ∷ w1 ∷ w2 ∷ w3 ∷ w4 ∷ w5 ∷ w6 ∷ w7 ∷ w8 ∷ []) h = absurd h.1.1.1.1.1.1.1.1.1
 from_right (w0 ∷ w1 ∷ w2 ∷ w3 ∷ w4 ∷ w5 ∷ w6 ∷ w7 ∷ w8 ∷ w9 ∷ options) (h0, (h1, (h2, (h3, (h4, (h5, (h6, (h7, (h8, (h9, pairs)))))))))) =
     let step = there (number_of w9) h9 in (
-      record { extent = w2; fields = w3; mask = w4; bits = w5; per_file = w6; template = w7; time = w8; step = step.0; ranks = ranks_of options },
+      record { extent = w2; fields = w3; mask = w4; bits = w5; per_file = w6; template = w7; time = w8; step = step.0; ranks = ranks_of options; layout = layout_of options },
       (
         h0,
         h1,
@@ -109,7 +109,7 @@ from_right (w0 ∷ w1 ∷ w2 ∷ w3 ∷ w4 ∷ w5 ∷ w6 ∷ w7 ∷ w8 ∷ w9 �
           template_word = record { text = h7; same = refl };
           time_word = record { text = h8; same = refl };
           step_word = step.1;
-          ranks_word = record { pairs = pairs; same = refl };
+          option_words = record { pairs = pairs; ranks = refl; layout = refl };
         },
       ),
     )

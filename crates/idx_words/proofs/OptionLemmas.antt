@@ -92,11 +92,12 @@ all_open (option ∷ all) = ap (λ rest. option ∷ rest) (all_open all)
 
 -- a word names one option
 every : List Setting
-every = options.Ranks ∷ options.Cache ∷ options.Workers ∷ options.Links ∷ options.Ingest ∷ options.Raw ∷ []
+every = options.Ranks ∷ options.Layout ∷ options.Cache ∷ options.Workers ∷ options.Links ∷ options.Ingest ∷ options.Raw ∷ []
 
 of_name : (option : Setting) → named (name_of option) every ≡ Some option
 unfolding every
 of_name options.Ranks = refl
+of_name options.Layout = refl
 of_name options.Cache = refl
 of_name options.Workers = refl
 of_name options.Links = refl
@@ -155,19 +156,30 @@ are_within all words right = record {
 
 -- ---- the first pair
 
--- the empty word is no value, and the word 1 is one
+-- the empty word is no value, and some word is one
 no_value : (option : Setting) → is_value option [] ≡ false
 unfolding number_of is_path
 no_value options.Ranks = refl
+no_value options.Layout = refl
 no_value options.Cache = refl
 no_value options.Workers = refl
 no_value options.Links = refl
 no_value options.Ingest = refl
 no_value options.Raw = refl
 
-one_value : (option : Setting) → is_value option (codes "1") ≡ true
-unfolding number_of is_path
+some_value : Setting → List ℕ
+some_value options.Ranks = codes "1"
+some_value options.Layout = codes "hz"
+some_value options.Cache = codes "1"
+some_value options.Workers = codes "1"
+some_value options.Links = codes "1"
+some_value options.Ingest = codes "1"
+some_value options.Raw = codes "1"
+
+one_value : (option : Setting) → is_value option (some_value option) ≡ true
+unfolding number_of is_path some_value
 one_value options.Ranks = refl
+one_value options.Layout = refl
 one_value options.Cache = refl
 one_value options.Workers = refl
 one_value options.Links = refl
@@ -185,7 +197,7 @@ module _ (all : List Setting) (name : List ℕ) (words : List (List ℕ)) where
     pub wrong_value : is_value option (word_at words 0) ≡ false → Fault (AreOptions all) (name ∷ words) 1
     wrong_value wrong = record {
       place = IsPlace-at (AreOptions all) (name ∷ words) 1 (omega arith)
-          (codes "1" ∷ [], with_option (codes "1") [] ∙ ap (λ b. b && true) (one_value option))
+          (some_value option ∷ [], with_option (some_value option) [] ∙ ap (λ b. b && true) (one_value option))
           (λ less begins. never words wrong begins.0 less begins.1);
       none = none words wrong;
     }

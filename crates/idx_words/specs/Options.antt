@@ -3,6 +3,8 @@ use Rattle.std.specs.Prelude.{ℕ, Bool, true, false, ◌&&◌, if◌then◌else
 use Rattle.std.specs.Option.{is_some, option_and_then, unwrap_or}
 use Rattle.std.specs.Str.{bytes_eq}
 use Rattle.idx_text.specs.Number.{number_of}
+use Rattle.idx_rowmajor.specs.declared.layout.Layout.{Layout}
+use Rattle.idx_rowmajor.specs.declared.layout.Layout.TheVariants.{Hz, Rows}
 use Rattle.idx_words.specs.declared.setting.Setting.{Setting}
 use Rattle.idx_words.specs.declared.setting.Setting.TheVariants as options
 use Rattle.idx_words.specs.PathWord.{is_path}
@@ -10,6 +12,7 @@ use Rattle.idx_words.specs.PathWord.{is_path}
 -- the name of an option
 abbrev pub name_of : Setting → List ℕ
 name_of options.Ranks = codes "--ranks"
+name_of options.Layout = codes "--layout"
 name_of options.Cache = codes "--cache"
 name_of options.Workers = codes "--workers"
 name_of options.Links = codes "--links"
@@ -21,9 +24,14 @@ abbrev pub is_in : ℕ → ℕ → Option ℕ → Bool
 is_in least most None = false
 is_in least most (Some n) = nat_le least n && nat_le n most
 
+-- the layout that a word names, if it does
+abbrev pub layout_named : List ℕ → Option Layout
+layout_named word = if bytes_eq word (codes "rows") then Some Rows else if bytes_eq word (codes "hz") then Some Hz else None
+
 -- the word is a value of an option; the greatest number of links is the greatest number
 abbrev pub is_value : Setting → List ℕ → Bool
 is_value options.Ranks word = is_in 1 256 (number_of word)
+is_value options.Layout word = is_some (layout_named word)
 is_value options.Cache word = is_in 1 65536 (number_of word)
 is_value options.Workers word = is_in 1 64 (number_of word)
 is_value options.Links word = is_in 1 9999999999999999999 (number_of word)
@@ -71,6 +79,10 @@ number_given words option = option_and_then number_of (given words option)
 abbrev pub ranks_of : List (List ℕ) → ℕ
 ranks_of words = unwrap_or (number_given words options.Ranks) 1
 
+-- the order of the samples of a block; hz where the words do not say
+abbrev pub layout_of : List (List ℕ) → Layout
+layout_of words = unwrap_or (option_and_then layout_named (given words options.Layout)) Hz
+
 -- how many blocks a cache keeps at most; 64 where the words do not say
 abbrev pub cache_of : List (List ℕ) → ℕ
 cache_of words = unwrap_or (number_given words options.Cache) 64
@@ -81,7 +93,7 @@ workers_of words = unwrap_or (number_given words options.Workers) 1
 
 -- The options of each command.
 abbrev pub convert_options : List Setting
-convert_options = options.Ranks ∷ []
+convert_options = options.Ranks ∷ options.Layout ∷ []
 
 abbrev pub query_options : List Setting
 query_options = options.Cache ∷ []

@@ -1,5 +1,6 @@
 -- Words that a worked value names.
 use Rattle.std.specs.Prelude.{codes}
+use Rattle.idx_rowmajor.specs.declared.layout.Layout.TheVariants.{Hz}
 use Rattle.idx_words.specs.ConvertValue.{ConvertValue}
 
 -- the words of a small dataset
@@ -15,4 +16,5 @@ small_words =
       time = codes "0 9 time%04d/";
       step = 0;
       ranks = 1;
+      layout = Hz;
     }

@@ -10,7 +10,7 @@ pub enum Command<'w> {
     Cut(CutWords),
     /// `info DATASET`
     Info,
-    /// `convert DATASET RAW BOX FIELDS MASK BITS PERFILE TEMPLATE TIME STEP [--ranks RANKS]`
+    /// `convert DATASET RAW BOX FIELDS MASK BITS PERFILE TEMPLATE TIME STEP [--ranks RANKS] [--layout rows|hz]`
     Convert(ConvertWords<'w>),
     /// `query DATASET TIME FIELD REGION LO HI [--cache BLOCKS]`
     Query(QueryWords<'w>),

@@ -34,11 +34,11 @@ const ORDER: [ConvertWord; 10] = [
 ];
 
 /// The options behind them.
-const OPTIONS: [Setting; 1] = [Setting::Ranks];
+const OPTIONS: [Setting; 2] = [Setting::Ranks, Setting::Layout];
 
 /// What is expected where no option stands that may stand there.
-const END: &str = "--ranks, at most once, or the end of the words: \
-     convert DATASET RAW BOX FIELDS MASK BITS PERFILE TEMPLATE TIME STEP [--ranks RANKS]";
+const END: &str = "--ranks or --layout, each at most once, or the end of the words: \
+     convert DATASET RAW BOX FIELDS MASK BITS PERFILE TEMPLATE TIME STEP [--ranks RANKS] [--layout rows|hz]";
 
 /// The command `convert` with the values of the words behind it. The place of a word that is wrong or missing counts
 /// the command too.
@@ -103,5 +103,6 @@ fn values<'w>(words: &'w [String], settings: &Settings<'_>) -> ConvertWords<'w>
         time: word_at(words, ConvertWord::Time.place()),
         step: read_number(word_at(words, ConvertWord::Step.place())).unwrap_or(0),
         ranks: settings.ranks(),
+        layout: settings.layout(),
     }
 }

@@ -1,6 +1,7 @@
+use idx_rowmajor::Layout;
 use std::marker::Model;
 
-/// The values that the words of `convert` stand for: the texts as they were given, the step, and the option.
+/// The values that the words of `convert` stand for: the texts as they were given, the step, and the options.
 #[derive(Debug, Drop)]
 pub struct ConvertWords<'w> {
     /// BOX, the value of `(box)`.
@@ -21,6 +22,8 @@ pub struct ConvertWords<'w> {
     pub step: u64,
     /// How many ranks convert, 1 to 256.
     pub ranks: u32,
+    /// The order of the samples of a block.
+    pub layout: Layout,
 }
 
 impl<'w> Model for ConvertWords<'w> {
@@ -38,5 +41,6 @@ impl<'w> Model for ConvertWords<'w> {
       time = c.time.now;
       step = c.step;
       ranks = c.ranks;
+      layout = c.layout;
     } };
 }

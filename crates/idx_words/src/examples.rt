@@ -2,9 +2,19 @@
 ghost use Rattle.std.specs.Prelude.{◌≡◌, [], ◌∷◌, None, Some, true, false, codes};
 ghost use Rattle.idx_header.specs.Worked.{small_text, with_line_at};
 ghost use Rattle.idx_words.specs.Built.{built_with};
+ghost use Rattle.idx_rowmajor.specs.declared.layout.Layout.{Layout};
 ghost use Rattle.idx_words.specs.declared.setting.Setting.{Setting};
 ghost use Rattle.idx_words.specs.CheckGrammar.{AreCheckWords, AreSomeCheckWords};
-ghost use Rattle.idx_words.specs.Options.{are_options, cache_of, number_given, query_options, serve_options};
+ghost use Rattle.idx_words.specs.Options.{
+  are_options,
+  cache_of,
+  convert_options,
+  layout_of,
+  number_given,
+  query_options,
+  ranks_of,
+  serve_options,
+};
 ghost use Rattle.idx_words.specs.ServeGrammar.{ingest_of};
 ghost use Rattle.idx_words.specs.Worked.{small_words};
 
@@ -29,6 +39,20 @@ pub fn worked_options()
         (codes "--links" ∷ codes "1" ∷ codes "--links" ∷ codes "1" ∷ []) ≡ false }
     ensures other { are_options query_options (codes "--workers" ∷ codes "2" ∷ []) ≡ false }
     ensures missing { are_options query_options (codes "--cache" ∷ []) ≡ false }
+{}
+
+/// The order of the samples of a block is `rows` or `hz`, and `hz` where it is not given; it is given once.
+#[tactic(auto, unfolding(idx_text::specs::Number::number_of))]
+pub fn worked_layout()
+    ensures right { are_options convert_options
+        (codes "--ranks" ∷ codes "4" ∷ codes "--layout" ∷ codes "rows" ∷ []) ≡ true }
+    ensures rows { layout_of (codes "--ranks" ∷ codes "4" ∷ codes "--layout" ∷ codes "rows" ∷ []) ≡ Layout.Rows }
+    ensures hz { layout_of (codes "--layout" ∷ codes "hz" ∷ codes "--ranks" ∷ codes "4" ∷ []) ≡ Layout.Hz }
+    ensures ranks { ranks_of (codes "--layout" ∷ codes "hz" ∷ codes "--ranks" ∷ codes "4" ∷ []) ≡ 4 }
+    ensures absent { layout_of (codes "--ranks" ∷ codes "4" ∷ []) ≡ Layout.Hz }
+    ensures other { are_options convert_options (codes "--layout" ∷ codes "Rows" ∷ []) ≡ false }
+    ensures twice { are_options convert_options
+        (codes "--layout" ∷ codes "hz" ∷ codes "--layout" ∷ codes "rows" ∷ []) ≡ false }
 {}
 
 /// A step and its raw volume are given in any order; the step may be 0, and the volume's path is no option's name.

@@ -2,6 +2,7 @@ ghost use Rattle.std.specs.Prelude.{◌≡◌};
 ghost use Rattle.idx_text.specs.Number.{number_of};
 ghost use Rattle.idx_words.specs.Options.{is_in, is_name, is_value, name_of};
 
+use crate::layout_word::read_layout;
 use crate::path::is_path;
 use idx_text::read_number;
 
@@ -12,6 +13,7 @@ const GREATEST_NUMBER: u64 = 9_999_999_999_999_999_999;
 #[derive(Clone, Copy, Debug, PartialEq, Eq)]
 pub enum Setting {
     Ranks,
+    Layout,
     Cache,
     Workers,
     Links,
@@ -25,6 +27,7 @@ impl Setting {
     {
         match self {
             Setting::Ranks => b"--ranks",
+            Setting::Layout => b"--layout",
             Setting::Cache => b"--cache",
             Setting::Workers => b"--workers",
             Setting::Links => b"--links",
@@ -46,6 +49,7 @@ impl Setting {
     {
         match self {
             Setting::Ranks => is_number_in(1, 256, word),
+            Setting::Layout => read_layout(word).is_some(),
             Setting::Cache => is_number_in(1, 65_536, word),
             Setting::Workers => is_number_in(1, 64, word),
             Setting::Links => is_number_in(1, GREATEST_NUMBER, word),
@@ -58,6 +62,8 @@ impl Setting {
     pub fn expected(self) -> &'static str {
         match self {
             Setting::Ranks => "the value of --ranks: a number from 1 to 256",
+            Setting::Layout =>
+                "the value of --layout, the order of the samples of a block: rows or hz",
             Setting::Cache => "the value of --cache, in blocks: a number from 1 to 65536",
             Setting::Workers => "the value of --workers: a number from 1 to 64",
             Setting::Links => "the value of --links: a number of 1 to 19 digits, from 1",

@@ -1,11 +1,13 @@
 ghost use Rattle.std.specs.Prelude.{◌≡◌, ◌≤◌, map, string_bytes};
 ghost use Rattle.std.specs.Option.{is_some, option_copied};
-ghost use Rattle.idx_words.specs.Options.{cache_of, given, named, number_given, ranks_of, workers_of};
+ghost use Rattle.idx_words.specs.Options.{cache_of, given, layout_of, named, number_given, ranks_of, workers_of};
 ghost use Rattle.idx_words.specs.ServeGrammar.{ingest_of};
 ghost use Rattle.idx_words.specs.Settings.{AreWithin, open_among};
 
 use crate::ingest_words::IngestWords;
+use crate::layout_word::read_layout;
 use crate::setting::Setting;
+use idx_rowmajor::Layout;
 use idx_text::read_number;
 use std::marker::Model;
 
@@ -35,6 +37,15 @@ impl<'w> Settings<'w> {
             Some(ranks) => ranks as u32,
             None => 1,
         }
+    }
+
+    /// The order of the samples of a block; that of hierarchical addresses where no word gives it.
+    pub fn layout(&self) -> Layout
+        ensures { result ≡ layout_of self.now }
+    {
+        self.given(Setting::Layout)
+            .and_then(read_layout)
+            .unwrap_or(Layout::Hz)
     }
 
     /// How many blocks a cache keeps at most; 64 where no number is given.

@@ -11,9 +11,9 @@ returns-in_err-header-clause-ends g c =
     let raw = g.V.Source in
     let raws = c.args.raws.now.items in
     let known = known_of raw.contents raw.asked raw.faults raws raws bay.header bay.files bay.begun bay.changes bay.failed bay.faults c.args.bay.now c.args.bay.now in
-    let ends = asked_ends c.args.text.now c.args.step known c.in_err-header.field-0.0 (c.in_err-header.ensures.cause known) (λ e. c.in_err-header.ensures.only (cc))
+    let ends = asked_ends c.args.layout c.args.text.now c.args.step known c.in_err-header.field-0.0 (c.in_err-header.ensures.cause known) (λ e. c.in_err-header.ensures.only (cc))
     (record { header = refl; files = refl; begun = refl; changes = refl }) refl refl refl refl in
-    handed_on c.from_residual.result c.in_err-header.field-0.0 (λ r. Ends c.args.text.now c.args.step known r) c.from_residual.ensures.1 ends
+    handed_on c.from_residual.result c.in_err-header.field-0.0 (λ r. Ends c.args.layout c.args.text.now c.args.step known r) c.from_residual.ensures.1 ends
 
 pub returns-clause-admits : goal.returns-clause-admits
 returns-clause-admits g c =
@@ -25,13 +25,13 @@ returns-in_err-place-clause-ends g c =
     let raw = g.V.Source in
     let known = known_of raw.contents raw.asked raw.faults c.args.raws.now.items c.find_place.new.raws.items bay.header bay.files bay.begun bay.changes bay.failed bay.faults c.args.bay.now c.find_place.new.bay in
     let looks = c.in_err-place.ensures.looks in
-    let ends = stop_ends c.args.text.now c.args.step known c.in_ok-header.header c.in_ok-header.ensures.asked
+    let ends = stop_ends c.args.layout c.args.text.now c.args.step known c.in_ok-header.header c.in_ok-header.ensures.asked
     (record { header = looks.header_same; files = looks.files_same; begun = looks.begun_same; changes = looks.changes_same })
     c.in_err-place.field-0.0 c.in_err-place.ensures.cause c.in_err-place.ensures.asked
     (λ other. looks.unfailed (λ e. other (cc)))
     (λ more. let e = c.in_err-place.ensures.raw_answered more in cc)
     (λ more. let e = looks.answered more in cc) looks.count in
-    handed_on c.from_residual-in_err-place.result c.in_err-place.field-0.0 (λ r. Ends c.args.text.now c.args.step known r) c.from_residual-in_err-place.ensures.1 ends
+    handed_on c.from_residual-in_err-place.result c.in_err-place.field-0.0 (λ r. Ends c.args.layout c.args.text.now c.args.step known r) c.from_residual-in_err-place.ensures.1 ends
 
 pub returns-clause-raw_count : goal.returns-clause-raw_count
 returns-clause-raw_count g c =

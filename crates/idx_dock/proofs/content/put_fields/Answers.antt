@@ -12,7 +12,7 @@ loop-field-preserved g c =
     let draft = g.D.Draft in
     let field : ℕ = c.loop-field.field in
     let n : ℕ = length h.fields in
-    let part : ℕ → List ℕ = field_among h c.args.file (runs_in c.args.awaited.now) in
+    let part : ℕ → List ℕ = field_among c.args.layout h c.args.file (runs_in c.args.awaited.now) in
     let before = appended (draft.contents c.loop-field.draft) c.loop-field.buffer.items in
     let rest : List ℕ = flat_map part (range_with_len (field + 1) (n - (field + 1))) in
     let exists : field < n = omega (arith, c.loop-field-test.true, c.field_count-field-end.ensures.count) in
@@ -30,7 +30,7 @@ pub returns-clause-written : goal.returns-clause-written
 returns-clause-written g c =
     let h = c.args.header.now in
     let draft = g.D.Draft in
-    let part : ℕ → List ℕ = field_among h c.args.file (runs_in c.args.awaited.now) in
+    let part : ℕ → List ℕ = field_among c.args.layout h c.args.file (runs_in c.args.awaited.now) in
     let now = appended (draft.contents c.loop-field.draft) c.loop-field.buffer.items in
     let none : length h.fields - c.loop-field.field ≡ 0 = omega (arith, c.loop-field-test.false, c.field_count-field-end.ensures.count) in
     sym (appended-nil now) ∙ ap (λ n. appended now (flat_map part (range_with_len c.loop-field.field n))) (sym none) ∙ c.loop-field.invariant.written

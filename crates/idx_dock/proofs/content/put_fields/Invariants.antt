@@ -10,8 +10,8 @@ invariant-loop-field g l =
     let draft = g.D.Draft in
     record {
       passed : length l.passed ≡ length l.awaited;
-      written : appended (appended (draft.contents l.draft) l.buffer.items) (flat_map (field_among l.header l.file (runs_in l.awaited)) (range_with_len l.field (length l.header.fields - l.field)))
-          ≡ appended (appended (draft.contents l.fn.draft) l.fn.buffer.items) (fields_among l.header l.file (runs_in l.awaited));
+      written : appended (appended (draft.contents l.draft) l.buffer.items) (flat_map (field_among l.layout l.header l.file (runs_in l.awaited)) (range_with_len l.field (length l.header.fields - l.field)))
+          ≡ appended (appended (draft.contents l.fn.draft) l.fn.buffer.items) (fields_among l.layout l.header l.file (runs_in l.awaited));
       quiet : draft.faults l.draft ≡ draft.faults l.fn.draft;
       path : draft.path l.draft ≡ draft.path l.fn.draft;
     }

@@ -2,7 +2,6 @@ use Rattle.std.proofs.Common.{replicate, sym, ap, ◌∙◌}
 use Rattle.std.specs.List.{flat_map}
 use Rattle.idx_outside.specs.Contents.{appended}
 use Rattle.idx_outside.proofs.ContentsLemmas.{appended-appended}
-use Rattle.idx_layout.specs.declared.layout.Layout.TheVariants.{Hz}
 use Rattle.idx_layout.specs.Files.{rows_of_file}
 use Rattle.idx_layout.specs.OfHeader.{placing_of}
 use Rattle.idx_table.specs.Row.{row_bytes}
@@ -12,7 +11,7 @@ pub loop-row-init : goal.loop-row-init
 loop-row-init g c =
     let draft = g.D.Draft in
     let before = appended (draft.contents c.args.draft.now) c.args.buffer.now.items in
-    let rows = rows_of_file Hz (placing_of c.args.header.now) c.args.file in
+    let rows = rows_of_file c.args.layout (placing_of c.args.header.now) c.args.file in
     record {
       written = ap (λ o. appended o (flat_map row_bytes c.into_iter-row-iterator.result)) c.in_ok-put.ensures.written
           ∙ ap (λ left. appended (appended before (replicate 40 0)) (flat_map row_bytes left))

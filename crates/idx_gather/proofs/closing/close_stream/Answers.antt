@@ -19,13 +19,13 @@ invariant_of-opening g c =
     let state = subst (λ (ds : List DockValue). AreOpen o.header o.pieces.items (drop (length o.leaves.items) o.files.items) (map (λ entry. entry.0) s.sealed.items) s.left.items ds) c.requires.all c.requires.state in
     record {
       valid = subst (λ xs. IsOpening o.header o.step o.ranks o.room o.pieces.items o.files.items (map (λ leaf. leaf.0) xs)) (sym now)
-          (opening_closed contents o.header o.step o.ranks o.room o.pieces.items o.files.items o.leaves.items o.valid s.sealed.items c.by_number.new.sealed.items s.left.items state
+          (opening_closed o.layout contents o.header o.step o.ranks o.room o.pieces.items o.files.items o.leaves.items o.valid s.sealed.items c.by_number.new.sealed.items s.left.items state
           c.by_number.ensures.same c.by_number.ensures.rising known told are);
-      so_far = ∣ subst (λ xs. AreFilesSoFar o.header o.step o.files.items (shown contents xs)) (sym now)
-          (so_far_closed contents o.header o.step o.ranks o.room o.pieces.items o.files.items o.leaves.items o.valid s.sealed.items c.by_number.new.sealed.items s.left.items state
+      so_far = ∣ subst (λ xs. AreFilesSoFar o.layout o.header o.step o.files.items (shown contents xs)) (sym now)
+          (so_far_closed o.layout contents o.header o.step o.ranks o.room o.pieces.items o.files.items o.leaves.items o.valid s.sealed.items c.by_number.new.sealed.items s.left.items state
           c.by_number.ensures.same c.by_number.ensures.rising known told are) ∣₁;
       named = subst (AllNamed g.L.Leaf.path) (sym now)
-          (named_closed contents o.header o.step o.ranks o.room o.pieces.items o.files.items o.leaves.items o.valid s.sealed.items c.by_number.new.sealed.items s.left.items state
+          (named_closed o.layout contents o.header o.step o.ranks o.room o.pieces.items o.files.items o.leaves.items o.valid s.sealed.items c.by_number.new.sealed.items s.left.items state
           c.by_number.ensures.same c.by_number.ensures.rising g.L.Leaf.path o.named s.named);
     }
 
@@ -37,7 +37,7 @@ returns-in-Ok-clause-more g c =
     c.in-Ok.ensures.items ∙ ap (λ xs. o.leaves.items ++ xs) c.in_ok-leaves.ensures in
     let state = subst (λ (ds : List DockValue). AreOpen o.header o.pieces.items (drop (length o.leaves.items) o.files.items) (map (λ entry. entry.0) s.sealed.items) s.left.items ds) c.requires.all c.requires.state in
     subst (λ xs. length o.leaves.items < length xs) (sym now)
-    (more_closed g.L.Leaf.contents o.header o.step o.ranks o.room o.pieces.items o.files.items o.leaves.items o.valid s.sealed.items c.by_number.new.sealed.items s.left.items state
+    (more_closed o.layout g.L.Leaf.contents o.header o.step o.ranks o.room o.pieces.items o.files.items o.leaves.items o.valid s.sealed.items c.by_number.new.sealed.items s.left.items state
     c.by_number.ensures.same c.by_number.ensures.rising c.requires.some)
 
 pub returns-in-Ok-clause-first : goal.returns-in-Ok-clause-first
@@ -48,6 +48,6 @@ returns-in-Ok-clause-first g c = λ known told are.
     let now : c.append.new.self.items ≡ o.leaves.items ++ map (λ entry. entry.1) c.by_number.new.sealed.items =
     c.in-Ok.ensures.items ∙ ap (λ xs. o.leaves.items ++ xs) c.in_ok-leaves.ensures in
     let state = subst (λ (ds : List DockValue). AreOpen o.header o.pieces.items (drop (length o.leaves.items) o.files.items) (map (λ entry. entry.0) s.sealed.items) s.left.items ds) c.requires.all c.requires.state in
-    subst (λ xs. AreFirstFiles o.header o.step known told o.files.items (shown contents xs)) (sym now)
-    (first_closed contents o.header o.step o.ranks o.room o.pieces.items o.files.items o.leaves.items o.valid s.sealed.items c.by_number.new.sealed.items s.left.items state
+    subst (λ xs. AreFirstFiles o.layout o.header o.step known told o.files.items (shown contents xs)) (sym now)
+    (first_closed o.layout contents o.header o.step o.ranks o.room o.pieces.items o.files.items o.leaves.items o.valid s.sealed.items c.by_number.new.sealed.items s.left.items state
     c.by_number.ensures.same c.by_number.ensures.rising known told are)

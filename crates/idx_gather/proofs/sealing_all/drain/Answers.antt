@@ -39,8 +39,8 @@ batches-init g c =
       state = subst (λ sealed. AreOpen o.header o.pieces.items (drop (length o.leaves.items) o.files.items) (map (λ entry. entry.0) sealed) s.left.items s.docks.items) (sym c.requires.none) c.requires.state;
       many = omega (arith, ap length c.requires.none);
       samples = λ raw is. c.requires.empty o.header (raw_sample o.header raw);
-      sealed = subst (λ sealed. AreSealed o.header o.step (g.B.Bay.files c.args.bay.now) told o.files.items (shown contents o.leaves.items) (numbered contents sealed)) (sym c.requires.none)
-          (sealed_none o.header o.step (g.B.Bay.files c.args.bay.now) told o.files.items (shown contents o.leaves.items) c.requires.first);
+      sealed = subst (λ sealed. AreSealed o.layout o.header o.step (g.B.Bay.files c.args.bay.now) told o.files.items (shown contents o.leaves.items) (numbered contents sealed)) (sym c.requires.none)
+          (sealed_none o.layout o.header o.step (g.B.Bay.files c.args.bay.now) told o.files.items (shown contents o.leaves.items) c.requires.first);
     }
 
 pub deliver-requires-clause-alike : goal.deliver-requires-clause-alike
@@ -123,9 +123,9 @@ batches-preserved g c =
     open_moved s.opening.header h s.opening.pieces.items o.pieces.items (drop (length s.opening.leaves.items) s.opening.files.items) (drop (length o.leaves.items) o.files.items)
     (map (λ entry. entry.0) s.sealed.items) (map (λ entry. entry.0) s.sealed.items) n.left.items n.left.items n.docks.items header (λ i. (inv.opening i).pieces.items)
     (λ i. drop (length (inv.opening i).leaves.items) (inv.opening i).files.items) refl refl c.in_ok-next.ensures.state in
-    let sealed_is : numbered contents t.sealed.items ≡ numbered contents s.sealed.items ++ map (dock_entry h o.step known) (full_docks n.docks.items) =
+    let sealed_is : numbered contents t.sealed.items ≡ numbered contents s.sealed.items ++ map (dock_entry o.layout h o.step known) (full_docks n.docks.items) =
     c.in_ok-stream.ensures.sealed
-    ∙ (λ i. numbered contents (c.in_ok-next.ensures.sealed i) ++ map (dock_entry (whole_opening i).header (whole_opening i).step (inv.bay_files i)) (full_docks n.docks.items)) in
+    ∙ (λ i. numbered contents (c.in_ok-next.ensures.sealed i) ++ map (dock_entry (whole_opening i).layout (whole_opening i).header (whole_opening i).step (inv.bay_files i)) (full_docks n.docks.items)) in
     let samples : (raw : List ℕ) → told ≡ Some raw → HaveSamples h (raw_sample h raw) n.docks.items =
     λ raw is.
     let whole : HasVolume h (Some raw) = subst (λ (x : Option (List ℕ)). HasVolume h x) is c.requires.right in
@@ -133,7 +133,7 @@ batches-preserved g c =
     (c.in_ok-next.ensures.samples raw (same ∙ is) (subst (λ (x : HeaderValue). length raw ≡ volume_bytes x) (sym header) whole)
     (subst (λ (x : HeaderValue). HaveSamples x (raw_sample x raw) s.docks.items) (sym header) (inv.samples raw is))) in
     let numbers : map (λ entry. entry.0) t.sealed.items ≡ map (λ entry. entry.0) s.sealed.items ++ map (λ (d : DockValue). d.file) (full_docks n.docks.items) =
-    numbers_more contents h o.step known s.sealed.items t.sealed.items (full_docks n.docks.items) sealed_is in
+    numbers_more o.layout contents h o.step known s.sealed.items t.sealed.items (full_docks n.docks.items) sealed_is in
     record {
       opening = c.in_ok-stream.ensures.opening ∙ whole_opening;
       number = sym c.deliver.new.raws.ok.0 ∙ c.deliver.ensures.number ∙ c.batches.raws.ok.0 ∙ inv.number;
@@ -153,7 +153,7 @@ batches-preserved g c =
           state t.docks.items (map (λ entry. entry.0) t.sealed.items) c.in_ok-stream.ensures.docks numbers);
       many = kept_count s.sealed.items t.sealed.items s.docks.items n.docks.items t.docks.items (length c.args.stream.docks.items) numbers c.in_ok-stream.ensures.docks c.in_ok-next.ensures.many inv.many;
       samples = λ raw is. others_have h (raw_sample h raw) n.docks.items t.docks.items c.in_ok-stream.ensures.docks (samples raw is);
-      sealed = sealed_turn contents h o.step o.ranks o.room o.pieces.items o.files.items o.leaves.items o.valid known told s.sealed.items n.left.items n.docks.items state c.in_ok-stream.ensures.valid samples
+      sealed = sealed_turn o.layout contents h o.step o.ranks o.room o.pieces.items o.files.items o.leaves.items o.valid known told s.sealed.items n.left.items n.docks.items state c.in_ok-stream.ensures.valid samples
           inv.sealed (numbered contents t.sealed.items) sealed_is;
     }
 
@@ -185,10 +185,11 @@ returns-clause-files_made g c =
     let told : Option (List ℕ) = contents_at g.V.Source.contents c.args.raws.now.items 0 in
     let header : s.header ≡ o.header = λ i. (inv.opening i).header in
     let step : s.step ≡ o.step = λ i. (inv.opening i).step in
+    let layout : s.layout ≡ o.layout = λ i. (inv.opening i).layout in
     let files : s.files.items ≡ o.files.items = λ i. (inv.opening i).files.items in
     let first : shown contents s.leaves.items ≡ shown contents o.leaves.items = λ i. shown contents (inv.opening i).leaves.items in
     let done = shown contents c.in_ok-close_stream.field-0.leaves.items in
-    moved s.header o.header s.step o.step known known told s.files.items o.files.items done done header step refl files refl
+    moved s.layout o.layout s.header o.header s.step o.step known known told s.files.items o.files.items done done layout header step refl files refl
     (c.in_ok-close_stream.ensures.first known told
-    (sealed_moved o.header s.header o.step s.step known told o.files.items s.files.items (shown contents o.leaves.items) (shown contents s.leaves.items) (numbered contents c.batches.stream.sealed.items)
-    (sym header) (sym step) (sym files) (sym first) inv.sealed))
+    (sealed_moved o.layout s.layout o.header s.header o.step s.step known told o.files.items s.files.items (shown contents o.leaves.items) (shown contents s.leaves.items) (numbered contents c.batches.stream.sealed.items)
+    (sym layout) (sym header) (sym step) (sym files) (sym first) inv.sealed))

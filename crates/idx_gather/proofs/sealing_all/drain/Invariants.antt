@@ -31,7 +31,7 @@ invariant-batches g l =
       state : AreOpen h o.pieces.items (drop (length o.leaves.items) o.files.items) (map (λ entry. entry.0) l.stream.sealed.items) l.stream.left.items l.stream.docks.items;
       many : length l.stream.docks.items + length l.stream.sealed.items ≡ length l.fn.stream.docks.items;
       samples : (raw : List ℕ) → told ≡ Some raw → HaveSamples h (raw_sample h raw) l.stream.docks.items;
-      sealed : AreSealed h o.step (g.B.Bay.files l.fn.bay) told o.files.items (shown contents o.leaves.items) (numbered contents l.stream.sealed.items);
+      sealed : AreSealed o.layout h o.step (g.B.Bay.files l.fn.bay) told o.files.items (shown contents o.leaves.items) (numbered contents l.stream.sealed.items);
     }
 
 -- fewer pieces are left, or fewer docks where none is

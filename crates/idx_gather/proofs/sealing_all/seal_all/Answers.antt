@@ -56,12 +56,14 @@ windows-preserved g c =
     let same : contents_at g.V.Source.contents c.windows.raws.items 0 ≡ told = first_same g.V.Source.contents c.args.raws.now.items c.windows.raws.items inv.same in
     let header : s.header ≡ o.header = (λ i. (own i).header) ∙ inv.header in
     let step : s.step ≡ o.step = (λ i. (own i).step) ∙ inv.step in
+    let layout : s.layout ≡ o.layout = (λ i. (own i).layout) ∙ inv.layout in
     let files : s.files ≡ o.files = (λ i. (own i).files) ∙ inv.files in
     record {
       header = n.same_header ∙ header;
       step = n.same_step ∙ step;
       ranks = n.same_ranks ∙ (λ i. (own i).ranks) ∙ inv.ranks;
       room = n.same_room ∙ (λ i. (own i).room) ∙ inv.room;
+      layout = n.same_layout ∙ layout;
       pieces = n.same_pieces ∙ (λ i. (own i).pieces) ∙ inv.pieces;
       files = n.same_files ∙ files;
       number = sym c.drain.new.raws.ok.0 ∙ c.drain.ensures.number ∙ c.windows.raws.ok.0 ∙ inv.number;
@@ -75,7 +77,7 @@ windows-preserved g c =
       failed = n.failed ∙ inv.failed;
       faults = n.quiet ∙ inv.faults;
       still = λ path old. c.drain.ensures.still path (inv.still path old);
-      first = moved s.header o.header s.step o.step (g.B.Bay.files c.windows.bay) (g.B.Bay.files c.args.bay.now) told s.files.items o.files.items
-          (shown g.B.Leaf.Leaf.contents t.leaves.items) (shown g.B.Leaf.Leaf.contents t.leaves.items) header step inv.bay_files (λ i. (files i).items) refl
-          (subst (λ (x : Option (List ℕ)). AreFirstFiles s.header s.step (g.B.Bay.files c.windows.bay) x s.files.items (shown g.B.Leaf.Leaf.contents t.leaves.items)) same n.files_made);
+      first = moved s.layout o.layout s.header o.header s.step o.step (g.B.Bay.files c.windows.bay) (g.B.Bay.files c.args.bay.now) told s.files.items o.files.items
+          (shown g.B.Leaf.Leaf.contents t.leaves.items) (shown g.B.Leaf.Leaf.contents t.leaves.items) layout header step inv.bay_files (λ i. (files i).items) refl
+          (subst (λ (x : Option (List ℕ)). AreFirstFiles s.layout s.header s.step (g.B.Bay.files c.windows.bay) x s.files.items (shown g.B.Leaf.Leaf.contents t.leaves.items)) same n.files_made);
     }

@@ -14,6 +14,7 @@ invariant-windows g l =
       step : l.opening.step ≡ l.fn.opening.step;
       ranks : l.opening.ranks ≡ l.fn.opening.ranks;
       room : l.opening.room ≡ l.fn.opening.room;
+      layout : l.opening.layout ≡ l.fn.opening.layout;
       pieces : l.opening.pieces ≡ l.fn.opening.pieces;
       files : l.opening.files ≡ l.fn.opening.files;
       number : length l.raws.items ≡ length l.fn.raws.items;
@@ -26,7 +27,7 @@ invariant-windows g l =
       failed : g.B.Bay.failed l.bay ≡ g.B.Bay.failed l.fn.bay;
       faults : g.B.Bay.faults l.bay ≡ g.B.Bay.faults l.fn.bay;
       still : StillAdmits g.B.Bay.admits l.fn.bay l.bay;
-      first : AreFirstFiles h l.fn.opening.step (g.B.Bay.files l.fn.bay) (contents_at g.V.Source.contents l.fn.raws.items 0) l.fn.opening.files.items
+      first : AreFirstFiles l.fn.opening.layout h l.fn.opening.step (g.B.Bay.files l.fn.bay) (contents_at g.V.Source.contents l.fn.raws.items 0) l.fn.opening.files.items
           (shown g.B.Leaf.Leaf.contents l.opening.leaves.items);
     }
 

@@ -24,7 +24,7 @@ invariant_of-result g c =
             few = subst (λ xs. length xs ≤ length c.in_ok-all_files.field-0.items) (sym none) (omega arith);
             paths_are = subst (λ xs. xs ≡ map (file_name h c.args.step) (take (length xs) c.in_ok-all_files.field-0.items)) (sym none) refl;
           });
-      so_far = ∣ subst (λ leaves. AreFilesSoFar c.in_ok-copy.field-0 c.args.step c.in_ok-all_files.field-0.items (shown g.L.Leaf.contents leaves)) (sym c.new.ensures.items)
-          (none_so_far c.in_ok-copy.field-0 c.args.step c.in_ok-all_files.field-0.items) ∣₁;
+      so_far = ∣ subst (λ leaves. AreFilesSoFar c.args.layout c.in_ok-copy.field-0 c.args.step c.in_ok-all_files.field-0.items (shown g.L.Leaf.contents leaves)) (sym c.new.ensures.items)
+          (none_so_far c.args.layout c.in_ok-copy.field-0 c.args.step c.in_ok-all_files.field-0.items) ∣₁;
       named = subst (AllNamed g.L.Leaf.path) (sym c.new.ensures.items) (All-nil (IsNamed g.L.Leaf.path));
     }

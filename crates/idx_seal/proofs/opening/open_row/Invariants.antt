@@ -15,7 +15,7 @@ invariant-loop-opened g l =
     let bay = g.B.Bay in
     record {
       opened : All (IsOpened g.B.Draft.Draft.contents g.B.Draft.Draft.path g.B.Draft.Draft.faults (bay.files l.fn.bay)) l.jobs.items;
-      all : map planned l.jobs.items ++ map (dock_file l.header l.step) (into_iter_items l.docks) ≡ map (dock_file l.header l.step) (into_iter_items l.fn.docks);
+      all : map planned l.jobs.items ++ map (dock_file l.layout l.header l.step) (into_iter_items l.docks) ≡ map (dock_file l.layout l.header l.step) (into_iter_items l.fn.docks);
       complete : AllByRecursion (λ d. missing d ≡ None) (into_iter_items l.docks);
       number : vec_len l.jobs ≡ l.opened;
       left : into_iter_len l.docks + l.opened ≡ into_iter_len l.fn.docks;

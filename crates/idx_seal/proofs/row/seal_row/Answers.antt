@@ -44,7 +44,7 @@ pub returns-clause-leaves : goal.returns-clause-leaves
 returns-clause-leaves g c =
     let contents = g.B.Leaf.Leaf.contents in
     let known = g.B.Bay.files c.args.bay.now in
-    let f = dock_file c.args.header.now c.args.step in
+    let f = dock_file c.args.layout c.args.header.now c.args.step in
     let old = c.open_row.new.jobs.items in
     let new = c.write_all.new.jobs.items in
     let number : length new ≡ length old = grind (arith, common_steps) in

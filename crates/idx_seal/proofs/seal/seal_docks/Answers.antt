@@ -43,7 +43,7 @@ pub rows-preserved : goal.rows-preserved
 rows-preserved g c =
     let bay = g.B.Bay in
     let contents = g.B.Leaf.Leaf.contents in
-    let f = dock_file c.args.header.now c.args.step in
+    let f = dock_file c.args.layout c.args.header.now c.args.step in
     let before = c.rows.invariant in
     let sealed = c.in_ok-seal_row.ensures in
     record {
@@ -82,7 +82,7 @@ rows-smaller g c = c.in_ok-seal_row.ensures.fewer
 pub returns-clause-leaves : goal.returns-clause-leaves
 returns-clause-leaves g c =
     let known = g.B.Bay.files c.args.bay.now in
-    let f = dock_file c.args.header.now c.args.step in
+    let f = dock_file c.args.layout c.args.header.now c.args.step in
     let leaves = shown g.B.Leaf.Leaf.contents c.rows.leaves.items in
     let none : into_iter_items c.rows.docks ≡ [] = grind (arith, common_steps) in
     sym (append-nil leaves) ∙ subst (λ docks. leaves ++ known_files known (map f docks) ≡ known_files known (map f c.args.docks.items)) none c.rows.invariant.all

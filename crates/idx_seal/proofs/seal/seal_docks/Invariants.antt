@@ -16,7 +16,7 @@ invariant-rows g l =
     let bay = g.B.Bay in
     let known = bay.files l.fn.bay in
     record {
-      all : shown g.B.Leaf.Leaf.contents l.leaves.items ++ known_files known (map (dock_file l.header l.step) (into_iter_items l.docks)) ≡ known_files known (map (dock_file l.header l.step) l.fn.docks.items);
+      all : shown g.B.Leaf.Leaf.contents l.leaves.items ++ known_files known (map (dock_file l.layout l.header l.step) (into_iter_items l.docks)) ≡ known_files known (map (dock_file l.layout l.header l.step) l.fn.docks.items);
       finished : All (IsFinished g.B.Leaf.Leaf.path g.B.Leaf.Leaf.faults known) l.leaves.items;
       complete : AllByRecursion (λ d. missing d ≡ None) (into_iter_items l.docks);
       room : vec_len l.leaves + into_iter_len l.docks ≤ vec_capacity l.leaves;

@@ -9,8 +9,8 @@ read_at-requires g c =
     let self = c.args.self.now in
     let place = c.in-Some.place in
     let stands = c.in-Some.ensures.stands in
-    let within = leaf_exists contents self.leaves.items self.tables c.args.field c.args.block place.file place.offset self.fits stands in
-    block_within self.tables (shown contents self.leaves.items) c.args.field c.args.block place.file place.offset (length c.args.into.now) (entry_shown contents c.index.result.now)
+    let within = leaf_exists contents self.leaves.items self.tables c.args.field c.args.block place.file place.offset place.flags self.fits stands in
+    block_within self.tables (shown contents self.leaves.items) c.args.field c.args.block place.file place.offset place.flags (length c.args.into.now) (entry_shown contents c.index.result.now)
     c.find.ensures.valid self.fits stands (shown_at contents self.leaves.items place.file c.index.result.now within c.index.ensures) c.requires.room
 
 pub returns-clause-bytes : goal.returns-clause-bytes
@@ -19,13 +19,14 @@ returns-clause-bytes g c =
     let self = c.args.self.now in
     let place = c.in-Some.place in
     let stands = c.in-Some.ensures.stands in
-    let within = leaf_exists contents self.leaves.items self.tables c.args.field c.args.block place.file place.offset self.fits stands in
-    read_stored self.tables (shown contents self.leaves.items) c.args.field c.args.block place.file place.offset (length c.args.into.now) (entry_shown contents c.index.result.now) c.read_at.new.into
-    c.find.ensures.valid self.fits stands (shown_at contents self.leaves.items place.file c.index.result.now within c.index.ensures) c.requires.room c.in_ok-read_at.ensures.read
+    let within = leaf_exists contents self.leaves.items self.tables c.args.field c.args.block place.file place.offset place.flags self.fits stands in
+    read_stored self.tables (shown contents self.leaves.items) c.args.field c.args.block place.file place.offset place.flags (length c.args.into.now) (entry_shown contents c.index.result.now) c.read_at.new.into
+    c.put_in_hz_order.new.bytes
+    c.find.ensures.valid self.fits stands (shown_at contents self.leaves.items place.file c.index.result.now within c.index.ensures) c.requires.room c.in_ok-read_at.ensures.read c.put_in_hz_order.ensures
 
 pub returns-clause-absent : goal.returns-clause-absent
 returns-clause-absent g c =
     let self = c.args.self.now in
     let place = c.in-Some.place in
-    let has = stands-has self.tables c.args.field c.args.block place.file place.offset c.find.ensures.valid c.in-Some.ensures.stands in
+    let has = stands-has self.tables c.args.field c.args.block place.file place.offset place.flags c.find.ensures.valid c.in-Some.ensures.stands in
     (λ e. absurd (cc), λ absent. let wrong : ◌≡◌ true false = sym has ∙ absent in absurd (cc))

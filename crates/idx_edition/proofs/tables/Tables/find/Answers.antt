@@ -66,5 +66,5 @@ returns-clause-stands c =
     ap (λ f. slice_get c.index.result.now (f * t.header.blocks_per_file + (c.args.block - file_in t.header.blocks_per_file c.args.block))) (sym c.from.ensures)
     ∙ ap (λ n. slice_get c.index.result.now (c.from.result * t.header.blocks_per_file + (c.args.block - n))) (sym number)
     ∙ ap (λ n. slice_get c.index.result.now (c.from.result * n + (c.args.block - c.file_of-number.result))) (sym c.blocks_per_file-per_file.ensures.value) ∙ c.row-row.ensures in
-    subst (λ (t : TablesValue). StandsAt t c.args.field c.args.block c.in-Ok.file c.row-row.result.offset) c.self.view_is
-    (row-stands t c.args.field c.args.block c.in-Ok.file c.file_of-number.result c.row-row.result.offset c.index.result.now c.row-row.result c.self.invariant found number row.0 at c.if-row-eq0.false refl)
+    subst (λ (t : TablesValue). StandsAt t c.args.field c.args.block c.in-Ok.file c.row-row.result.offset c.row-row.result.flags) c.self.view_is
+    (row-stands t c.args.field c.args.block c.in-Ok.file c.file_of-number.result c.row-row.result.offset c.row-row.result.flags c.index.result.now c.row-row.result c.self.invariant found number row.0 at c.if-row-eq0.false refl refl)

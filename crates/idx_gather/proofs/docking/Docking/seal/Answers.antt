@@ -16,9 +16,9 @@ invariant_of-opening g c =
     let docks : All IsDock c.args.self.docks.items = subst (All IsDock) same c.look_over.ensures in
     record {
       valid = subst (λ xs. IsOpening o.header o.step o.ranks o.room o.pieces.items o.files.items (map (λ leaf. leaf.0) xs)) (sym c.in-Ok-append.ensures.items)
-          (next_opening g.L.Leaf.contents o.header o.step o.room o.pieces.items o.files.items o.leaves.items c.in-Ok.leaves.items (g.B.Bay.files c.args.bay.now)
+          (next_opening o.layout g.L.Leaf.contents o.header o.step o.room o.pieces.items o.files.items o.leaves.items c.in-Ok.leaves.items (g.B.Bay.files c.args.bay.now)
           c.args.self.docks.items c.args.self.done c.args.self.left.items o.ranks o.valid c.args.self.valid c.in-Ok.ensures.leaves);
-      so_far = ∥∥₁_map o.so_far (so_far_next g.L.Leaf.contents o.header o.step o.ranks o.room o.pieces.items o.files.items o.leaves.items c.in-Ok.leaves.items c.append.new.self.items
+      so_far = ∥∥₁_map o.so_far (so_far_next o.layout g.L.Leaf.contents o.header o.step o.ranks o.room o.pieces.items o.files.items o.leaves.items c.in-Ok.leaves.items c.append.new.self.items
           c.args.self.docks.items c.args.self.done c.args.self.left.items (g.B.Bay.files c.args.bay.now) o.valid c.args.self.valid docks c.requires.full c.in-Ok-append.ensures.items
           c.in-Ok.ensures.leaves);
       named = subst (AllNamed g.L.Leaf.path) (sym c.in-Ok-append.ensures.items)
@@ -29,5 +29,5 @@ pub returns-in-Ok-append-clause-more : goal.returns-in-Ok-append-clause-more
 returns-in-Ok-append-clause-more g c =
     let o = c.args.self.opening in
     subst (λ xs. length o.leaves.items < length xs) (sym c.in-Ok-append.ensures.items)
-    (more_leaves g.L.Leaf.contents o.header o.step o.room o.pieces.items o.files.items o.leaves.items c.in-Ok.leaves.items (g.B.Bay.files c.args.bay.now)
+    (more_leaves o.layout g.L.Leaf.contents o.header o.step o.room o.pieces.items o.files.items o.leaves.items c.in-Ok.leaves.items (g.B.Bay.files c.args.bay.now)
     c.args.self.docks.items c.args.self.done c.args.self.left.items c.args.self.valid c.in-Ok.ensures.leaves)

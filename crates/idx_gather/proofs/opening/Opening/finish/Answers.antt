@@ -13,7 +13,7 @@ invariant_of-result g c =
       paths = o.valid.paths_are
           ∙ ap (λ n. map (file_name o.header o.step) (take n o.files.items)) (length-map o.leaves.items (λ leaf. leaf.0) ∙ c.requires.sealed)
           ∙ ap (map (file_name o.header o.step)) (take_all (length o.files.items) o.files.items (omega arith) ∙ o.valid.files_are);
-      whole = ∥∥₁_map o.so_far (all_files o.header o.step o.files.items (shown g.L.Leaf.contents o.leaves.items) o.valid.files_are
+      whole = ∥∥₁_map o.so_far (all_files o.layout o.header o.step o.files.items (shown g.L.Leaf.contents o.leaves.items) o.valid.files_are
           (length-map o.leaves.items (entry_shown g.L.Leaf.contents) ∙ c.requires.sealed));
       named = o.named;
     }

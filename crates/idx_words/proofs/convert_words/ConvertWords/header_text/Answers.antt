@@ -20,6 +20,7 @@ returns c =
       time = kept.time.now;
       step = kept.step;
       ranks = kept.ranks;
+      layout = kept.layout;
     } in
     let text = c.write_entry-8.new.out in
     let written : text ≡ built_with words c.in_ok-bits.bits =

@@ -3,7 +3,7 @@ use Rattle.idx_dock.specs.declared.awaited.Awaited.{Awaited}
 use Rattle.idx_dock.specs.Dock.{dock_of}
 use Rattle.idx_dock.specs.Next.{AreWritable}
 use Rattle.idx_dock.proofs.ApartLemmas.{dock_writable}
-use Rattle.idx_dock.proofs.dock.Dock.write.Goals as goal
+use Rattle.idx_dock.proofs.dock.Dock.write_as.Goals as goal
 
 pub write_file-requires-clause-writable : goal.write_file-requires-clause-writable
 write_file-requires-clause-writable g c =

@@ -12,7 +12,7 @@ use Rattle.idx_gather.proofs.BatchLemmas.{some_rank}
 use Rattle.idx_gather.proofs.FillLemmas.{alike_still, first_same}
 use Rattle.idx_gather.proofs.GatherLemmas.{added_all, admits_files, blocks_all, has_not_lacks, holds_all, left_all, none_yet, sealed_step, unfailed}
 use Rattle.idx_gather.proofs.SealAllLemmas.{idle_again, on_fault}
-use Rattle.idx_gather.proofs.gathering.gather.Goals as goal
+use Rattle.idx_gather.proofs.gathering.gather_as.Goals as goal
 
 pub returns-in_err-check_length-clause-cause : goal.returns-in_err-check_length-clause-cause
 returns-in_err-check_length-clause-cause g c =
@@ -52,8 +52,8 @@ seal_all-requires-clause-first g c κs within =
     let same = first_same g.V.Source.contents c.args.raws.now.items c.check_length.new.raws.items c.check_length.ensures.same in
     let has : HasVolume c.args.header.now told = subst (λ (x : Option (List ℕ)). HasVolume c.args.header.now x) (sym same) c.in_ok-check_length.ensures.right in
     let right : HasVolume o.opening.header told = subst (λ (x : HeaderValue). HasVolume x told) (sym o.ensures.header) has in
-    subst (λ leaves. AreFirstFiles o.opening.header o.opening.step (g.B.Bay.files c.args.bay.now) told o.opening.files.items (shown g.B.Leaf.Leaf.contents leaves)) (sym o.ensures.empty)
-    (none_yet o.opening.header o.opening.step (g.B.Bay.files c.args.bay.now) told o.opening.files.items right)
+    subst (λ leaves. AreFirstFiles o.opening.layout o.opening.header o.opening.step (g.B.Bay.files c.args.bay.now) told o.opening.files.items (shown g.B.Leaf.Leaf.contents leaves)) (sym o.ensures.empty)
+    (none_yet o.opening.layout o.opening.header o.opening.step (g.B.Bay.files c.args.bay.now) told o.opening.files.items right)
 
 pub returns-in_err-opening-2-clause-idle : goal.returns-in_err-opening-2-clause-idle
 returns-in_err-opening-2-clause-idle g c =
@@ -76,13 +76,14 @@ returns-clause-added g c =
     let d = c.in_ok-opening-2 in
     let header : c.finish.result.header ≡ c.args.header.now = c.finish.ensures.header ∙ d.ensures.same_header ∙ o.ensures.header in
     let step : c.finish.result.step ≡ c.args.step = c.finish.ensures.step ∙ d.ensures.same_step ∙ o.ensures.step in
-    let some = sealed_step g.B.Leaf.Leaf.contents c.args.header.now c.finish.result.header o.opening.header c.finish.result.step o.opening.step (g.B.Bay.files c.seal_all.new.bay) (g.B.Bay.files c.args.bay.now)
+    let layout : c.finish.result.layout ≡ c.args.layout = c.finish.ensures.layout ∙ d.ensures.same_layout ∙ o.ensures.layout in
+    let some = sealed_step g.B.Leaf.Leaf.contents c.finish.result.layout o.opening.layout c.args.header.now c.finish.result.header o.opening.header c.finish.result.step o.opening.step (g.B.Bay.files c.seal_all.new.bay) (g.B.Bay.files c.args.bay.now)
     (contents_at g.V.Source.contents c.args.raws.now.items 0) (contents_at g.V.Source.contents c.check_length.new.raws.items 0) o.opening.files.items c.finish.result.leaves.items d.opening.leaves.items
-    (c.finish.ensures.header ∙ d.ensures.same_header) o.ensures.header (c.finish.ensures.step ∙ d.ensures.same_step) c.seal_all.ensures.files
+    (c.finish.ensures.layout ∙ d.ensures.same_layout) (c.finish.ensures.header ∙ d.ensures.same_header) o.ensures.header (c.finish.ensures.step ∙ d.ensures.same_step) c.seal_all.ensures.files
     (first_same g.V.Source.contents c.args.raws.now.items c.check_length.new.raws.items c.check_length.ensures.same) c.finish.ensures.leaves
     o.opening.valid.files_are (d.ensures.sealed ∙ ap (λ fs. length fs.items) d.ensures.same_files) c.in_ok-check_length.ensures.right d.ensures.files_made in
-    added_all c.args.header.now c.finish.result.header c.args.step c.finish.result.step (g.B.Bay.files c.args.bay.now) (g.B.Bay.files c.seal_all.new.bay) (g.B.Bay.files c.commit.new.bay)
-    (contents_at g.V.Source.contents c.args.raws.now.items 0) (shown g.B.Leaf.Leaf.contents c.finish.result.leaves.items) header step c.seal_all.ensures.files some c.commit.result c.commit.ensures.added
+    added_all c.args.layout c.finish.result.layout c.args.header.now c.finish.result.header c.args.step c.finish.result.step (g.B.Bay.files c.args.bay.now) (g.B.Bay.files c.seal_all.new.bay) (g.B.Bay.files c.commit.new.bay)
+    (contents_at g.V.Source.contents c.args.raws.now.items 0) (shown g.B.Leaf.Leaf.contents c.finish.result.leaves.items) layout header step c.seal_all.ensures.files some c.commit.result c.commit.ensures.added
 
 pub returns-clause-has : goal.returns-clause-has
 returns-clause-has g c =
@@ -95,13 +96,14 @@ returns-clause-volume g c =
     let d = c.in_ok-opening-2 in
     let header : c.finish.result.header ≡ c.args.header.now = c.finish.ensures.header ∙ d.ensures.same_header ∙ o.ensures.header in
     let step : c.finish.result.step ≡ c.args.step = c.finish.ensures.step ∙ d.ensures.same_step ∙ o.ensures.step in
-    let some = sealed_step g.B.Leaf.Leaf.contents c.args.header.now c.finish.result.header o.opening.header c.finish.result.step o.opening.step (g.B.Bay.files c.seal_all.new.bay) (g.B.Bay.files c.args.bay.now)
+    let layout : c.finish.result.layout ≡ c.args.layout = c.finish.ensures.layout ∙ d.ensures.same_layout ∙ o.ensures.layout in
+    let some = sealed_step g.B.Leaf.Leaf.contents c.finish.result.layout o.opening.layout c.args.header.now c.finish.result.header o.opening.header c.finish.result.step o.opening.step (g.B.Bay.files c.seal_all.new.bay) (g.B.Bay.files c.args.bay.now)
     (contents_at g.V.Source.contents c.args.raws.now.items 0) (contents_at g.V.Source.contents c.check_length.new.raws.items 0) o.opening.files.items c.finish.result.leaves.items d.opening.leaves.items
-    (c.finish.ensures.header ∙ d.ensures.same_header) o.ensures.header (c.finish.ensures.step ∙ d.ensures.same_step) c.seal_all.ensures.files
+    (c.finish.ensures.layout ∙ d.ensures.same_layout) (c.finish.ensures.header ∙ d.ensures.same_header) o.ensures.header (c.finish.ensures.step ∙ d.ensures.same_step) c.seal_all.ensures.files
     (first_same g.V.Source.contents c.args.raws.now.items c.check_length.new.raws.items c.check_length.ensures.same) c.finish.ensures.leaves
     o.opening.valid.files_are (d.ensures.sealed ∙ ap (λ fs. length fs.items) d.ensures.same_files) c.in_ok-check_length.ensures.right d.ensures.files_made in
-    blocks_all c.args.header.now c.finish.result.header c.args.step c.finish.result.step (g.B.Bay.files c.args.bay.now) (g.B.Bay.files c.seal_all.new.bay) (g.B.Bay.files c.commit.new.bay)
-    (contents_at g.V.Source.contents c.args.raws.now.items 0) (shown g.B.Leaf.Leaf.contents c.finish.result.leaves.items) header step c.seal_all.ensures.files some c.commit.result _ c.commit.ensures.blocks
+    blocks_all c.args.layout c.finish.result.layout c.args.header.now c.finish.result.header c.args.step c.finish.result.step (g.B.Bay.files c.args.bay.now) (g.B.Bay.files c.seal_all.new.bay) (g.B.Bay.files c.commit.new.bay)
+    (contents_at g.V.Source.contents c.args.raws.now.items 0) (shown g.B.Leaf.Leaf.contents c.finish.result.leaves.items) layout header step c.seal_all.ensures.files some c.commit.result _ c.commit.ensures.blocks
 
 pub returns-clause-holds : goal.returns-clause-holds
 returns-clause-holds g c =
@@ -109,13 +111,14 @@ returns-clause-holds g c =
     let d = c.in_ok-opening-2 in
     let header : c.finish.result.header ≡ c.args.header.now = c.finish.ensures.header ∙ d.ensures.same_header ∙ o.ensures.header in
     let step : c.finish.result.step ≡ c.args.step = c.finish.ensures.step ∙ d.ensures.same_step ∙ o.ensures.step in
-    let some = sealed_step g.B.Leaf.Leaf.contents c.args.header.now c.finish.result.header o.opening.header c.finish.result.step o.opening.step (g.B.Bay.files c.seal_all.new.bay) (g.B.Bay.files c.args.bay.now)
+    let layout : c.finish.result.layout ≡ c.args.layout = c.finish.ensures.layout ∙ d.ensures.same_layout ∙ o.ensures.layout in
+    let some = sealed_step g.B.Leaf.Leaf.contents c.finish.result.layout o.opening.layout c.args.header.now c.finish.result.header o.opening.header c.finish.result.step o.opening.step (g.B.Bay.files c.seal_all.new.bay) (g.B.Bay.files c.args.bay.now)
     (contents_at g.V.Source.contents c.args.raws.now.items 0) (contents_at g.V.Source.contents c.check_length.new.raws.items 0) o.opening.files.items c.finish.result.leaves.items d.opening.leaves.items
-    (c.finish.ensures.header ∙ d.ensures.same_header) o.ensures.header (c.finish.ensures.step ∙ d.ensures.same_step) c.seal_all.ensures.files
+    (c.finish.ensures.layout ∙ d.ensures.same_layout) (c.finish.ensures.header ∙ d.ensures.same_header) o.ensures.header (c.finish.ensures.step ∙ d.ensures.same_step) c.seal_all.ensures.files
     (first_same g.V.Source.contents c.args.raws.now.items c.check_length.new.raws.items c.check_length.ensures.same) c.finish.ensures.leaves
     o.opening.valid.files_are (d.ensures.sealed ∙ ap (λ fs. length fs.items) d.ensures.same_files) c.in_ok-check_length.ensures.right d.ensures.files_made in
-    holds_all c.args.header.now c.finish.result.header c.args.step c.finish.result.step (g.B.Bay.files c.args.bay.now) (g.B.Bay.files c.seal_all.new.bay) (g.B.Bay.files c.commit.new.bay)
-    (contents_at g.V.Source.contents c.args.raws.now.items 0) (shown g.B.Leaf.Leaf.contents c.finish.result.leaves.items) header step c.seal_all.ensures.files some c.commit.result _ _ _ _ c.commit.ensures.holds
+    holds_all c.args.layout c.finish.result.layout c.args.header.now c.finish.result.header c.args.step c.finish.result.step (g.B.Bay.files c.args.bay.now) (g.B.Bay.files c.seal_all.new.bay) (g.B.Bay.files c.commit.new.bay)
+    (contents_at g.V.Source.contents c.args.raws.now.items 0) (shown g.B.Leaf.Leaf.contents c.finish.result.leaves.items) layout header step c.seal_all.ensures.files some c.commit.result _ _ _ _ c.commit.ensures.holds
 
 pub returns-clause-leaves : goal.returns-clause-leaves
 returns-clause-leaves g c =
@@ -123,13 +126,14 @@ returns-clause-leaves g c =
     let d = c.in_ok-opening-2 in
     let header : c.finish.result.header ≡ c.args.header.now = c.finish.ensures.header ∙ d.ensures.same_header ∙ o.ensures.header in
     let step : c.finish.result.step ≡ c.args.step = c.finish.ensures.step ∙ d.ensures.same_step ∙ o.ensures.step in
-    let some = sealed_step g.B.Leaf.Leaf.contents c.args.header.now c.finish.result.header o.opening.header c.finish.result.step o.opening.step (g.B.Bay.files c.seal_all.new.bay) (g.B.Bay.files c.args.bay.now)
+    let layout : c.finish.result.layout ≡ c.args.layout = c.finish.ensures.layout ∙ d.ensures.same_layout ∙ o.ensures.layout in
+    let some = sealed_step g.B.Leaf.Leaf.contents c.finish.result.layout o.opening.layout c.args.header.now c.finish.result.header o.opening.header c.finish.result.step o.opening.step (g.B.Bay.files c.seal_all.new.bay) (g.B.Bay.files c.args.bay.now)
     (contents_at g.V.Source.contents c.args.raws.now.items 0) (contents_at g.V.Source.contents c.check_length.new.raws.items 0) o.opening.files.items c.finish.result.leaves.items d.opening.leaves.items
-    (c.finish.ensures.header ∙ d.ensures.same_header) o.ensures.header (c.finish.ensures.step ∙ d.ensures.same_step) c.seal_all.ensures.files
+    (c.finish.ensures.layout ∙ d.ensures.same_layout) (c.finish.ensures.header ∙ d.ensures.same_header) o.ensures.header (c.finish.ensures.step ∙ d.ensures.same_step) c.seal_all.ensures.files
     (first_same g.V.Source.contents c.args.raws.now.items c.check_length.new.raws.items c.check_length.ensures.same) c.finish.ensures.leaves
     o.opening.valid.files_are (d.ensures.sealed ∙ ap (λ fs. length fs.items) d.ensures.same_files) c.in_ok-check_length.ensures.right d.ensures.files_made in
-    left_all c.args.header.now c.finish.result.header c.args.step c.finish.result.step (g.B.Bay.files c.args.bay.now) (g.B.Bay.files c.seal_all.new.bay) (g.B.Bay.files c.commit.new.bay)
-    (contents_at g.V.Source.contents c.args.raws.now.items 0) (shown g.B.Leaf.Leaf.contents c.finish.result.leaves.items) header step c.seal_all.ensures.files some c.commit.result
+    left_all c.args.layout c.finish.result.layout c.args.header.now c.finish.result.header c.args.step c.finish.result.step (g.B.Bay.files c.args.bay.now) (g.B.Bay.files c.seal_all.new.bay) (g.B.Bay.files c.commit.new.bay)
+    (contents_at g.V.Source.contents c.args.raws.now.items 0) (shown g.B.Leaf.Leaf.contents c.finish.result.leaves.items) layout header step c.seal_all.ensures.files some c.commit.result
     (g.B.Bay.faults c.seal_all.new.bay) (g.B.Bay.faults c.commit.new.bay) c.commit.ensures.cause c.commit.ensures.whole c.commit.ensures.none
 
 pub returns-clause-unasked : goal.returns-clause-unasked
