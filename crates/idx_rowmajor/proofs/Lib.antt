@@ -21,3 +21,4 @@ pub mod GatherLemmas
 pub mod RowsLemmas
 pub mod HeaderLemmas
 pub mod MirrorLemmas
+pub mod PickLemmas

@@ -7,3 +7,4 @@ pub mod Targets
 pub mod Exchange
 pub mod Tables
 pub mod Involutions
+pub mod Picks

@@ -10,14 +10,16 @@ use crate::passes::Pairing;
 const ENTRY_BITS: u32 = 10;
 
 /// How many entries a table has.
-const ENTRIES: usize = 1 << ENTRY_BITS;
+pub(crate) const ENTRIES: usize = 1 << ENTRY_BITS;
 
 /// Places of at most 20 bits, each with the place that has its bits, each bit at its own place: by one table for the
 /// ten lowest bits and one for those above.
 #[derive(Drop)]
 pub(crate) struct BitTables {
-    low: [u32; ENTRIES],
-    high: [u32; ENTRIES],
+    /// The entries for the lowest bits.
+    pub(crate) low: [u32; ENTRIES],
+    /// Those for the bits above.
+    pub(crate) high: [u32; ENTRIES],
 }
 
 impl BitTables {

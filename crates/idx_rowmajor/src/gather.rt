@@ -8,7 +8,8 @@ ghost use Rattle.idx_rowmajor.specs.Targets.{bits_of};
 use crate::bit_places::{MAX_BITS, inverse};
 use crate::bit_tables::BitTables;
 use crate::involutions::split;
-use crate::passes::{MAX_BYTES, exchange};
+use crate::passes::{LARGE, MAX_BYTES, SMALL, exchange};
+use crate::picks::pick;
 use crate::turned::BelowHighest;
 use idx_lanes::{Sample, by_size};
 
@@ -107,8 +108,51 @@ fn turn<S: Sample>(bytes: &mut [u8], sample: S, bits: u32, block: u64)
     }
 }
 
-/// Puts to each place the sample of the place that has its bits, each bit at its target: two passes of exchanges.
+/// Puts to each place the sample of the place that has its bits, each bit at its target.
 fn gather<S: Sample>(bytes: &mut [u8], sample: S, bits: u32, targets: &[u32; MAX_BITS])
+    requires some { 0 < S.bytes sample }
+    requires few { S.bytes sample ≤ MAX_BYTES }
+    requires few_bits { bits ≤ MAX_BITS }
+    requires room { 2 ^ bits * S.bytes sample ≤ length bytes.old }
+    requires places { ArePlaces bits targets.now }
+    ensures { AreGathered bits targets.now (sample_of (S.bytes sample) bytes.old)
+        (sample_of (S.bytes sample) bytes.new) }
+{
+    if bytes.len() <= SMALL {
+        gather_by_copy::<S, SMALL>(bytes, sample, bits, targets);
+    } else if bytes.len() <= LARGE {
+        gather_by_copy::<S, LARGE>(bytes, sample, bits, targets);
+    } else {
+        gather_by_exchanges(bytes, sample, bits, targets);
+    }
+}
+
+/// The same in one pass, out of a copy of the block, for which there is room for `N` bytes.
+fn gather_by_copy<S: Sample, const N: usize>(
+    bytes: &mut [u8],
+    sample: S,
+    bits: u32,
+    targets: &[u32; MAX_BITS],
+)
+    requires some { 0 < S.bytes sample }
+    requires few { S.bytes sample ≤ MAX_BYTES }
+    requires few_bits { bits ≤ MAX_BITS }
+    requires few_bytes { length bytes.old ≤ N }
+    requires small { N ≤ LARGE }
+    requires room { 2 ^ bits * S.bytes sample ≤ length bytes.old }
+    requires places { ArePlaces bits targets.now }
+    ensures { AreGathered bits targets.now (sample_of (S.bytes sample) bytes.old)
+        (sample_of (S.bytes sample) bytes.new) }
+{
+    let mut room = [0; N];
+    let copy = &mut room[..bytes.len()];
+    copy.copy_from_slice(bytes);
+    let tables = BitTables::of_places(targets, bits);
+    pick(copy, sample, 1 << bits, &tables, bytes);
+}
+
+/// The same in two passes of exchanges.
+fn gather_by_exchanges<S: Sample>(bytes: &mut [u8], sample: S, bits: u32, targets: &[u32; MAX_BITS])
     requires some { 0 < S.bytes sample }
     requires few { S.bytes sample ≤ MAX_BYTES }
     requires few_bits { bits ≤ MAX_BITS }

@@ -11,6 +11,7 @@ mod involutions;
 mod laws;
 mod layout;
 mod passes;
+mod picks;
 mod places;
 mod row_targets;
 mod rows;

@@ -4,10 +4,17 @@ ghost use Rattle.idx_lanes.specs.Written.{written};
 ghost use Rattle.idx_rowmajor.specs.Exchange.{IsPairing, IsExchanged};
 ghost use Rattle.idx_rowmajor.specs.Rows.{sample_of};
 
+use crate::picks::pick_partners;
 use idx_lanes::Sample;
 
 /// A sample has at most so many bytes.
 pub(crate) const MAX_BYTES: usize = 64;
+
+/// Of a block of at most so many bytes a copy is made on the stack, which costs little.
+pub(crate) const SMALL: usize = 1 << 16;
+
+/// Of a larger one of at most so many bytes too; of others none is made.
+pub(crate) const LARGE: usize = 1 << 18;
 
 /// A pairing of places: each place has a partner, whose partner it is, or is its own.
 pub(crate) trait Pairing {
@@ -38,6 +45,25 @@ pub(crate) fn exchange<S: Sample, P: Pairing>(
     ensures { IsExchanged count (P.partner pairing.now) (sample_of (S.bytes sample) block.old)
         (sample_of (S.bytes sample) block.new) }
 {
+    if block.len() <= SMALL {
+        exchange_by_copy::<S, P, SMALL>(block, sample, count, pairing);
+    } else if block.len() <= LARGE {
+        exchange_by_copy::<S, P, LARGE>(block, sample, count, pairing);
+    } else {
+        exchange_in_place(block, sample, count, pairing);
+    }
+}
+
+/// The same pair by pair.
+fn exchange_in_place<S: Sample, P: Pairing>(block: &mut [u8], sample: S, count: usize, pairing: &P)
+    requires some { 0 < S.bytes sample }
+    requires few { S.bytes sample ≤ MAX_BYTES }
+    requires ready { (o : ℕ) → o < count → P.is_ready pairing.now o }
+    requires pairing { IsPairing count (P.partner pairing.now) }
+    requires room { count * S.bytes sample ≤ length block.old }
+    ensures { IsExchanged count (P.partner pairing.now) (sample_of (S.bytes sample) block.old)
+        (sample_of (S.bytes sample) block.new) }
+{
     let size = sample.bytes();
     for place in 0..count {
         let other = pairing.partner(place);
@@ -45,6 +71,29 @@ pub(crate) fn exchange<S: Sample, P: Pairing>(
             swap(block, sample, place * size, other * size);
         }
     }
+}
+
+/// The same out of a copy of the block, for which there is room for `N` bytes.
+fn exchange_by_copy<S: Sample, P: Pairing, const N: usize>(
+    block: &mut [u8],
+    sample: S,
+    count: usize,
+    pairing: &P,
+)
+    requires some { 0 < S.bytes sample }
+    requires few { S.bytes sample ≤ MAX_BYTES }
+    requires ready { (o : ℕ) → o < count → P.is_ready pairing.now o }
+    requires pairing { IsPairing count (P.partner pairing.now) }
+    requires few_bytes { length block.old ≤ N }
+    requires small { N ≤ LARGE }
+    requires room { count * S.bytes sample ≤ length block.old }
+    ensures { IsExchanged count (P.partner pairing.now) (sample_of (S.bytes sample) block.old)
+        (sample_of (S.bytes sample) block.new) }
+{
+    let mut room = [0; N];
+    let copy = &mut room[..block.len()];
+    copy.copy_from_slice(block);
+    pick_partners(copy, sample, count, pairing, block);
 }
 
 /// Exchanges the samples that begin at two bytes.

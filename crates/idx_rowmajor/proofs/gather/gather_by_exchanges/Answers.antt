@@ -5,7 +5,7 @@ use Rattle.idx_rowmajor.specs.Exchange.{IsPairing, IsExchanged}
 use Rattle.idx_rowmajor.specs.Rows.{sample_of}
 use Rattle.idx_rowmajor.specs.Tables.{partner_of}
 use Rattle.idx_rowmajor.proofs.GatherLemmas.{ArePlaces-involution, IsPairing-carried, AreGathered-twice}
-use Rattle.idx_rowmajor.proofs.gather.gather.Goals as goal
+use Rattle.idx_rowmajor.proofs.gather.gather_by_exchanges.Goals as goal
 
 count_of : (bits : ℕ) → bits ≤ 20 → 1 * 2 ^ bits % 2 ^ 64 ≡ 2 ^ bits
 count_of bits few = one_shl bits 64 (omega arith)

@@ -2,8 +2,8 @@ use Rattle.std.proofs.Common.{ℕ, ◌*◌, ◌≤◌, length, List, sym, ◌∙
 use Rattle.idx_rowmajor.specs.Exchange.{IsPairing}
 use Rattle.idx_lanes.specs.Written.{written}
 use Rattle.idx_rowmajor.proofs.PassLemmas.{ArePassed-swapped, ArePassed-skipped}
-use Rattle.idx_rowmajor.proofs.passes.exchange.Goals as goal
-use Rattle.idx_rowmajor.proofs.passes.exchange.Goals.{then-place-other, else-place-other}
+use Rattle.idx_rowmajor.proofs.passes.exchange_in_place.Goals as goal
+use Rattle.idx_rowmajor.proofs.passes.exchange_in_place.Goals.{then-place-other, else-place-other}
 
 pub loop-place-preserved : goal.loop-place-preserved
 loop-place-preserved g c =
