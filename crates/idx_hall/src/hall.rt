@@ -72,7 +72,7 @@ impl<E: Blocks + Drop> Hall<E> {
             hall (record { blocks = blocks; lengths = lengths.items }) [] (cached [] capacity)) }
     {
         let cache = Cache::new(alloc, capacity)?;
-        let spare = Spare::of_hall(alloc, capacity as u64, &lengths)?;
+        let spare = Spare::of_hall(alloc, &lengths)?;
         Ok(Hall {
             blocks,
             lengths,
@@ -232,7 +232,7 @@ impl<E: Blocks + Drop> Hall<E> {
         let lengths = Vec::from_slice(alloc, &self.lengths)?;
         let board = share_all(alloc, &self.board)?;
         let cache = copied(alloc, &self.cache)?;
-        let spare = Spare::of_hall(alloc, self.cache.capacity(), &self.lengths)?;
+        let spare = Spare::of_hall(alloc, &self.lengths)?;
         Ok(Hall {
             blocks: self.blocks,
             lengths,

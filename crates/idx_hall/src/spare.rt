@@ -26,15 +26,15 @@ impl Model for Spare {
 }
 
 /// How many spare blocks there are at most.
-const MOST_SPARE: u64 = 256;
+const MOST_SPARE: u64 = 4096;
 
 /// How many bytes the spare blocks of a hall have at most, where one block alone has no more.
 const SPARE_BYTES: u64 = 1 << 26;
 
 impl Spare {
-    /// No block, with room for so many, or for 256 where that is less.
+    /// No block, with room for so many, or for 4,096 where that is less.
     pub(crate) fn new(alloc: Global, blocks: u64) -> Result<Spare, NoMemory>
-        ensures { IfOk result (λ spare. spare ≤ 256) }
+        ensures { IfOk result (λ spare. spare ≤ 4096) }
     {
         let room = blocks.min(MOST_SPARE) as usize;
         Ok(Spare {
@@ -43,14 +43,15 @@ impl Spare {
         })
     }
 
-    /// No block, with room for those of a hall: for as many as may be cached, and for no more than have 2^26 bytes, or for
-    /// one where that has more. A block of each field has so many bytes.
-    pub(crate) fn of_hall(alloc: Global, capacity: u64, lengths: &[u64]) -> Result<Spare, NoMemory>
-        ensures { IfOk result (λ spare. spare ≤ 256) }
+    /// No block, with room for those of a hall: for as many as have 2^26 bytes, or for one where that has more, and for
+    /// 4,096 at most. A block of each field has so many bytes. How many the cache keeps does not matter: while many worker
+    /// threads load blocks, as many fall out as were loaded, and what is not kept would stay with the C library, for each
+    /// thread by itself.
+    pub(crate) fn of_hall(alloc: Global, lengths: &[u64]) -> Result<Spare, NoMemory>
+        ensures { IfOk result (λ spare. spare ≤ 4096) }
     {
         let largest = lengths.iter().copied().max().unwrap_or(1).max(1);
-        let fitting = (SPARE_BYTES / largest).max(1);
-        Spare::new(alloc, capacity.min(fitting))
+        Spare::new(alloc, (SPARE_BYTES / largest).max(1))
     }
 
     /// Keeps a block, if one is given and there is room for it. Takes no memory.
