@@ -14,4 +14,4 @@ pub mod TableLemmas
 pub mod RunLemmas
 pub mod FieldLemmas
 pub mod StepLemmas
-pub mod ClearLemmas
+pub mod CellLemmas

@@ -1,20 +1,10 @@
 -- Powers of two and quotients.
-use Rattle.std.proofs.Common.{◌≡◌, ℕ, zero, suc, ◌+◌, ◌-◌, ◌*◌, ◌/◌, ◌%◌, ◌^◌, ◌<◌, ◌≤◌, min, refl, sym, ap, ◌∙◌, ⊎_elim, subst, arith}
-use Rattle.std.proofs.Math.Nat.{mul-le-mul_left, mul-le-mul_right, mul_comm, div-mul-le_self}
+use Rattle.std.proofs.Common.{◌≡◌, ℕ, suc, ◌+◌, ◌-◌, ◌*◌, ◌/◌, ◌%◌, ◌^◌, ◌<◌, ◌≤◌, min, sym, ap, ◌∙◌, ⊎_elim, subst, arith}
+use Rattle.std.proofs.Math.Nat.{mul-le-mul_right, mul_comm, div-mul-le_self, pow-suc}
 use Rattle.std.proofs.Math.Pow.{pow_mono}
 use Rattle.std.proofs.lemmas.Bool.{cases_lt}
 use Rattle.std.proofs.lemmas.Grind.{div_ceil_times}
 use Rattle.std.proofs.lemmas.Nat.{div-mul-add, pow-add, pow_pos, row_fits}
-
--- a logarithm of what is less than a power of two
-pub log_few : (n log k : ℕ) → 2 ^ log ≤ n → n < 2 ^ (k + 1) → log ≤ k
-log_few n log k low high = ⊎_elim
-    (λ (less : k < log).
-    let more : k + 1 ≤ log = omega (arith, less) in
-    let large : 2 ^ (k + 1) ≤ 2 ^ log = pow_mono more in
-    absurd (omega (arith, low, high, large)))
-    (λ (within : log ≤ k). within)
-    (cases_lt k log)
 
 -- a quotient that is rounded up
 pub rounded_up : (a b : ℕ) → 0 < b → a / b + min 1 (a % b) ≡ (a + b - 1) / b
@@ -91,31 +81,49 @@ part_of digits bits fine number parts each k low few most exists is one within =
         let all : size * 2 ^ bits ≡ parts * (size * each) = grind (arith, whole) in
         omega (arith, fits, all)
 
--- an address of such a run
-pub record IsOne (digits bits number count k : ℕ) : Type 0 where
-  pub exists : number * count + k < 2 ^ digits
-  pub small : number * count + k < 2 ^ 40
-  pub first : number * count + k ≡ number * 2 ^ bits + k * 1
-  pub all : (size : ℕ) → size * 2 ^ bits ≡ count * size
-  pub room : (size : ℕ) → k * size + size ≤ size * 2 ^ bits
-
-pub one_of : (digits bits number count k : ℕ) → bits ≤ digits → digits ≤ 40 → number < 2 ^ (digits - bits) → count ≡ 2 ^ bits → k < count → IsOne digits bits number count k
-one_of digits bits number count k few most exists is within =
-    let below : number * count + k < 2 ^ digits =
-    subst (λ (n : ℕ). number * n + k < 2 ^ digits) (sym is) (below_all number k bits digits few exists (omega (arith, within, is))) in
-    let power : 2 ^ digits ≤ 2 ^ 40 = pow_mono most in
-    record {
-      exists = below;
-      small = omega (arith, below, power);
-      first = omega (arith, ap (λ n. number * n) is);
-      all = λ size. mul_comm size (2 ^ bits) ∙ ap (λ n. n * size) (sym is);
-      room = λ size.
-          let fits = row_fits k size count size within (omega arith) in
-          omega (arith, fits, mul_comm size (2 ^ bits), ap (λ n. n * size) is);
-    }
-
 -- so many samples have a byte
 pub some_bytes : (size bits n : ℕ) → 1 ≤ size → n ≡ size * 2 ^ bits → 0 < n
 some_bytes size bits n some is =
     let times : 1 * 2 ^ bits ≤ size * 2 ^ bits = mul-le-mul_right (2 ^ bits) some in
     omega (arith, times, is, pow_pos bits)
+
+-- the halves of a run of 2^bits addresses: each has so many
+pub record IsHalved (size bits number count : ℕ) : Type 0 where
+  pub low : (2 * number + 0) * 2 ^ (bits - 1) ≡ number * 2 ^ bits
+  pub high : (2 * number + 1) * 2 ^ (bits - 1) ≡ number * 2 ^ bits + count
+  pub whole : size * 2 ^ bits ≡ size * count + size * count
+
+pub halved_of : (size bits number count : ℕ) → 1 ≤ bits → count ≡ 2 ^ (bits - 1) → IsHalved size bits number count
+halved_of size bits number count some is =
+    let next : suc (bits - 1) ≡ bits = omega (arith, some) in
+    let double : 2 ^ bits ≡ count * 2 = ap (λ n. 2 ^ n) (sym next) ∙ pow-suc 2 (bits - 1) ∙ ap (λ n. n * 2) (sym is) in
+    record {
+      low = ap (λ n. (2 * number + 0) * n) (sym is) ∙ twice number count ∙ ap (λ n. number * n) (sym double);
+      high = ap (λ n. (2 * number + 1) * n) (sym is) ∙ more number count ∙ ap (λ n. number * n + count) (sym double);
+      whole = ap (λ n. size * n) double ∙ both size count;
+    }
+  where
+    twice : (x n : ℕ) → (2 * x + 0) * n ≡ x * (n * 2)
+    twice x n = grind arith
+
+    more : (x n : ℕ) → (2 * x + 1) * n ≡ x * (n * 2) + n
+    more x n = grind arith
+
+    both : (x n : ℕ) → x * (n * 2) ≡ x * n + x * n
+    both x n = grind arith
+
+-- how many digits a run's number has, at most
+pub digits_within : (digits bits all number : ℕ) → bits ≤ all → 2 ^ digits ≤ number → number < 2 ^ (all - bits) → bits + digits < all
+digits_within digits bits all number few low high = ⊎_elim
+    (λ (less : digits < all - bits). omega (arith, less))
+    (λ (more : all - bits ≤ digits).
+    let large : 2 ^ (all - bits) ≤ 2 ^ digits = pow_mono more in
+    absurd (omega (arith, low, high, large)))
+    (cases_lt digits (all - bits))
+
+-- there is a run that has the number 1
+pub one_exists : (all bits : ℕ) → 1 ≤ bits → bits ≤ all → 1 < 2 ^ (all - (bits - 1))
+one_exists all bits some few =
+    let le : 1 ≤ all - (bits - 1) = omega (arith, some, few) in
+    let power : 2 ^ 1 ≤ 2 ^ (all - (bits - 1)) = pow_mono le in
+    omega (arith, power)

@@ -1,9 +1,9 @@
 -- Bytes that are read into the front of a buffer whose rest is zeros.
-use Rattle.std.proofs.Common.{◌≡◌, ℕ, zero, suc, ◌+◌, ◌-◌, ◌<◌, ◌≤◌, min, List, ◌++◌, length, take, drop, refl, sym, ap, ◌∙◌, subst, ⊎_elim, arith, zero-add}
+use Rattle.std.proofs.Common.{◌≡◌, ℕ, zero, suc, ◌+◌, ◌-◌, ◌<◌, ◌≤◌, min, List, ◌++◌, length, take, drop, refl, sym, ap, ◌∙◌, ⊎_elim, arith}
 use Rattle.std.specs.Prelude.{IfSome, Option, None, Some, replicate, slice_index}
 use borrow.Rule.Slice.PartMut.{put_mid}
 use Rattle.std.proofs.lemmas.Bool.{cases_lt}
-use Rattle.std.proofs.lemmas.List.{length-append, get_or-append_right, get_or-drop, get_or-take, get_or_append_left, get_or_past, length-drop, length-replicate, length-take}
+use Rattle.std.proofs.lemmas.List.{length-append, get_or-append_right, get_or-drop, get_or-take, get_or_append_left, get_or_past, length-replicate, length-take}
 use Rattle.idx_check.specs.Piece.{HasLength}
 
 -- a byte of the rest

@@ -1,7 +1,7 @@
 -- A block of a file that is looked at run by run.
-use Rattle.std.proofs.Common.{◌≡◌, ℕ, ◌+◌, ◌-◌, ◌*◌, ◌/◌, ◌^◌, ◌<◌, ◌≤◌, List, length, take, drop, refl, sym, ap, ◌∙◌, subst, arith}
+use Rattle.std.proofs.Common.{◌≡◌, ℕ, ◌+◌, ◌-◌, ◌*◌, ◌^◌, ◌<◌, ◌≤◌, List, length, take, drop, refl, sym, ap, ◌∙◌, subst, arith}
 use Rattle.std.specs.Prelude.{IfSome, Option, None, Some, slice_index}
-use Rattle.idx_check.specs.Stray.{IsClean, IsFirstStray, IsStray}
+use Rattle.idx_check.specs.Stray.{IsClean, IsStray}
 use Rattle.idx_check.proofs.NatLemmas.{all_parts, part_of}
 use Rattle.idx_check.proofs.PieceLemmas.{slice_byte}
 use Rattle.idx_check.proofs.StrayLemmas.{clean_next, stray_next}

@@ -1,5 +1,5 @@
 -- What each fault of a check says of what the bay and the reader counted.
-use Rattle.std.specs.Prelude.{◌≡◌, ◌⊎◌, ℕ}
+use Rattle.std.specs.Prelude.{◌≡◌, ◌⊎◌}
 use Rattle.idx_edition.specs.Loaded.{Counts, IsBayFault, IsBayQuiet, IsReaderFault}
 use Rattle.idx_check.specs.declared.check_fault.CheckFault.{CheckFault}
 use Rattle.idx_check.specs.declared.check_fault.CheckFault.TheVariants.{StoreFault, NoMemory}

@@ -8,4 +8,4 @@ pub mod Form
 pub mod Worked
 pub mod Refused
 pub mod Checked
-pub mod Clear
+pub mod Cell

@@ -2,9 +2,9 @@
 #![tactic(auto)]
 
 mod blocks;
+mod cell;
 mod check_fault;
 mod checking;
-mod clear;
 mod examples;
 mod file;
 mod laws;

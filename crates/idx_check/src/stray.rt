@@ -2,17 +2,14 @@
 ghost use Rattle.std.specs.Prelude.{◌≡◌, ◌≢◌, ◌↔◌, ℕ, ◌+◌, ◌-◌, ◌*◌, ◌^◌, ◌<◌, ◌≤◌, IfSome, IfNone, IsTrue, None, length, slice_index, true};
 ghost use Rattle.idx_geom.specs.Region.{upper_ends};
 ghost use Rattle.idx_hz.specs.Mask.{HasAddress, IsMask};
-ghost use Rattle.idx_check.specs.Clear.{AreCleared};
+ghost use Rattle.idx_check.specs.Cell.{IsCell};
 ghost use Rattle.idx_check.specs.Stray.{IsFirstStray};
 ghost use Rattle.idx_check.specs.Wanted.{is_address_of};
 
-use crate::clear::put_over_box;
+use crate::cell::{Cell, Level, Side};
 use idx_geom::Region;
-use idx_grid::shape;
+use idx_grid::grid_at;
 use idx_hz::Mask;
-
-/// How many bytes of a run of addresses are looked at together, at most, where the box does not hold them all.
-const GRAIN: usize = 4096;
 
 /// The least place of a byte that should be a zero and is none, in the bytes of the samples of 2^bits addresses, of `size`
 /// bytes each. `number` counts such runs of addresses.
@@ -35,65 +32,45 @@ pub(crate) fn first_stray(
     ensures { IsFirstStray mask.now region.now size (number * 2 ^ bits)
         (slice_index bytes.now) (length bytes.now) result }
 {
-    if is_whole(mask, region, bits, number) {
-        return None;
-    }
-    let fine = grain_bits(size).min(bits);
-    let parts = address_count(bits - fine);
-    let grain = size * address_count(fine) as usize;
-    for k in 0..parts {
-        let at = k as usize * grain;
-        let part = number * parts + k;
-        let found = stray_in_grain(mask, region, fine, part, size, &bytes[at..at + grain]);
-        if let Some(place) = found {
-            return Some(at + place);
-        }
-    }
-    None
-}
-
-/// How many bits the addresses of a grain have, where a sample has so many bytes.
-fn grain_bits(size: usize) -> u32
-    requires some { 1 ≤ size }
-    requires few { size ≤ 64 }
-    ensures few { result ≤ 12 }
-    ensures room { size * 2 ^ result ≤ GRAIN }
-{
-    (GRAIN / size).ilog2()
-}
-
-/// The same in a grain.
-fn stray_in_grain(
-    mask: &Mask,
-    region: &Region,
-    bits: u32,
-    number: u64,
-    size: usize,
-    bytes: &[u8],
-) -> Option<usize>
-    requires mask { IsMask mask.now }
-    requires address { HasAddress mask.now (upper_ends region.now) }
-    requires bits { bits ≤ length mask.now }
-    requires few_bits { bits ≤ 12 }
-    requires exists { number < 2 ^ (length mask.now - bits) }
-    requires some { 1 ≤ size }
-    requires few { size ≤ 64 }
-    requires room { length bytes.now ≡ size * 2 ^ bits }
-    requires grain { length bytes.now ≤ GRAIN }
-    ensures { IsFirstStray mask.now region.now size (number * 2 ^ bits)
-        (slice_index bytes.now) (length bytes.now) result }
-{
-    if is_whole(mask, region, bits, number) {
-        None
-    } else if number == 0 {
-        stray_by_addresses(mask, region, bits, number, size, bytes)
+    if number == 0 {
+        stray_in_first(mask, region, bits, size, bytes)
     } else {
-        stray_by_lanes(mask, region, bits, number, size, bytes)
+        stray_in_level(mask, region, bits, number, size, bytes)
     }
 }
 
-/// The same in a grain of one level: the first byte that is no zero in a copy in which the samples of the box are zeros.
-fn stray_by_lanes(
+/// The same of the first addresses: the lowest one, and a run of each level behind it.
+fn stray_in_first(
+    mask: &Mask,
+    region: &Region,
+    bits: u32,
+    size: usize,
+    bytes: &[u8],
+) -> Option<usize>
+    requires mask { IsMask mask.now }
+    requires address { HasAddress mask.now (upper_ends region.now) }
+    requires bits { bits ≤ length mask.now }
+    requires few_bits { bits ≤ 20 }
+    requires some { 1 ≤ size }
+    requires room { length bytes.now ≡ size * 2 ^ bits }
+    ensures { IsFirstStray mask.now region.now size 0 (slice_index bytes.now) (length bytes.now) result }
+{
+    if bits == 0 {
+        return stray_of_sample(mask, region, 0, bytes);
+    }
+    let half = size * address_count(bits - 1) as usize;
+    let (low, high) = bytes.split_at(half);
+    if let Some(place) = stray_in_first(mask, region, bits - 1, size, low) {
+        return Some(place);
+    }
+    match stray_in_level(mask, region, bits - 1, 1, size, high) {
+        Some(place) => Some(half + place),
+        None => None,
+    }
+}
+
+/// The same of a run of addresses of one level.
+fn stray_in_level(
     mask: &Mask,
     region: &Region,
     bits: u32,
@@ -104,70 +81,61 @@ fn stray_by_lanes(
     requires mask { IsMask mask.now }
     requires address { HasAddress mask.now (upper_ends region.now) }
     requires bits { bits ≤ length mask.now }
-    requires few_bits { bits ≤ 12 }
+    requires few_bits { bits ≤ 20 }
     requires exists { number < 2 ^ (length mask.now - bits) }
     requires other { 1 ≤ number }
     requires some { 1 ≤ size }
-    requires few { size ≤ 64 }
-    requires room { length bytes.now ≡ size * 2 ^ bits }
-    requires grain { length bytes.now ≤ GRAIN }
-    ensures { IsFirstStray mask.now region.now size (number * 2 ^ bits)
-        (slice_index bytes.now) (length bytes.now) result }
-{
-    let mut room = [0; GRAIN];
-    let copy = &mut room[..bytes.len()];
-    copy.copy_from_slice(bytes);
-    clear_box(mask, region, bits, number, size, copy);
-    first_set(copy)
-}
-
-/// Clears the samples of the box in a grain of one level.
-fn clear_box(mask: &Mask, region: &Region, bits: u32, number: u64, size: usize, into: &mut [u8])
-    requires mask { IsMask mask.now }
-    requires address { HasAddress mask.now (upper_ends region.now) }
-    requires bits { bits ≤ length mask.now }
-    requires few_bits { bits ≤ 12 }
-    requires exists { number < 2 ^ (length mask.now - bits) }
-    requires other { 1 ≤ number }
-    requires some { 1 ≤ size }
-    requires few { size ≤ 64 }
-    requires room { length into.old ≡ size * 2 ^ bits }
-    ensures { AreCleared mask.now region.now size (number * 2 ^ bits) into.old into.new }
-{
-    let zeros = [0; 64];
-    put_over_box(mask, region, bits, number, &zeros[..size], into);
-}
-
-/// The same, address by address.
-fn stray_by_addresses(
-    mask: &Mask,
-    region: &Region,
-    bits: u32,
-    number: u64,
-    size: usize,
-    bytes: &[u8],
-) -> Option<usize>
-    requires mask { IsMask mask.now }
-    requires address { HasAddress mask.now (upper_ends region.now) }
-    requires bits { bits ≤ length mask.now }
-    requires few_bits { bits ≤ 12 }
-    requires exists { number < 2 ^ (length mask.now - bits) }
-    requires some { 1 ≤ size }
-    requires few { size ≤ 64 }
     requires room { length bytes.now ≡ size * 2 ^ bits }
     ensures { IsFirstStray mask.now region.now size (number * 2 ^ bits)
         (slice_index bytes.now) (length bytes.now) result }
 {
-    let count = address_count(bits);
-    for k in 0..count {
-        let at = k as usize * size;
-        let address = number * count + k;
-        let found = stray_of_sample(mask, region, address, &bytes[at..at + size]);
-        if let Some(place) = found {
-            return Some(at + place);
+    let digits = number.ilog2();
+    let grid = grid_at(mask, region.axes(), bits + digits + 1);
+    let level = Level {
+        mask: *mask,
+        region: *region,
+        lo: region.lo(),
+        hi: region.hi(),
+        step: grid.step,
+    };
+    let cell = level.cell_of(&grid.first, bits, digits, number);
+    stray_in_cell(&level, &cell, 0, size, bytes)
+}
+
+/// The same of a cell: nothing is wrong where the box has all of its points, and each byte has to be a zero where it has
+/// none. Else the halves of the cell are looked at. The axis is that on which the cell was halved last.
+fn stray_in_cell(level: &Level, cell: &Cell, axis: u32, size: usize, bytes: &[u8]) -> Option<usize>
+    requires mask { IsMask level.now.mask }
+    requires address { HasAddress level.now.mask (upper_ends level.now.region) }
+    requires cell { IsCell level.now cell.now }
+    requires axis { axis < length level.now.region }
+    requires few_axes { axis < 5 }
+    requires few_bits { cell.now.bits ≤ 20 }
+    requires some { 1 ≤ size }
+    requires room { length bytes.now ≡ size * 2 ^ cell.now.bits }
+    ensures { IsFirstStray level.now.mask level.now.region size (cell.now.number * 2 ^ cell.now.bits)
+        (slice_index bytes.now) (length bytes.now) result }
+{
+    match level.side_of(cell, axis) {
+        Side::Inside => None,
+        Side::Outside => first_set(bytes),
+        Side::Across => {
+            let next = level.mask.axis(cell.digits + 1);
+            let half = size * address_count(cell.bits - 1) as usize;
+            let (low, high) = bytes.split_at(half);
+            let mut lower = *cell;
+            level.halve(&mut lower, next, 0);
+            if let Some(place) = stray_in_cell(level, &lower, next, size, low) {
+                return Some(place);
+            }
+            let mut upper = *cell;
+            level.halve(&mut upper, next, 1);
+            match stray_in_cell(level, &upper, next, size, high) {
+                Some(place) => Some(half + place),
+                None => None,
+            }
         }
     }
-    None
 }
 
 /// How many addresses of so many bits there are.
@@ -231,16 +199,4 @@ fn are_zeros(bytes: &[u8]) -> bool
         }
     }
     all
-}
-
-/// Whether all of 2^bits addresses are surely those of points of the box.
-fn is_whole(mask: &Mask, region: &Region, bits: u32, number: u64) -> bool
-    requires address { HasAddress mask.now (upper_ends region.now) }
-    requires bits { bits ≤ length mask.now }
-    requires exists { number < 2 ^ (length mask.now - bits) }
-    ensures { IsTrue result → (i : ℕ) → i < 2 ^ bits →
-        is_address_of mask.now region.now (number * 2 ^ bits + i) ≡ true }
-{
-    let shape = shape(mask, region.axes(), bits, number);
-    region.holds(&shape.region)
 }

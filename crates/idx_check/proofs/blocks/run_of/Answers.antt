@@ -1,4 +1,4 @@
-use Rattle.std.proofs.Common.{ℕ, ◌*◌, ◌≤◌, ap, arith}
+use Rattle.std.proofs.Common.{◌*◌, ap, arith}
 use Rattle.idx_check.proofs.NatLemmas.{fits_in}
 use Rattle.idx_check.proofs.blocks.run_of.Goals as goal
 

@@ -1,10 +1,9 @@
-use Rattle.std.proofs.Common.{◌≡◌, ◌≢◌, ℕ, ◌+◌, ◌-◌, ◌*◌, ◌%◌, ◌^◌, ◌<◌, ◌≤◌, min, List, length, refl, sym, ap, ◌∙◌, subst, arith, rules}
-use Rattle.std.specs.Prelude.{IfSome, None, Option, Some, slice_index}
+use Rattle.std.proofs.Common.{◌≡◌, ℕ, ◌+◌, ◌*◌, ◌<◌, min, length, refl, sym, ap, ◌∙◌, subst, arith}
 use Rattle.idx_outside.specs.Cause.{AskedFor}
 use Rattle.idx_table.specs.Table.{table_bytes}
 use Rattle.idx_layout.specs.Files.{length_of_file, row_count}
 use Rattle.idx_layout.specs.OfHeader.{placing_of}
-use Rattle.idx_layout.specs.Placing.{block_bytes, present_blocks}
+use Rattle.idx_layout.specs.Placing.{block_bytes}
 use Rattle.idx_layout.proofs.HeaderLemmas.{same_bytes}
 use Rattle.idx_check.proofs.FieldLemmas.{agrees_nowhere, all_fields, begins_at, field_agrees, field_differs, field_ends, next_begins, none_of}
 use Rattle.idx_check.proofs.TableLemmas.{agrees_to, if_none}

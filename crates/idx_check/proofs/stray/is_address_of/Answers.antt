@@ -1,4 +1,4 @@
-use Rattle.std.proofs.Common.{ℕ, List, sym, ◌∙◌}
+use Rattle.std.proofs.Common.{sym, ◌∙◌}
 use Rattle.idx_hz.proofs.RegionLemmas.{HasAddress-from_end}
 use Rattle.idx_check.proofs.AddressLemmas.{address-tested}
 use Rattle.idx_check.proofs.stray.is_address_of.Goals as goal

@@ -1,4 +1,4 @@
-use Rattle.std.proofs.Common.{◌≡◌, ℕ, ◌+◌, ◌-◌, ◌<◌, ◌≤◌, List, length, take, drop, subst, arith}
+use Rattle.std.proofs.Common.{◌≡◌, ℕ, ◌+◌, ◌-◌, ◌<◌, ◌≤◌, List, take, drop, subst, arith}
 use Rattle.std.specs.Prelude.{slice_index}
 use Rattle.idx_table.specs.Row.{row_bytes}
 use Rattle.idx_check.specs.Piece.{IsOnTheWay}

@@ -1,12 +1,10 @@
-use Rattle.std.proofs.Common.{◌≡◌, ◌≢◌, ℕ, ◌+◌, ◌-◌, ◌%◌, ◌^◌, ◌<◌, ◌≤◌, min, List, length, refl, sym, ap, ◌∙◌, subst, arith, rules}
-use Rattle.std.specs.Prelude.{IfSome, Option}
+use Rattle.std.proofs.Common.{ℕ, ◌+◌, ◌-◌, min, sym, ◌∙◌, subst, arith}
 use Rattle.idx_outside.specs.Cause.{AskedFor}
 use Rattle.idx_table.specs.Table.{table_bytes}
-use Rattle.idx_table.specs.declared.row.Row.{Row}
 use Rattle.idx_layout.specs.Files.{row_count}
 use Rattle.idx_layout.specs.OfHeader.{placing_of}
 use Rattle.idx_layout.specs.Placing.{Placing}
-use Rattle.idx_check.specs.Piece.{AskedUpTo, IsOnTheWay}
+use Rattle.idx_check.specs.Piece.{IsOnTheWay}
 use Rattle.idx_check.proofs.PieceLemmas.{asked_begins, asked_ends, asked_nothing, way_ends}
 use Rattle.idx_check.proofs.TableLemmas.{agrees_to, front_agrees, front_differs, if_none, looked_all, looked_first, looked_next, looked_within, row_agrees, row_differs}
 use Rattle.idx_check.proofs.table.wrong_in_table.Goals as goal

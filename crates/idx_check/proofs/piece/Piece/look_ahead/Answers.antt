@@ -1,4 +1,4 @@
-use Rattle.std.proofs.Common.{◌≡◌, ℕ, ◌-◌, ◌%◌, Some, None}
+use Rattle.std.proofs.Common.{◌-◌}
 use Rattle.std.specs.Prelude.{Err, Ok, OnOk, Result}
 use Rattle.idx_check.proofs.PieceLemmas.{way_read}
 use Rattle.idx_check.proofs.piece.Piece.look_ahead.Goals as goal
