@@ -86,7 +86,13 @@ def of_words() -> Iterator[Case]:
     yield Case("no timestep", ["check", "v.idx"], 1, "idxtool: usage at 2\n  word 2 is missing\n" + time + HELP)
     end = "  expected the end of the words: check DATASET TIME\n"
     yield Case("a word too many", ["check", "v.idx", "0", "a"], 1, "idxtool: usage at 3\n  word 3 is `a`\n" + end + HELP)
+    dataset = "  expected DATASET, the path of the header file: 1 to 4096 printable characters, not beginning with -\n"
+    yield Case("control characters", ["info", "a\n\a\33[2J\x85\xe9.idx"], 1,
+               "idxtool: usage at 1\n  word 1 is `a\\n\\x07\\x1b[2J\\u{85}\xe9.idx`\n" + dataset + HELP)
     yield Case("the version", ["--version"], 0, "", output=b"idxtool 0.1.0\n")
+    yield Case("help", ["--help"], 0, "")
+    command = "  expected a command: cut, info, convert, query, check, serve or drill\n"
+    yield Case("help and a word", ["--help", "cut"], 1, "idxtool: usage at 0\n  word 0 is `--help`\n" + command + HELP)
 
 
 def of_headers() -> Iterator[Case]:

@@ -1,22 +1,20 @@
-//! A law of `run`, a question asked twice; tests of runs whose threads wait for each other, and of what is printed.
+//! A law of `run`, a question asked twice; tests of runs whose threads wait for each other, and of lines that no run shows.
 #![tactic(auto)]
 
 mod laws;
 #[cfg(test)]
-mod rank_cases;
+mod meeting;
 #[cfg(test)]
-mod report;
+mod notice;
 #[cfg(test)]
 mod setting;
 #[cfg(test)]
-mod turns;
+mod threads;
 #[cfg(test)]
 mod waiting_link;
 #[cfg(test)]
 mod waiting_reader;
 #[cfg(test)]
 mod waiting_source;
-#[cfg(test)]
-mod worker_cases;
 
 pub use laws::ask_twice;

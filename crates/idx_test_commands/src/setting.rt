@@ -1,10 +1,11 @@
-//! A worked dataset, and what a run over it needs.
-ghost use Rattle.std.specs.Prelude.{◌≡◌, ◌<◌, IfOk, vec_len};
-ghost use Rattle.idx_gather.specs.Gather.{HaveSame};
-
-use idx_commands::{Done, run};
-use idx_memory::{MemBay, MemLeaf, MemReader, MemSink};
-use idx_outside::{Bytes, Door, MemFile, Reader, Source};
+//! A worked dataset, and what a run goes over.
+use crate::meeting::Signs;
+use crate::waiting_link::OneLink;
+use crate::waiting_reader::WaitingReader;
+use crate::waiting_source::WaitingSource;
+use idx_commands::{Cause, run};
+use idx_memory::{MemBay, MemReader, MemSink};
+use idx_outside::{Bytes, MemFile, NoMemory};
 use std::alloc::{AllocError, Global};
 use std::sync::Wait;
 use std::thread::Threads;
@@ -15,99 +16,131 @@ pub(crate) const HEADER: &str =
     "(version)\n6\n(box)\n0 3 0 3\n(fields)\na uint8\n(bits)\nV0101\n(bitsperblock)\n2\n\
     (blocksperfile)\n2\n(filename_template)\n./%01x.bin\n(time)\n0 9 time%04d/\n";
 
-/// The paths of the files of its step 0 of the bytes 0 to 15, and the two blocks of each.
-static FILES: [(&str, [u8; 8]); 2] = [
-    ("time0000/0.bin", [0, 2, 8, 10, 1, 9, 3, 11]),
-    ("time0000/2.bin", [4, 5, 12, 13, 6, 7, 14, 15]),
+/// The raw volume of its step 0.
+pub(crate) static RAW: [u8; 16] = [0, 1, 2, 3, 4, 5, 6, 7, 8, 9, 10, 11, 12, 13, 14, 15];
+
+/// What stands in front of the blocks of a file of that step: ten words, and the rows of two blocks of four bytes.
+static TABLE: &[u8] = b"\
+    \0\0\0\0\0\0\0\0\0\0\0\0\0\0\0\0\0\0\0\0\0\0\0\0\0\0\0\0\0\0\0\0\0\0\0\0\0\0\0\0\
+    \0\0\0\0\0\0\0\0\0\0\0\x78\0\0\0\0\0\0\0\x04\0\0\0\0\0\0\0\0\0\0\0\0\0\0\0\0\0\0\0\0\
+    \0\0\0\0\0\0\0\0\0\0\0\x7c\0\0\0\0\0\0\0\x04\0\0\0\0\0\0\0\0\0\0\0\0\0\0\0\0\0\0\0\0";
+
+/// The paths of its files, and the two blocks of each.
+static FILES: [(&[u8], [u8; 8]); 2] = [
+    (b"time0000/0.bin", [0, 2, 8, 10, 1, 9, 3, 11]),
+    (b"time0000/2.bin", [4, 5, 12, 13, 6, 7, 14, 15]),
 ];
 
-/// The files of that step.
-pub(crate) fn files_of_step(alloc: Global) -> Result<Vec<MemFile>, AllocError> {
+/// A file of that step.
+fn file_of(alloc: Global, path: &[u8], blocks: &[u8]) -> Result<MemFile, NoMemory> {
+    let mut bytes = Bytes::from_slice(alloc, TABLE)?;
+    bytes.append(blocks)?;
+    Ok(MemFile {
+        folder: Bytes::from_slice(alloc, b"time0000")?,
+        path: Bytes::from_slice(alloc, path)?,
+        bytes,
+    })
+}
+
+/// A bay with this header in which that step stands, and of whose calls this one fails.
+pub(crate) fn bay_of_step(alloc: Global, header: &str, fails: u64) -> Result<MemBay, NoMemory> {
+    let header = Bytes::from_slice(alloc, header.as_bytes())?;
+    let fails = Vec::from_slice(alloc, &[fails])?;
     let mut files = Vec::new(alloc);
     for (path, blocks) in &FILES {
         files.push(file_of(alloc, path, blocks)?)?;
     }
-    Ok(files)
+    Ok(MemBay::new(header, files, fails, Vec::new(alloc)))
 }
 
-/// A file of that step: its table, and its blocks of four bytes behind it.
-fn file_of(alloc: Global, path: &str, blocks: &[u8; 8]) -> Result<MemFile, AllocError> {
-    let mut bytes = Vec::from_slice(alloc, &[0; 40])?;
-    push_row(&mut bytes, 120)?;
-    push_row(&mut bytes, 124)?;
-    bytes.extend_from_slice(blocks)?;
-    Ok(MemFile {
-        folder: Bytes::from_vec(Vec::from_slice(alloc, b"time0000")?),
-        path: Bytes::from_vec(Vec::from_slice(alloc, path.as_bytes())?),
-        bytes: Bytes::from_vec(bytes),
-    })
-}
-
-/// Puts the ten words of the row of a block of four bytes at this offset at the end.
-fn push_row(bytes: &mut Vec<u8>, offset: u32) -> Result<(), AllocError> {
-    for word in [0, 0, offset, 0, 4, 0, 0, 0, 0, 0] {
-        bytes.extend_from_slice(&word.to_be_bytes())?;
-    }
-    Ok(())
-}
-
-/// Whether a bay has exactly the files of that step.
-pub(crate) fn holds_step(alloc: Global, bay: &MemBay) -> Result<bool, AllocError> {
-    let files = files_of_step(alloc)?;
-    let committed = bay.committed();
-    Ok(
-        committed.len() == files.len()
-            && committed
-                .iter()
-                .zip(files.iter())
-                .all(|(found, wanted)| is_same(found, wanted)),
+/// A bay in which nothing stands.
+pub(crate) fn empty_bay(alloc: Global) -> MemBay {
+    MemBay::new(
+        Bytes::new(alloc),
+        Vec::new(alloc),
+        Vec::new(alloc),
+        Vec::new(alloc),
     )
 }
 
-fn is_same(found: &MemFile, wanted: &MemFile) -> bool {
-    found.folder.as_slice() == wanted.folder.as_slice()
-        && found.path.as_slice() == wanted.path.as_slice()
-        && found.bytes.as_slice() == wanted.bytes.as_slice()
+/// Whether a bay has exactly the files of that step.
+pub(crate) fn holds_step(bay: &MemBay) -> bool {
+    let found = bay.committed().iter();
+    bay.committed().len() == FILES.len()
+        && found
+            .zip(FILES.iter())
+            .all(|(file, wanted)| holds(file, wanted))
 }
 
-/// How a run on these words ends.
-pub(crate) fn done_of<
-    V: Source + Send,
-    R: Reader<MemLeaf> + Send,
-    D: Door + Send,
-    T: Threads + Wait + Sync,
->(
+/// Whether a file has this path and these blocks.
+fn holds(file: &MemFile, (path, blocks): &(&[u8], [u8; 8])) -> bool {
+    file.folder.as_slice() == b"time0000".as_slice()
+        && file.path.as_slice() == *path
+        && file.bytes.as_slice().strip_prefix(TABLE) == Some(blocks.as_slice())
+}
+
+/// What a run goes over.
+#[derive(Drop)]
+pub(crate) struct Forms<'a> {
+    pub(crate) raws: Vec<WaitingSource<'a>>,
+    pub(crate) bay: MemBay,
+    pub(crate) readers: Vec<WaitingReader<'a>>,
+    pub(crate) out: MemSink,
+    pub(crate) doors: Vec<OneLink<'a>>,
+}
+
+impl<'a> Forms<'a> {
+    /// A bay, a reader that does not wait, and nothing else.
+    pub(crate) fn new(
+        alloc: Global,
+        bay: MemBay,
+        signs: &'a Signs,
+    ) -> Result<Forms<'a>, AllocError> {
+        Ok(Forms {
+            raws: Vec::new(alloc),
+            bay,
+            readers: vec![in alloc;
+                WaitingReader::new(MemReader::new(Vec::new(alloc)), signs.of_none()),
+            ]?,
+            out: MemSink::new(Vec::new(alloc)),
+            doors: Vec::new(alloc),
+        })
+    }
+}
+
+/// How a run on the words of a line ends, which stand between its bars; or nothing where there is no raw volume, no reader or
+/// no door.
+pub(crate) fn cause_of<T: Threads + Wait + Sync>(
     rt: &T,
     alloc: Global,
-    words: &[String],
-    raws: &mut Vec<V>,
-    bay: &mut MemBay,
-    readers: &mut Vec<R>,
-    out: &mut MemSink,
-    doors: &mut Vec<D>,
-) -> Done
-where
-    D::Link: Send,
-    requires some { 0 < vec_len raws.old }
-    requires reader { 0 < vec_len readers.old }
-    requires door { 0 < vec_len doors.old }
-    requires same { HaveSame V.contents raws.old.items }
-{
-    run(rt, alloc, words, raws, bay, readers, out, doors)
-}
-
-/// The words of a line, which stand between its bars.
-pub(crate) fn words_in(alloc: Global, line: &str) -> Result<Vec<String>, AllocError> {
+    line: &str,
+    forms: &mut Forms<'_>,
+) -> Result<Option<Cause>, AllocError> {
     let mut words = Vec::new(alloc);
     for word in line.split('|') {
         words.push(String::from_str(alloc, word)?)?;
     }
-    Ok(words)
+    Ok(cause_over(rt, alloc, &words, forms))
 }
 
-/// One reader none of whose calls fails.
-pub(crate) fn one_reader(alloc: Global) -> Result<Vec<MemReader>, AllocError>
-    ensures { IfOk result (λ readers. vec_len readers ≡ 1) }
-{
-    Ok(vec![in alloc; MemReader::new(Vec::new(alloc))]?)
+fn cause_over<T: Threads + Wait + Sync>(
+    rt: &T,
+    alloc: Global,
+    words: &[String],
+    forms: &mut Forms<'_>,
+) -> Option<Cause> {
+    if forms.raws.is_empty() || forms.readers.is_empty() || forms.doors.is_empty() {
+        return None;
+    }
+    let done = run(
+        rt,
+        alloc,
+        words,
+        &mut forms.raws,
+        &mut forms.bay,
+        &mut forms.readers,
+        &mut forms.out,
+        &mut forms.doors,
+    );
+    Some(done.cause)
 }

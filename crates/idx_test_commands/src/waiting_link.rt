@@ -1,35 +1,16 @@
 ghost use Rattle.std.specs.Prelude.{◌≤◌, None, length};
 
-use crate::turns::is_soon;
+use crate::meeting::Meeting;
 use idx_outside::{Door, Link, Outage, Served};
-use std::sync::atomic::{AtomicBool, Ordering};
 
-/// A link that gives its input only once another one was written to, after at most a million turns, and which says when it is
-/// written to itself. It tells nothing, and does not fail.
+/// A link that waits before it gives its input, and gives its sign where it is written to. It tells nothing, and does not fail.
 #[derive(Drop)]
 pub(crate) struct WaitingLink<'a> {
     input: &'static [u8],
-    waits_for: Option<&'a AtomicBool>,
-    is_written: &'a AtomicBool,
-    met_limit: &'a AtomicBool,
+    meeting: Meeting<'a>,
 }
 
 impl<'a> WaitingLink<'a> {
-    /// The link with this input. It says where it gave its input because its turns were over.
-    pub(crate) fn new(
-        input: &'static [u8],
-        waits_for: Option<&'a AtomicBool>,
-        is_written: &'a AtomicBool,
-        met_limit: &'a AtomicBool,
-    ) -> WaitingLink<'a> {
-        WaitingLink {
-            input,
-            waits_for,
-            is_written,
-            met_limit,
-        }
-    }
-
     /// Moves the next bytes of the input to the front, and tells how many.
     fn give(&mut self, into: &mut [u8]) -> usize
         ensures { result ≤ length into.old }
@@ -53,17 +34,12 @@ impl Link for WaitingLink<'_> {
     ghost faults = { λ _. 0 };
 
     fn read(&mut self, into: &mut [u8]) -> Result<usize, Outage> {
-        if let Some(other) = self.waits_for
-            && !is_soon(other)
-        {
-            self.met_limit.store(true, Ordering::SeqCst);
-        }
-        self.waits_for = None;
+        self.meeting.wait();
         Ok(self.give(into))
     }
 
     fn write(&mut self, _piece: &[u8]) -> Result<(), Outage> {
-        self.is_written.store(true, Ordering::SeqCst);
+        self.meeting.give();
         Ok(())
     }
 
@@ -80,10 +56,10 @@ pub(crate) struct OneLink<'a> {
 }
 
 impl<'a> OneLink<'a> {
-    /// The door of this link.
-    pub(crate) fn new(link: WaitingLink<'a>) -> OneLink<'a> {
+    /// The door of a link with this input.
+    pub(crate) fn new(input: &'static [u8], meeting: Meeting<'a>) -> OneLink<'a> {
         OneLink {
-            link: Some(link),
+            link: Some(WaitingLink { input, meeting }),
             replies: 0,
         }
     }

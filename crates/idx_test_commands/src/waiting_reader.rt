@@ -1,19 +1,13 @@
-ghost use Rattle.std.specs.Prelude.{◌≡◌};
-
-use crate::turns::is_soon;
+use crate::meeting::Meeting;
 use idx_memory::{MemLeaf, MemReader};
 use idx_outside::{Outage, Reader};
 use std::marker::Model;
-use std::sync::atomic::{AtomicBool, Ordering};
 
-/// A reader of leaves in memory whose first read says that it has begun, and waits until a sign is given, for at most a
-/// million turns. None of its calls fails.
+/// A reader of leaves in memory that gives its sign at its first read, and then waits. None of its calls fails.
 #[derive(Drop)]
 pub(crate) struct WaitingReader<'a> {
     leaves: MemReader,
-    waits_for: Option<&'a AtomicBool>,
-    has_begun: &'a AtomicBool,
-    met_limit: &'a AtomicBool,
+    meeting: Meeting<'a>,
 }
 
 impl<'a> Model for WaitingReader<'a> {
@@ -25,31 +19,14 @@ impl<'a> Model for WaitingReader<'a> {
 }
 
 impl<'a> WaitingReader<'a> {
-    /// The reader over this one. It says where it read because its turns were over.
-    pub(crate) fn new(
-        leaves: MemReader,
-        waits_for: Option<&'a AtomicBool>,
-        has_begun: &'a AtomicBool,
-        met_limit: &'a AtomicBool,
-    ) -> WaitingReader<'a> {
-        WaitingReader {
-            leaves,
-            waits_for,
-            has_begun,
-            met_limit,
-        }
+    /// The reader over this one.
+    pub(crate) fn new(leaves: MemReader, meeting: Meeting<'a>) -> WaitingReader<'a> {
+        WaitingReader { leaves, meeting }
     }
 
-    fn wait(&mut self)
-        ensures { self.new ≡ self.old }
-    {
-        self.has_begun.store(true, Ordering::SeqCst);
-        if let Some(sign) = self.waits_for
-            && !is_soon(sign)
-        {
-            self.met_limit.store(true, Ordering::SeqCst);
-        }
-        self.waits_for = None;
+    /// How many reads were made.
+    pub(crate) fn reads(&self) -> u64 {
+        self.leaves.reads()
     }
 }
 
@@ -61,7 +38,8 @@ impl Reader<MemLeaf> for WaitingReader<'_> {
     ghost asked = { λ s. s.reads.bytes };
 
     fn read_at(&mut self, leaf: &MemLeaf, at: u64, into: &mut [u8]) -> Result<(), Outage> {
-        self.wait();
+        self.meeting.give();
+        self.meeting.wait();
         self.leaves.read_at(leaf, at, into)
     }
 

@@ -1,41 +1,26 @@
 ghost use Rattle.std.specs.Prelude.{None};
 
-use crate::turns::is_soon;
+use crate::meeting::Meeting;
 use idx_outside::{Outage, Source};
-use std::sync::atomic::{AtomicBool, Ordering};
 
-/// A raw volume whose first read waits until another one was read, for at most a million turns, and which says when it is
-/// read itself. It tells nothing of its bytes.
+/// A raw volume that waits at its first read, and then gives its sign. It tells nothing of its bytes.
 #[derive(Drop)]
 pub(crate) struct WaitingSource<'a> {
     bytes: &'static [u8],
-    waits_for: Option<&'a AtomicBool>,
-    is_read: &'a AtomicBool,
-    met_limit: bool,
+    meeting: Meeting<'a>,
     asked: u64,
     faults: u64,
 }
 
 impl<'a> WaitingSource<'a> {
     /// The raw volume of these bytes.
-    pub(crate) fn new(
-        bytes: &'static [u8],
-        waits_for: Option<&'a AtomicBool>,
-        is_read: &'a AtomicBool,
-    ) -> WaitingSource<'a> {
+    pub(crate) fn new(bytes: &'static [u8], meeting: Meeting<'a>) -> WaitingSource<'a> {
         WaitingSource {
             bytes,
-            waits_for,
-            is_read,
-            met_limit: false,
+            meeting,
             asked: 0,
             faults: 0,
         }
-    }
-
-    /// Whether it read because its turns were over.
-    pub(crate) fn met_limit(&self) -> bool {
-        self.met_limit
     }
 }
 
@@ -52,13 +37,8 @@ impl Source for WaitingSource<'_> {
 
     fn read_at(&mut self, at: u64, into: &mut [u8]) -> Result<(), Outage> {
         self.asked = self.asked.wrapping_add(into.len() as u64);
-        if let Some(other) = self.waits_for
-            && !is_soon(other)
-        {
-            self.met_limit = true;
-        }
-        self.waits_for = None;
-        self.is_read.store(true, Ordering::SeqCst);
+        self.meeting.wait();
+        self.meeting.give();
         match part(self.bytes, at, into.len()) {
             Some(found) if found.len() == into.len() => {
                 into.copy_from_slice(found);

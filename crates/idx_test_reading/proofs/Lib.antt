@@ -1,3 +1,1 @@
-pub mod LateLemmas
 pub mod ShapeLemmas
-mod StepLemmas

@@ -6,21 +6,19 @@ ghost use Rattle.idx_test_reading.specs.Beside.{shape_at};
 ghost use Rattle.idx_test_reading.specs.Wide.{wide_blocks};
 
 use crate::wide::Wide;
-use idx_hall::{Hall, newest_posts};
+use idx_hall::Hall;
 use idx_lock::Chair;
 use idx_outside::Blocks;
 use idx_turn::{Held, Turn};
 use std::sync::{Arc, Wait};
 
-/// Before this hold the writer evicts and publishes: the first one of the second round, where the first one fills.
-const SECOND_ROUND: u64 = 3;
-
-/// A seat that asks, the writer's seat of the same lock, the step that the writer is to publish, how many entries it evicted, and
-/// how many times the hall was taken at the seat that asks.
+/// A seat that asks, the writer's seat of the same lock, the step that the writer is to publish, before which hold of the seat
+/// that asks it evicts and publishes, how many entries it evicted, and how many times the hall was taken at the seat that asks.
 pub(crate) struct Beside<'a, R: Wait> {
     chair: Chair<'a, Hall<Wide>, R>,
     writer: Chair<'a, Hall<Wide>, R>,
     next: Option<Arc<Wide>>,
+    before: u64,
     evicted: u64,
     holds: u64,
     ghost free: { given_by writer ≡ None },
@@ -29,11 +27,12 @@ pub(crate) struct Beside<'a, R: Wait> {
 }
 
 impl<'a, R: Wait> Beside<'a, R> {
-    /// The two seats, and the step that comes later.
+    /// The two seats, and the step that comes before this hold.
     pub(crate) fn new(
         chair: Chair<'a, Hall<Wide>, R>,
         writer: Chair<'a, Hall<Wide>, R>,
         next: Arc<Wide>,
+        before: u64,
     ) -> Beside<'a, R>
         requires free { given_by writer ≡ None }
         requires adds { writer.seat.writer ≡ true }
@@ -44,6 +43,7 @@ impl<'a, R: Wait> Beside<'a, R> {
             chair,
             writer,
             next: Some(next),
+            before,
             evicted: 0,
             holds: 0,
         }
@@ -62,6 +62,7 @@ impl<'a, R: Wait> Beside<'a, R> {
             chair,
             writer,
             next: _next,
+            before: _before,
             evicted: _evicted,
             holds: _holds,
         } = self;
@@ -107,7 +108,6 @@ fn publish<T: Turn<Hall<Wide>>>(turn: &mut T, step: Arc<Wide>)
     ensures shape { T.shape turn.new ≡ T.shape turn.old }
 {
     let mut held = turn.take();
-    newest_posts();
     let hall = held.get_mut();
     let after = hall.newest(step.time());
     let _ = hall.publish(step, after);
@@ -133,7 +133,7 @@ impl<R: Wait> Turn<Hall<Wide>> for Beside<'_, R> {
 
     fn take(&mut self) -> Held<Hall<Wide>> {
         self.holds = self.holds.wrapping_add(1);
-        if self.holds == SECOND_ROUND
+        if self.holds == self.before
             && let Some(step) = self.next.take()
         {
             self.evicted = evict_and_publish(&mut self.writer, step);

@@ -1,20 +1,10 @@
-//! Caches, published timesteps, plans and questions, tried over timesteps in memory.
+//! Questions in rounds, beside a writer's seat; the memory of blocks that fall out; and the turn of one owner.
 #![tactic(auto)]
 
 #[cfg(test)]
 mod beside;
 #[cfg(test)]
-mod block;
-#[cfg(test)]
-mod cache;
-#[cfg(test)]
-mod hall;
-#[cfg(test)]
-mod late;
-#[cfg(test)]
-mod plan;
-#[cfg(test)]
-mod query;
+mod blocks;
 #[cfg(test)]
 mod rounds;
 #[cfg(test)]

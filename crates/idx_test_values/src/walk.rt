@@ -1,147 +1,77 @@
-ghost use Rattle.std.specs.Prelude.{◌≡◌, ◌≤◌, IfOk, IfSome, length};
-ghost use Rattle.idx_stride.specs.Strides.{end_of};
+//! The plain search that a walk replaces, with ample memory; and what serves speed alone, of which clauses leave more open.
+ghost use Rattle.std.specs.Prelude.{◌≡◌, [], ◌∷◌, true};
 
 use idx_geom::{Point, Region};
+use idx_grid::shape;
 use idx_hz::Mask;
-use idx_outside::{Bytes, NoMemory};
-use idx_stride::Strides;
-use idx_walk::{answer_by_points, walk};
+use idx_outside::Bytes;
+use idx_stride::{Axis, Strides};
+use idx_walk::answer_by_points;
 use std::alloc::Global;
-use std::process::Abort;
 use std::test::Fail;
 
-/// A volume, its mask, and a region that is asked for.
-#[derive(Clone, Copy)]
-struct Case {
-    mask: &'static [u8],
-    extent: [&'static [u64]; 2],
-    region: [&'static [u64]; 2],
-    size: u64,
+fn region(lo: &[u64], hi: &[u64]) -> Option<Region> {
+    Region::new(Point::new(lo)?, Point::new(hi)?)
 }
 
-/// Volumes of two to five axes with odd extents, whose masks name the axes in any order and some axes not at all, and
-/// regions that begin off the grids.
-static CASES: [Case; 6] = [
-    Case {
-        mask: b"V0101",
-        extent: [&[0, 0], &[3, 3]],
-        region: [&[1, 2], &[1, 3]],
-        size: 1,
-    },
-    Case {
-        mask: b"V1100010",
-        extent: [&[1, 2], &[13, 6]],
-        region: [&[3, 3], &[13, 5]],
-        size: 3,
-    },
-    Case {
-        mask: b"V2002200",
-        extent: [&[0, 0, 0], &[14, 0, 6]],
-        region: [&[1, 0, 1], &[12, 0, 6]],
-        size: 2,
-    },
-    Case {
-        mask: b"V012210021",
-        extent: [&[2, 1, 0], &[6, 7, 4]],
-        region: [&[2, 1, 0], &[6, 7, 4]],
-        size: 4,
-    },
-    Case {
-        mask: b"V301312",
-        extent: [&[0, 1, 0, 0], &[1, 3, 1, 2]],
-        region: [&[0, 1, 0, 1], &[1, 3, 1, 2]],
-        size: 1,
-    },
-    Case {
-        mask: b"V40312041",
-        extent: [&[1, 0, 0, 1, 0], &[3, 2, 1, 1, 3]],
-        region: [&[1, 1, 0, 1, 0], &[3, 2, 1, 1, 2]],
-        size: 5,
-    },
-];
-
-fn region_of(rt: &impl Abort, ends: [&[u64]; 2]) -> Region {
-    let lo = Point::new(ends[0]).expect(rt, "a lower end");
-    let hi = Point::new(ends[1]).expect(rt, "an upper end");
-    Region::new(lo, hi).expect(rt, "a region")
-}
-
-/// The samples that a walk visits.
-fn visited(alloc: Global, walk: Option<&Strides>, raw: &[u8]) -> Result<Bytes, NoMemory>
-    requires end { IfSome walk (λ w. end_of w.now ≤ length raw.now) }
-    requires few { IfSome walk (λ w. w.now.size ≤ 64) }
-{
-    let Some(walk) = walk else {
-        return Ok(Bytes::new(alloc));
-    };
-    let mut samples = Bytes::zeros(alloc, (walk.count() * walk.size()) as usize)?;
-    walk.gather(raw, 0, samples.as_mut_slice());
-    Ok(samples)
-}
-
-/// Bytes that differ from their neighbours.
-fn volume(alloc: Global, size: u64) -> Result<Bytes, NoMemory>
-    ensures { IfOk result (λ bytes. length bytes ≡ size) }
-{
-    let mut bytes = Bytes::new(alloc);
-    for place in 0..size {
-        bytes.push((place.wrapping_mul(37) % 251) as u8)?;
+/// The samples of level 3 in a box of 2 by 3 points of a volume of 4 by 4 bytes.
+fn found(alloc: Global, raw: &[u8]) -> Option<Bytes> {
+    let mask = Mask::parse(b"V0101").ok()?;
+    let (extent, asked) = (region(&[0, 0], &[3, 3])?, region(&[1, 1], &[2, 3])?);
+    if !mask.holds(&extent) || !extent.holds(&asked) || raw.len() as u64 != extent.count() {
+        return None;
     }
-    Ok(bytes)
-}
-
-/// A region that is asked for, in a volume of samples of so many bytes, with the volume's box and mask.
-#[derive(Clone, Copy)]
-struct Asked {
-    mask: Mask,
-    extent: Region,
-    region: Region,
-    size: u64,
-}
-
-fn asked_of(rt: &impl Abort, case: &Case) -> Asked {
-    Asked {
-        mask: Mask::parse(case.mask).expect(rt, "a mask"),
-        extent: region_of(rt, case.extent),
-        region: region_of(rt, case.region),
-        size: case.size,
-    }
-}
-
-/// Whether a walk over these levels visits the samples that the search finds.
-fn agree(
-    rt: &impl Abort,
-    alloc: Global,
-    asked: &Asked,
-    levels: (u32, u32),
-    raw: &[u8],
-) -> Result<bool, NoMemory> {
-    let Asked {
-        mask,
-        extent,
-        region,
-        size,
-    } = *asked;
-    assert!(rt; mask.holds(&extent) && extent.holds(&region));
-    assert!(rt; levels.0 <= levels.1 && levels.1 <= mask.len());
-    assert!(rt; 1 <= size && size <= 64 && raw.len() as u64 == size * extent.count());
-    let found = answer_by_points(alloc, &mask, &extent, &region, levels, size, raw)?;
-    let walk = walk(&mask, &extent, &region, levels.0, levels.1, size);
-    let walked = visited(alloc, walk.as_ref(), raw)?;
-    Ok(walked.as_slice() == found.as_slice())
+    answer_by_points(alloc, &mask, &extent, &asked, (3, 3), 1, raw).ok()
 }
 
 #[test]
-fn a_walk_visits_what_the_search_finds(rt: HostRuntime) -> Result<(), Fail> {
-    for case in &CASES {
-        let asked = asked_of(&rt, case);
-        assert!(rt; asked.size <= 64);
-        let raw = volume(rt.alloc(), asked.size * asked.extent.count())?;
-        for hi in 0..asked.mask.len() + 1 {
-            for lo in 0..hi + 1 {
-                assert!(rt; agree(&rt, rt.alloc(), &asked, (lo, hi), raw.as_slice())?);
-            }
-        }
+fn a_search_finds_the_only_point_of_a_level(rt: HostRuntime) {
+    let raw = [0, 1, 2, 3, 4, 5, 6, 7, 8, 9, 10, 11, 12, 13, 14, 15];
+    assert!(rt;
+        found(rt.alloc(), &raw).is_some_and(|samples| samples.as_slice() == [9].as_slice())
+    );
+}
+
+/// Whether the last block of four addresses of that volume has this box.
+fn last_block_has(lo: &[u64], hi: &[u64]) -> Option<bool> {
+    let mask = Mask::parse(b"V0101").ok()?;
+    if !mask.names_axes(2) || mask.len() != 4 {
+        return None;
     }
+    let found = shape(&mask, 2, 2, 3).region;
+    Some(found.lo() == Point::new(lo)? && found.hi() == Point::new(hi)?)
+}
+
+#[test]
+fn the_box_of_a_block_is_no_larger(rt: HostRuntime) {
+    assert!(rt; last_block_has(&[2, 0], &[3, 3]) == Some(true));
+}
+
+/// The finer points of that volume.
+fn finer() -> Strides
+    ensures { result ≡ record {
+      base = 0;
+      size = 1;
+      coarse = true;
+      axes =
+          record { step = 1; count = 4; phase = 0; ratio = 2 } ∷
+          record { step = 4; count = 4; phase = 0; ratio = 2 } ∷ [];
+    } }
+{
+    let axis = Axis {
+        step: 1,
+        count: 4,
+        phase: 0,
+        ratio: 2,
+    };
+    Strides::new(0, 1, true, &[axis, Axis { step: 4, ..axis }])
+}
+
+#[test]
+fn halves_hold_one_half_each(rt: HostRuntime) -> Result<(), Fail> {
+    let walk = finer();
+    assert!(rt; walk.count() == 12 && !walk.is_dense() && walk.widest_gap() == 0);
+    let (front, behind) = walk.halves().expect(&rt, "halves");
+    assert!(rt; (front.count(), behind.first(), behind.count()) == (6, 8, 6));
     Ok(())
 }

@@ -1,5 +1,7 @@
 //! A bay and a reader in memory that tell a line how much of a step is written or read.
-use super::{bytes_of, empty_bay, file_front, one_file, save};
+ghost use Rattle.std.specs.Prelude.{◌≡◌, [], IfOk};
+
+use super::{bytes_of, file_front, one_file, save};
 use idx_memory::{MemBay, MemReader};
 use idx_outside::{Bay, BayFault, Bytes, NoMemory};
 use idx_progress::{Line, Progress, Tally, WatchedBay, WatchedReader, write_progress};
@@ -11,6 +13,14 @@ const TWO_FILES: &[u8] =
     b"(version)\n6\n(box)\n0 3 0 3\n(fields)\na uint8\n(bits)\nV0101\n(bitsperblock)\n2\n\
     (blocksperfile)\n2\n(filename_template)\n./%01x.bin\n(time)\n0 9 time%04d/\n";
 
+/// A bay without a header and without files, whose first draft fails at this call.
+fn empty_bay(alloc: Global, draft_fails: u64) -> Result<MemBay, Fail>
+    ensures { IfOk result (λ bay. bay.files ≡ []) }
+{
+    let drafts = vec![in alloc; vec![in alloc; draft_fails]?]?;
+    Ok(MemBay::new(Bytes::new(alloc), Vec::new(alloc), Vec::new(alloc), drafts))
+}
+
 /// What is told of a step of one file of two bytes that is saved, and how that ended. This call of its draft fails.
 fn told(
     rt: &HostRuntime,
@@ -18,10 +28,8 @@ fn told(
     fails: u64,
 ) -> Result<(Progress, Result<(), BayFault>), Fail> {
     let alloc = rt.alloc();
-    let Some(line) = Line::begin(alloc, *rt, rt.stderr()) else {
-        return Err(NoMemory)?;
-    };
-    let mut bay = WatchedBay::new(alloc, empty_bay(alloc, 9, fails)?, line.share());
+    let line = Line::begin(alloc, *rt, rt.stderr()).ok_or(NoMemory)?;
+    let mut bay = WatchedBay::new(alloc, empty_bay(alloc, fails)?, line.share());
     let result = save(alloc, &mut bay, text, &[116, 47, 48], &[1, 2]);
     Ok((line.progress(), result))
 }
@@ -39,25 +47,26 @@ fn of_two_files(sealed: u64, written: u64) -> Progress {
 #[test]
 fn a_watched_bay_tells_what_is_written(rt: HostRuntime) -> Result<(), Fail> {
     let failed = Err(BayFault::Outage);
-    assert!(rt; told(&rt, TWO_FILES, 9)? == (of_two_files(1, 2), Ok(())));
-    assert!(rt; told(&rt, TWO_FILES, 1)? == (of_two_files(0, 0), failed));
-    assert!(rt; told(&rt, TWO_FILES, 2)? == (of_two_files(0, 2), failed));
     let unknown = Progress {
         files: 0,
         bytes: 0,
-        sealed: 1,
-        written: 2,
+        ..of_two_files(1, 2)
     };
-    assert!(rt; told(&rt, b"text", 9)? == (unknown, Ok(())));
+    for (text, fails, want) in [
+        (TWO_FILES, 9, (of_two_files(1, 2), Ok(()))),
+        (TWO_FILES, 1, (of_two_files(0, 0), failed)),
+        (TWO_FILES, 2, (of_two_files(0, 2), failed)),
+        (b"text", 9, (unknown, Ok(()))),
+    ] {
+        assert!(rt; told(&rt, text, fails)? == want);
+    }
     Ok(())
 }
 
 /// What is told of the two bytes of a file that is looked for and read, and whether they were. This read fails.
 fn told_of_reading(rt: &HostRuntime, fails: u64) -> Result<(Progress, bool), Fail> {
     let alloc = rt.alloc();
-    let Some(line) = Line::begin(alloc, *rt, rt.stderr()) else {
-        return Err(NoMemory)?;
-    };
+    let line = Line::begin(alloc, *rt, rt.stderr()).ok_or(NoMemory)?;
     let text = bytes_of(alloc, TWO_FILES)?;
     let files = MemBay::new(text, one_file(alloc)?, Vec::new(alloc), Vec::new(alloc));
     let mut bay = WatchedBay::new(alloc, files, line.share());

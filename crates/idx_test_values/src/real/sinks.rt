@@ -2,17 +2,10 @@
 use super::*;
 use std::io::Write;
 
-/// What a writer was asked for.
-#[derive(Clone, Copy, PartialEq, Eq)]
-enum Call {
-    Took(u8),
-    Flushed,
-}
-
-/// A writer that takes a byte a call, writes its calls down, and whose flush may fail.
+/// A writer that takes a byte a call, writes its calls down, a flush as `F`, and whose flush may fail.
 #[derive(Drop)]
 struct Slow<'a> {
-    calls: &'a mut Vec<Call>,
+    calls: &'a mut Vec<u8>,
     flushes: bool,
 }
 
@@ -20,7 +13,7 @@ impl Write for Slow<'_> {
     fn write(&mut self, buf: &[u8]) -> io::Result<usize> {
         match buf.first() {
             Some(byte) => {
-                self.calls.push(Call::Took(*byte))?;
+                self.calls.push(*byte)?;
                 Ok(1)
             }
             None => Ok(0),
@@ -28,7 +21,7 @@ impl Write for Slow<'_> {
     }
 
     fn flush(&mut self) -> io::Result<()> {
-        self.calls.push(Call::Flushed)?;
+        self.calls.push(b'F')?;
         if self.flushes {
             Ok(())
         } else {
@@ -37,30 +30,18 @@ impl Write for Slow<'_> {
     }
 }
 
-fn takes<W: Write + Drop>(sink: &mut StdSink<W>, piece: &[u8]) -> bool {
-    sink.write(piece).is_ok()
-}
-
 /// Writes a piece of two bytes to a slow writer, and tells whether this fault came of it, or none.
-fn writes_slowly(alloc: Global, calls: &mut Vec<Call>, flushes: bool, fault: &str) -> bool {
+fn writes_slowly(alloc: Global, calls: &mut Vec<u8>, flushes: bool, fault: &str) -> bool {
     let mut sink = StdSink::new(Slow { calls, flushes });
-    is_sendable(&sink);
-    let taken = takes(&mut sink, &[7, 8]);
+    let taken = sink.write(b"ab").is_ok();
     taken == flushes && is_text(alloc, sink.last_fault(), fault)
-}
-
-/// What a slow writer is asked for when a piece of two bytes is written.
-static ASKED: [Call; 3] = [Call::Took(7), Call::Took(8), Call::Flushed];
-
-/// Whether a slow writer is asked for all that, and this fault comes of it, or none.
-fn is_asked(alloc: Global, flushes: bool, fault: &str) -> bool {
-    let mut calls = Vec::new(alloc);
-    let told = writes_slowly(alloc, &mut calls, flushes, fault);
-    told && calls.as_slice() == ASKED.as_slice()
 }
 
 #[test]
 fn a_piece_is_written_whole_and_flushed(rt: HostRuntime) {
-    assert!(rt; is_asked(rt.alloc(), true, ""));
-    assert!(rt; is_asked(rt.alloc(), false, "standard output: no room is left"));
+    for (flushes, fault) in [(true, ""), (false, "standard output: no room is left")] {
+        let mut calls = Vec::new(rt.alloc());
+        assert!(rt; writes_slowly(rt.alloc(), &mut calls, flushes, fault));
+        assert!(rt; calls.as_slice() == b"abF".as_slice());
+    }
 }

@@ -2,26 +2,11 @@
 //! peers.
 use super::*;
 use idx_outside::{Door, Link};
-use std::io::{Read, Write};
+use std::io::Write;
 use std::net::{Net, SocketAddr, TcpStream};
 use std::sync::atomic::{AtomicU64, Ordering};
 use std::sync::{Arc, Wait};
 use std::time::{Clock, Duration};
-
-mod patience;
-
-/// A listener that is not open yet.
-fn listener(alloc: Global, address: &str) -> Result<Arc<SharedListener, Global>, NoMemory> {
-    let address = String::from_str(alloc, address)?;
-    Ok(Arc::new(alloc, SharedListener::new(address))?)
-}
-
-/// A peer that waits for no longer than five seconds.
-fn peer_of<R: Sockets>(rt: &R, address: SocketAddr) -> Result<TcpStream, Fail> {
-    let peer = TcpStream::connect(rt, address)?;
-    peer.set_read_timeout(Some(Duration::from_secs(5)))?;
-    Ok(peer)
-}
 
 /// A door at a free port, and a peer that waits there.
 fn door_and_peer<R: Sockets>(
@@ -29,8 +14,9 @@ fn door_and_peer<R: Sockets>(
     alloc: Global,
     patience: Patience,
 ) -> Result<(TcpDoor<R>, TcpStream), Fail> {
-    let shared = listener(alloc, "127.0.0.1:0")?;
-    let peer = peer_of(rt, shared.bind(rt)?)?;
+    let address = String::from_str(alloc, "127.0.0.1:0")?;
+    let shared = Arc::new(alloc, SharedListener::new(address))?;
+    let peer = TcpStream::connect(rt, shared.bind(rt)?)?;
     Ok((TcpDoor::new(*rt, shared, None, patience), peer))
 }
 
@@ -45,14 +31,6 @@ where
     }
 }
 
-/// What a server has, but for a shorter silence.
-fn hasty() -> Patience {
-    Patience {
-        silence: Duration::from_millis(100),
-        turn: Duration::from_secs(60),
-    }
-}
-
 /// Writes a piece, and tells whether it was taken.
 fn gives<L: Link>(link: &mut L, piece: &[u8]) -> bool {
     link.write(piece).is_ok()
@@ -64,76 +42,57 @@ fn takes<L: Link>(link: &mut L) -> Option<usize> {
     link.read(&mut into).ok()
 }
 
-/// What a stream has up to its end.
-fn rest_of(alloc: Global, stream: &mut TcpStream) -> Result<Vec<u8>, Fail> {
-    let mut rest = Vec::new(alloc);
-    let _count = stream.read_to_end(&mut rest)?;
-    Ok(rest)
-}
-
-/// Whether a stream has these bytes up to its end.
-fn ends_with(alloc: Global, stream: &mut TcpStream, want: &[u8]) -> Result<bool, Fail> {
-    Ok(rest_of(alloc, stream)?.as_slice() == want)
-}
-
-/// Whether a link failed last for this reason.
+/// Whether a link has one fault, for this reason.
 fn failed_for<R: Clock + Drop>(alloc: Global, link: &TcpLink<TcpStream, R>, reason: &str) -> bool {
-    match link.last_fault() {
-        Some(found) => match format!(in alloc; "{found}") {
-            Ok(text) => text.as_str() == reason,
-            Err(_) => false,
-        },
-        None => false,
+    let Some(found) = link.last_fault() else {
+        return false;
+    };
+    match format!(in alloc; "{found}") {
+        Ok(text) => link.faults() == 1 && text.as_str() == reason,
+        Err(_) => false,
     }
 }
 
-/// Sends more than a link reads at once.
-fn send_much(peer: &mut TcpStream) -> Result<(), Fail> {
-    for _ in 0..200 {
-        peer.write_all(&[7; 100])?;
-    }
-    Ok(())
-}
+const SILENT: &str = "the peer let the link wait for too long";
 
-/// Whether the last piece of a link reaches a peer that has sent much of which one piece was read.
-fn gives_last<D: Door>(alloc: Global, door: &mut D, peer: &mut TcpStream) -> Result<bool, Fail>
-where
-    D::Link: Drop,
-{
+const SLOW: &str = "the peer sent its bytes too slowly";
+
+/// How a link waits in vain for a silent peer, how many bytes it writes before that, and why it ends. A tenth of a second
+/// of silence ends it, also while its peer takes nothing, or a tenth of a second from one reply to the next.
+static VAIN: [((u64, u64), usize, &str); 3] = [
+    ((100, 60_000), 0, SILENT),
+    ((100, 60_000), 1 << 25, SILENT),
+    ((3_600_000, 100), 0, SLOW),
+];
+
+/// Whether a link of a door has one fault for this reason since its peer is silent, or takes nothing of a long piece.
+fn waits_in_vain<R: Sockets>(
+    alloc: Global,
+    door: &mut TcpDoor<R>,
+    count: usize,
+    reason: &str,
+) -> Result<bool, Fail> {
     let mut link = next_link(door)?;
-    send_much(peer)?;
-    let goes = takes(&mut link) == Some(8) && gives(&mut link, b"last");
-    door.finish(link, Vec::new(alloc));
-    // A connection that is closed while bytes of its peer are unread is reset.
-    let reset = peer.take_error()?.is_some();
-    Ok(goes && !reset && ends_with(alloc, peer, b"last")?)
+    let piece = vec![in alloc; 7u8; count]?;
+    let goes_on = if count == 0 {
+        takes(&mut link).is_some()
+    } else {
+        gives(&mut link, piece.as_slice())
+    };
+    Ok(!goes_on && failed_for(alloc, &link, reason))
 }
 
 #[test]
-fn a_last_piece_reaches_a_peer_that_still_sends(rt: HostRuntime) -> Result<(), Fail> {
-    let (mut door, mut peer) = door_and_peer(&rt, rt.alloc(), hasty())?;
-    assert!(rt; gives_last(rt.alloc(), &mut door, &mut peer)?);
+fn a_link_ends_whose_peer_lets_it_wait(rt: HostRuntime) -> Result<(), Fail> {
+    for &((silence, turn), count, reason) in &VAIN {
+        let patience = Patience {
+            silence: Duration::from_millis(silence),
+            turn: Duration::from_millis(turn),
+        };
+        let (mut door, _peer) = door_and_peer(&rt, rt.alloc(), patience)?;
+        assert!(rt; waits_in_vain(rt.alloc(), &mut door, count, reason)?);
+    }
     Ok(())
-}
-
-/// A peer that has sent these bytes.
-fn peer_that_sent<R: Sockets>(
-    rt: &R,
-    address: SocketAddr,
-    bytes: &[u8],
-) -> Result<TcpStream, Fail> {
-    let mut peer = peer_of(rt, address)?;
-    peer.write_all(bytes)?;
-    Ok(peer)
-}
-
-/// How many bytes a door's next link takes at once.
-fn next_takes<D: Door>(door: &mut D) -> Result<Option<usize>, Fail>
-where
-    D::Link: Drop,
-{
-    let mut link = next_link(door)?;
-    Ok(takes(&mut link))
 }
 
 /// Writes again and again, until a write fails.
@@ -146,13 +105,7 @@ fn gives_until_refused<L: Link>(link: &mut L) -> bool {
     false
 }
 
-/// Whether a link failed last since its peer was gone, which the system tells in two ways.
-fn lost_its_peer<R: Clock + Drop>(alloc: Global, link: &TcpLink<TcpStream, R>) -> bool {
-    failed_for(alloc, link, "Broken pipe (os error 32)")
-        || failed_for(alloc, link, "Connection reset by peer (os error 104)")
-}
-
-/// Whether a link of a door has one fault once its peer is gone.
+/// Whether a link of a door has one fault once its peer is gone, which the system tells in two ways.
 fn fails_once<R: Sockets>(
     alloc: Global,
     door: &mut TcpDoor<R>,
@@ -160,12 +113,112 @@ fn fails_once<R: Sockets>(
 ) -> Result<bool, Fail> {
     let mut link = next_link(door)?;
     drop(peer);
-    Ok(gives_until_refused(&mut link) && link.faults() == 1 && lost_its_peer(alloc, &link))
+    let refused = gives_until_refused(&mut link);
+    let is_known = failed_for(alloc, &link, "Broken pipe (os error 32)")
+        || failed_for(alloc, &link, "Connection reset by peer (os error 104)");
+    Ok(refused && is_known)
 }
 
 #[test]
 fn a_peer_that_is_gone_is_a_fault(rt: HostRuntime) -> Result<(), Fail> {
-    let (mut door, peer) = door_and_peer(&rt, rt.alloc(), hasty())?;
+    let (mut door, peer) = door_and_peer(&rt, rt.alloc(), Patience::of_a_server())?;
     assert!(rt; fails_once(rt.alloc(), &mut door, peer)?);
+    Ok(())
+}
+
+/// The system with a clock that goes on by a second whenever it is read, and fails at this second.
+#[derive(Clone, Copy)]
+struct Ticking<'a, R: Copy> {
+    rt: R,
+    seconds: &'a AtomicU64,
+    fails_at: Option<u64>,
+}
+
+impl<R: Net + Copy> Net for Ticking<'_, R> {
+    type Stream = R::Stream;
+
+    type Listener = R::Listener;
+
+    fn bind(&self, address: SocketAddr) -> io::Result<R::Listener> {
+        self.rt.bind(address)
+    }
+
+    fn connect(&self, address: SocketAddr) -> io::Result<R::Stream> {
+        self.rt.connect(address)
+    }
+}
+
+impl<R: Copy> Clock for Ticking<'_, R> {
+    fn monotonic(&self) -> io::Result<Duration> {
+        let second = self.seconds.fetch_add(1, Ordering::SeqCst);
+        if self.fails_at == Some(second) {
+            return Err(io::Error::from(io::ErrorKind::Other));
+        }
+        Ok(Duration::from_secs(second))
+    }
+
+    fn since_1970(&self) -> io::Result<Duration> {
+        Ok(Duration::from_secs(0))
+    }
+}
+
+impl<R: Wait + Copy> Wait for Ticking<'_, R> {}
+
+/// How often a byte a second comes in time after a reply, at most a hundred times.
+fn bytes_in_time<L: Link>(link: &mut L, peer: &mut TcpStream) -> Result<u32, Fail> {
+    peer.write_all(b"x")?;
+    if takes(link) != Some(1) || !gives(link, b"reply") {
+        return Err(Fail::from("no first byte"));
+    }
+    for count in 0..100 {
+        peer.write_all(b"x")?;
+        if takes(link).is_none() {
+            return Ok(count);
+        }
+    }
+    Ok(100)
+}
+
+/// Whether a peer that sends a byte a second is too slow once a minute is over.
+fn is_too_slow<R: Sockets>(
+    alloc: Global,
+    door: &mut TcpDoor<R>,
+    peer: &mut TcpStream,
+) -> Result<bool, Fail> {
+    let mut link = next_link(door)?;
+    Ok(bytes_in_time(&mut link, peer)? == 59 && failed_for(alloc, &link, SLOW))
+}
+
+#[test]
+fn a_slow_peer_has_a_minute_from_reply_to_reply(rt: HostRuntime) -> Result<(), Fail> {
+    let seconds = AtomicU64::new(0);
+    let ticking = Ticking {
+        rt,
+        seconds: &seconds,
+        fails_at: None,
+    };
+    let (mut door, mut peer) = door_and_peer(&ticking, rt.alloc(), Patience::of_a_server())?;
+    assert!(rt; is_too_slow(rt.alloc(), &mut door, &mut peer)?);
+    Ok(())
+}
+
+/// Whether a door passes over a peer whose connection cannot begin, and gives the one behind it.
+fn passes_over<R: Sockets>(rt: &R, door: &mut TcpDoor<R>, peer: &TcpStream) -> Result<bool, Fail> {
+    let mut next = TcpStream::connect(rt, peer.peer_addr()?)?;
+    next.write_all(b"next")?;
+    let mut link = next_link(door)?;
+    Ok(takes(&mut link) == Some(4) && door.faults() == 0)
+}
+
+#[test]
+fn a_connection_that_cannot_begin_is_passed_over(rt: HostRuntime) -> Result<(), Fail> {
+    let seconds = AtomicU64::new(0);
+    let ticking = Ticking {
+        rt,
+        seconds: &seconds,
+        fails_at: Some(0),
+    };
+    let (mut door, peer) = door_and_peer(&ticking, rt.alloc(), Patience::of_a_server())?;
+    assert!(rt; passes_over(&ticking, &mut door, &peer)?);
     Ok(())
 }
