@@ -13,22 +13,23 @@ _idxtool() {
     local words='' files='' raws=''
     COMPREPLY=()
     if ((place == 1)); then
-        mapfile -t COMPREPLY < <(compgen -W 'convert query serve info cut drill --help --version' -- "$word")
+        mapfile -t COMPREPLY < <(compgen -W 'convert query check serve info cut drill --help --version' -- "$word")
         return
     fi
     case $before in
         --raw) files=yes ;;
         --ranks | --workers) words='1 2 4 8 16' ;;
         --cache) words='64 1024 65536' ;;
+        --layout) words='rows hz' ;;
         --links | --ingest) return ;;
         *) case $command:$place in
-            convert:2 | query:2 | serve:2 | info:2) files=yes ;;
+            convert:2 | query:2 | check:2 | serve:2 | info:2) files=yes ;;
             convert:3 | cut:2) files=yes raws=yes ;;
             convert:6) words=auto ;;
             query:4) words=$("${COMP_WORDS[0]}" info "${COMP_WORDS[2]}" 2>&1 | sed -n 's/^field \([^ ]*\) .*/\1/p') ;;
             serve:3) words='127.0.0.1:8080 [::1]:8080' ;;
             drill:2) words='1 2 3 4 5 6 7 8' ;;
-            convert:*) ((place < 12)) || words=$(_idxtool_options --ranks) ;;
+            convert:*) ((place < 12)) || words=$(_idxtool_options --ranks --layout) ;;
             query:*) ((place < 8)) || words=$(_idxtool_options --cache) ;;
             serve:*) words=$(_idxtool_options --cache --workers --links --ingest --raw) ;;
         esac ;;

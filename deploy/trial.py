@@ -116,11 +116,15 @@ def try_completion(trial: Trial, tool: str, folder: Path) -> None:
     """Commands, files, fields and options that were not given yet are offered."""
     (folder / "other.raw").write_bytes(b"")
     start = ["serve", "n.idx", "127.0.0.1:80"]
+    convert = ["convert", "n.idx", "other.raw", BOX, "n uint32", "auto", "12", "16", "./%02x.bin", "0 99 n%02d/", "0"]
     for words, wanted in (
-            ([""], ["--help", "--version", "convert", "cut", "drill", "info", "query", "serve"]),
+            ([""], ["--help", "--version", "check", "convert", "cut", "drill", "info", "query", "serve"]),
             (["co"], ["convert"]),
             (["info", "n."], ["n.idx"]),
+            (["check", "n."], ["n.idx"]),
             (["convert", "n.idx", "ot"], ["other.raw"]),
+            ([*convert, "--"], ["--layout", "--ranks"]),
+            ([*convert, "--layout", ""], ["hz", "rows"]),
             (["query", "n.idx", "0", ""], ["n"]),
             (["query", "n.idx", "0", "n", "0 1", "0", "1", "--"], ["--cache"]),
             ([*start, "--"], ["--cache", "--ingest", "--links", "--raw", "--workers"]),
