@@ -4,7 +4,7 @@
     check/messages.py PROGRAM
 
 Each case has a folder of its own, with the files that it names. Beside wrong words and headers these are files that are none,
-writers that nobody reads, addresses that nobody can listen at, and what an earlier run left. The last line is
+an output that nobody reads, addresses that nobody can listen at, and what an earlier run left. The last line is
 `N passed, M failed`. It does not use the reference.
 """
 from __future__ import annotations
