@@ -40,7 +40,7 @@ pub enum Cause {
     },
     /// A header stands that does not agree with the one that is asked for.
     OtherHeader,
-    /// The step of this number does not stand, or the header lacks it.
+    /// The step of this number does not stand, or the header lacks it; of `check` also where it has no time.
     NotPublished {
         time: u64,
     },
@@ -62,13 +62,13 @@ pub enum Cause {
     TooLarge {
         bytes: u64,
     },
-    /// The header that is asked for lacks the step of this number.
+    /// The header, that of the words or, of `serve`, the one that stands, lacks the step of this number.
     NoStep {
         time: u64,
     },
     /// The output could not be written.
     SinkFault,
-    /// A row of the table of a file is faulty: the first one, in the order of files and then of rows. The file's number is
+    /// A row of the table of a file is faulty: the first one, in the order of steps, files and rows. The file's number is
     /// that of its first block, and rows are counted from 0.
     BadTable {
         file: u64,

@@ -20,8 +20,9 @@ use std::sync::Arc;
 
 /// The published steps of a dataset, numbered from 0, and the cache of their blocks. Seen as the shape of the steps,
 /// the list of the steps, and the list of the cached blocks, the most recently used first. All memory that the cache
-/// will ever need is taken at the start, and blocks are shared, not copied. Up to 256 blocks that fell out of the cache
-/// are kept aside, since a look brings some of them along (`Looked::take_spare`), so that their memory is used again.
+/// will ever need is taken at the start, and blocks are shared, not copied. Blocks that fell out of the cache are kept
+/// aside, as many as have 2^26 bytes together and 4,096 at most, since a look brings some of them along
+/// (`Looked::take_spare`), so that their memory is used again.
 #[derive(Drop)]
 pub struct Hall<E: Blocks> {
     blocks: u64,

@@ -5,7 +5,8 @@ use std::time::Duration;
 pub struct Patience {
     /// While no byte comes, and while none of a piece is taken.
     pub silence: Duration,
-    /// From one piece that was written, or from the beginning, to the next, however slowly bytes come in.
+    /// From one piece that was written, or from the beginning, until the next one, however slowly bytes come in. It is
+    /// looked at where the link is read.
     pub turn: Duration,
 }
 

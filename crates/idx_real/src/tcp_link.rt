@@ -16,7 +16,8 @@ use std::time::{Clock, Duration, Instant};
 /// heads as long as it lasts, so this bounds the memory that a peer can take.
 const MOST_READ: usize = 8 * 1024 * 1024;
 
-/// How many bytes are dropped at most of what a peer still sends at the end.
+/// About how many bytes are dropped at most of what a peer still sends at the end: with the last piece it may be up to 4,095
+/// more.
 const MOST_DROPPED: usize = 65_536;
 
 /// How often a read is made again at most that a signal interrupted.

@@ -12,7 +12,8 @@ pub fn plain_words(kind: HeaderKind) -> &'static str {
         }
         HeaderKind::BadNumber => "the value of the key on this line is no number",
         HeaderKind::OtherVersion => "the version is not 6",
-        HeaderKind::BadBox => "the box is no list of two to five pairs `lo hi`",
+        HeaderKind::BadBox =>
+            "the box is no list of two to five pairs `lo hi` with no lo above its hi",
         HeaderKind::BadMask =>
             "the bits are not V and 1 to 40 digits that each name an axis of the box",
         HeaderKind::BoxOutsideMask =>

@@ -40,7 +40,8 @@ idxtool: samples, headers and files of ViSUS IDX data, with proved answers
 
       DATASET   the header file, as run.idx; the files are written beside it
       RAW       the file: for each field the samples of BOX in row-major order,
-                axis 0 fastest; at most 2^36 bytes in all
+                axis 0 fastest; at most 2^36 bytes in all, and at most 2^32 in
+                each file of the step
       BOX       inclusive bounds `lo hi` of each axis, in one quoted word
       FIELDS    names and types, as \"density float32 + velocity float64[3]\";
                 int8 to int64, uint8 to uint64, float32, float64
@@ -76,9 +77,9 @@ idxtool: samples, headers and files of ViSUS IDX data, with proved answers
 
   idxtool check DATASET TIME
       says whether the files of a step, in its newest revision, are exactly those
-      that convert writes for some volume: it writes `same files N bytes B` to
-      standard output. Else it ends with status 16 and says which file is the
-      first that is not, and from which byte on
+      that convert writes for some volume, with --layout hz: it then writes `same
+      files N bytes B` to standard output. Else it ends with status 16 and says
+      which file is the first that is not, and from which byte on
 
       DATASET  the header file, as run.idx
       TIME     the number of the step
@@ -94,13 +95,13 @@ idxtool: samples, headers and files of ViSUS IDX data, with proved answers
       ADDRESS  as 127.0.0.1:8080 or [::1]:8080; port 0 takes a free one
       BLOCKS   how many blocks the cache keeps, 1 to 65536, else 64; no more
                than have 2^31 bytes in all
-      WORKERS  how many links are served side by side, 1 to 64, else 1
-      LINKS    how many links are served; then it writes `links N replies Q` to
-               standard output and ends. Else it serves until it is stopped
+      WORKERS  how many connections are served side by side, 1 to 64, else 1
+      LINKS    how many connections are served; then it writes `links N replies
+               Q` to standard output and ends. Else it serves until it is stopped
       STEP RAW meanwhile, the step is written out of this raw volume, as convert
                writes it, and published: questions from then on see it
 
-      A head may also have &time=, else the first step, &field=, else the first
+      A request may also have &time=, else the first step, &field=, else the first
       field, and &fromh= and &toh=, the coarsest and the finest level, else 0 and
       the dataset's levels
 
@@ -121,9 +122,9 @@ Exit statuses: 0 all was written, 1 wrong words, 2 a header is refused, 3 RAW
 has another size, 4 RAW could not be read, 5 DATASET could not be read or
 written, 6 all 256 revisions of the step stand or another header stands, 7 the
 step does not stand, 8 no such field, region, levels or step, or too many bytes,
-9 standard output did not take all, 10 a file of DATASET is damaged, 11 not
-enough memory, 12 ADDRESS cannot be listened at, or no further link comes, 16 a
-file of the step is not as convert writes it.
+9 standard output did not take all, 10 the table of a file of DATASET is wrong,
+11 not enough memory, 12 ADDRESS cannot be listened at, or no further connection
+could be accepted, 16 a file of the step is not as convert writes it.
 ";
 
 /// The text that a list of words asks for, if it is `--help` or `--version` alone.

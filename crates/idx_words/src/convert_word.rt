@@ -43,7 +43,7 @@ impl ConvertWord {
     pub fn expected(self) -> &'static str {
         match self {
             ConvertWord::Dataset =>
-                "DATASET, the path of the new header file: 1 to 4096 printable characters, not beginning with -",
+                "DATASET, the path of the header file: 1 to 4096 printable characters, not beginning with -",
             ConvertWord::Raw =>
                 "RAW, the path of the raw volume: 1 to 4096 printable characters, not beginning with -",
             ConvertWord::Extent => {
