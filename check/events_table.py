@@ -1,6 +1,6 @@
 """Tables of worlds and of events in them: how they are written, and what the model says of them.
 
-The rows are those that `crates/idx_test_events` reads; its README.md says what each means and what is printed.
+The rows are those that `crates/idx_test_events` reads; `check/README.md` says what each means and what is printed.
 """
 from __future__ import annotations
 

@@ -60,6 +60,6 @@ same l = Same (length (file_numbers l)) (sum_by (length_of_file l) (file_numbers
 abbrev pub verdict_of : HeaderValue → ℕ → List MemFile → Verdict
 verdict_of h step files = unwrap_or (first_wrong h step files) (same (placing_of h))
 
--- the files of a step that are there, rising, of all that its names can name
+-- the files of a step that are there, rising, of all that the blocks of its mask would take
 abbrev pub files_there : HeaderValue → ℕ → List MemFile → List (List ℕ × List ℕ)
 files_there h step files = filter_map (found_file h step files) (all_files (placing_of h))

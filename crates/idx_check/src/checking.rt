@@ -9,9 +9,9 @@ use idx_header::Header;
 use idx_outside::{Bay, BayFault, Reader};
 use std::alloc::Global;
 
-/// Says whether the files of a step of a dataset, those of its newest revision, are exactly those that the writer writes for
-/// some volume, or which is the first that is not, and where. Where nothing is wrong each byte was asked for once. It
-/// changes nothing.
+/// Says whether the files of a step of a dataset, those of its newest revision, are exactly those that the writer writes in
+/// hierarchical order for some volume, or which is the first that is not, and where. Where nothing is wrong each byte was
+/// asked for once. It changes nothing.
 ///
 /// The first refusal ends it, in this order: the header; whether it has a time with the step, and the step stands; reading its
 /// files. Nothing is read before the step is known to stand.

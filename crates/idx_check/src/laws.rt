@@ -15,8 +15,8 @@ ghost use Rattle.idx_edition.specs.Stored.{first_bad, stored_block};
 ghost use Rattle.idx_check.specs.Verdict.{files_there, first_wrong};
 ghost use Rattle.idx_check.specs.Wanted.{is_of_box, wanted_bytes};
 
-/// Nothing is wrong with a step exactly where no row of its files is faulty, and the files that are there of all that its
-/// names can name are those that the writer writes for the volume that they store.
+/// Nothing is wrong with a step exactly where no row of its files is faulty, and the files that are there, of all that the
+/// blocks of its mask would take, are those that the writer writes in hierarchical order for the volume that they store.
 pub fn nothing_is_wrong_with_written_files_alone()
     ensures { (h : HeaderValue) (step : ℕ) (files : List MemFile) → IsHeader h →
         (first_wrong h step files ≡ None) ↔ ((first_bad h step files ≡ None)

@@ -18,10 +18,10 @@ use idx_layout::{file_len, present_in_file};
 use idx_outside::{Bay, BayFault, Leaf, Reader};
 use std::alloc::Global;
 
-/// Says whether the files of a step are exactly those that the writer writes for some volume, or which is the first that is
-/// not, and where: a file that is missing, one that should not be there, or the first wrong byte. Asks the bay for each file
-/// that the dataset can have, and reads each file of the step once, from its beginning on, by pieces of at most 65,536 bytes.
-/// Where nothing is wrong each byte was asked for once. It changes nothing.
+/// Says whether the files of a step are exactly those that the writer writes in hierarchical order for some volume, or
+/// which is the first that is not, and where: a file that is missing, one that should not be there, or the first wrong
+/// byte. Asks the bay for each file that the dataset can have, and reads each file of the step once, from its beginning on,
+/// by pieces of at most 65,536 bytes. Where nothing is wrong each byte was asked for once. It changes nothing.
 pub fn check_step<B: Bay, R: Reader<B::Leaf>>(
     alloc: Global,
     header: &Header,

@@ -58,7 +58,7 @@ pub enum Cause {
         hi: u32,
         max: u32,
     },
-    /// The samples that are asked for take so many bytes, which is too many.
+    /// The samples that are asked for, those of a step, or a file of the step take so many bytes, which is too many.
     TooLarge {
         bytes: u64,
     },

@@ -17,8 +17,8 @@ use std::thread::Threads;
 /// Writes a step of a raw volume under the header of this text, at the least revision of the step that does not stand,
 /// counted from 0: puts the text where no header stands, and adds exactly the files of the step at that revision, byte for
 /// byte as the format defines them, with the samples of each block in the order of the layout. The files of earlier
-/// revisions stay. `raws` hold the same volume; the first are used,
-/// one for each of the ranks, 1 to 256, each of which is a worker thread.
+/// revisions stay. `raws` hold the same volume; the first are used, one for each of the ranks, 1 to 256, each of which is a
+/// worker thread.
 ///
 /// The first refusal ends it, in this order: the text, its step, its volume's bytes, its files' bytes; the header that
 /// stands, whether it agrees; whether a revision is left, for a step has at most 256; the raw volume's length. Nothing is

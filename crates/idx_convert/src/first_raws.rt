@@ -15,8 +15,8 @@ use std::alloc::Global;
 use std::mem;
 use std::thread::Threads;
 
-/// Gathers a step in a layout out of the first raw volumes, one for each rank. The others are as they were; for moving them there is
-/// memory before any is asked for bytes.
+/// Gathers a step in a layout out of the first raw volumes, one for each rank. The others are as they were; for moving them
+/// there is memory before any is asked for bytes.
 pub(crate) fn gather_first<V: Source + Send, B: Bay, R: Threads + Sync>(
     rt: &R,
     alloc: Global,

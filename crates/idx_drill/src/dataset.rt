@@ -79,7 +79,7 @@ fn mask_text(alloc: Global, number: u32) -> Result<Bytes, NoMemory>
     Ok(text)
 }
 
-/// To how many bits there is a block.
+/// How many bits the place of a sample in a block has.
 fn bits_text(alloc: Global, number: u32) -> Result<Bytes, NoMemory>
     requires few { number ≤ 8 }
     ensures { IfOk result (λ text. text ≡ decimal (drill_bits number)) }

@@ -14,8 +14,8 @@ use std::alloc::Global;
 use std::thread::Threads;
 
 impl<L: Leaf> Docking<L> {
-    /// Writes the files of the window in the step's layout, with as many workers as there are ranks, and seals them. After a refusal every draft
-    /// was given up.
+    /// Writes the files of the window in the step's layout, with as many workers as there are ranks, and seals them. After
+    /// a refusal every draft was given up.
     pub fn seal<B: Bay<Leaf = L>, G: Gate, R: Threads + Sync>(
         self,
         rt: &R,

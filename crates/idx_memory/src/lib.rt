@@ -1,5 +1,5 @@
 //! What lies outside, in memory: files, outputs and connections that fail at chosen calls and tell what they hold, and
-//! ones that never fail and tell nothing.
+//! ones that never fail and tell nothing, but for the bytes of a source.
 #![tactic(auto)]
 
 mod fault_script;

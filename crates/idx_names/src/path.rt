@@ -23,8 +23,8 @@ pub fn file_path(alloc: Global, template: &Template, file: u64) -> Result<Bytes,
     Ok(name)
 }
 
-/// The path of a file of a step at a revision: the step's folder at it, and behind it the part with the first mark and those behind it, as in
-/// `file_path`.
+/// The path of a file of a step at a revision: the step's folder at it, and behind it the part with the first mark and those
+/// behind it, as in `file_path`.
 pub fn file_path_of_step(
     alloc: Global,
     template: &Template,

@@ -9,7 +9,7 @@ pub enum GatePlace {
     Sealed,
     /// It has accepted a connection.
     Accepted,
-    /// It has answered a request.
+    /// It has served a connection to its end and handed it back.
     Answered,
 }
 

@@ -3,11 +3,12 @@ ghost use Rattle.idx_pieces.specs.Digits.{piece_digits, point_bytes};
 
 use idx_header::Header;
 
-/// The most pieces of a box have a number of so many digits, where the room is large enough.
+/// Where the room is large enough, the number of a piece has so many digits.
 const FRONT_DIGITS: u32 = 6;
 
-/// How many last digits of the Z addresses of a piece's points are free: as many as let four such pieces fit into so many
-/// bytes, and make at most 64 pieces.
+/// How many last digits of the Z addresses of a piece's points are free: the most that let four such pieces fit into so
+/// many bytes and leave six digits for the numbers of pieces, else none. So there are at most 64 pieces, and more only
+/// where the room is too small for that.
 pub fn piece_digits(header: &Header, room: u64) -> u32
     ensures digits { result ≡ piece_digits header.now room }
     ensures within { result ≤ length header.now.mask }
