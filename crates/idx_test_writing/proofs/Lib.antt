@@ -1,2 +1,2 @@
-pub mod ReadyLemmas
-pub mod PartLemmas
+pub mod RawLemmas
+pub mod FolderLemmas

@@ -1,3 +1,1 @@
 pub mod Ready
-pub mod Parts
-pub mod Seats

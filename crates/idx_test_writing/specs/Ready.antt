@@ -1,24 +1,32 @@
--- The raw volumes and the bay of a run.
-use Rattle.std.specs.Prelude.{◌≡◌, ℕ, List, [], Option, Some, All}
-use Rattle.idx_header.specs.Header.{HeaderValue}
+-- What a step is gathered into, and the seat at which it is published.
+use Rattle.std.specs.Prelude.{◌≡◌, ℕ, true, [], None, Option, Some}
+use Rattle.std.specs.Coded.{×_prop, le_prop}
+use native.Mathlib.Nat.{ℕ_set}
+use Rattle.idx_header.specs.Header.{HasTime, HasTimeAmong, HeaderValue}
+use Rattle.idx_header.specs.declared.steps.Steps.{Steps}
 use Rattle.idx_header.specs.Names.{step_folder}
-use Rattle.idx_memory.specs.Memory.{BayState, SourceState}
-use Rattle.idx_gather.specs.Gather.{HasFolder, HaveSame}
+use Rattle.idx_layout.specs.Shape.{shape_of}
+use Rattle.idx_turn.specs.LockId.{LockId}
+use Rattle.idx_lock.specs.Seats.{SeatValue}
+use Rattle.idx_memory.specs.Memory.{BayState}
+use Rattle.idx_gather.specs.Gather.{HasFolder}
 
--- the bytes of a raw volume in memory, which are known
-abbrev pub told : SourceState → Option (List ℕ)
-told raw = Some raw.bytes
-
--- all raw volumes have the same bytes
-abbrev pub AreAlike : List SourceState → Type 0
-AreAlike raws = HaveSame told raws
-
--- all raw volumes have these bytes
-abbrev pub HaveBytes : List ℕ → List SourceState → Type 0
-HaveBytes bytes raws = All (λ raw. raw.bytes ≡ bytes) raws
-
--- in an empty bay the step 0 is begun
-pub record IsBegun (h : HeaderValue) (bay : BayState) : Type 0 where
-  pub folder : HasFolder h 0
-  pub begun : bay.begun ≡ step_folder h 0
+-- in an empty bay this step is begun
+pub record IsBegun (h : HeaderValue) (time : ℕ) (bay : BayState) : Type 0 where
+  pub folder : HasFolder h time
+  pub begun : bay.begun ≡ step_folder h time
   pub files : bay.files ≡ []
+
+-- that a header has a step is known in one way alone
+HasTimeAmong-prop : (steps : Option Steps) (step : ℕ) → IsProp (HasTimeAmong steps step)
+HasTimeAmong-prop None step = ℕ_set step 0
+HasTimeAmong-prop (Some steps) step = ×_prop le_prop le_prop
+
+pub HasTime-prop : (h : HeaderValue) (step : ℕ) → IsProp (HasTime h step)
+HasTime-prop h step = HasTimeAmong-prop h.steps step
+
+-- the writer's seat of this lock stands for halls of the header
+pub record IsWriter (lock : LockId) (h : HeaderValue) (seat : SeatValue) : Type 0 where
+  pub of : seat.lock ≡ lock
+  pub writes : seat.writer ≡ true
+  pub shape : seat.seen.shape ≡ shape_of h

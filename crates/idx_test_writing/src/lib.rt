@@ -1,25 +1,21 @@
-//! Steps that are gathered by ranks out of raw volumes in memory, tried call by call, and published beside those who serve.
+//! Steps that are gathered by ranks out of raw volumes in memory, call by call, and published beside those who serve; and
+//! worked rows of pieces.
 #![tactic(auto)]
 
 #[cfg(test)]
+mod beside;
+#[cfg(test)]
 mod dataset;
+mod laws;
 #[cfg(test)]
-mod docks;
+mod raw;
 #[cfg(test)]
-mod gathered;
+mod ready;
 #[cfg(test)]
-mod ingests;
-#[cfg(test)]
-mod kept;
-#[cfg(test)]
-mod late_link;
-#[cfg(test)]
-mod parcels;
-#[cfg(test)]
-mod pieces;
-#[cfg(test)]
-mod running;
+mod stage;
 #[cfg(test)]
 mod states;
 #[cfg(test)]
-mod workers;
+mod waiting;
+
+pub use laws::{divisions, parts_of_ranks, refused_parcels};
