@@ -22,7 +22,7 @@ use std::sync::Arc;
 /// the list of the steps, and the list of the cached blocks, the most recently used first. All memory that the cache
 /// will ever need is taken at the start, and blocks are shared, not copied. Blocks that fell out of the cache are kept
 /// aside, as many as have 2^26 bytes together and 4,096 at most, since a look brings some of them along
-/// (`Looked::take_spare`), so that their memory is used again.
+/// (`Looked::take_spare`), so that their memory is used again. Those that somebody still reads stay until nobody does.
 #[derive(Drop)]
 pub struct Hall<E: Blocks> {
     blocks: u64,

@@ -51,8 +51,8 @@ impl<E: Blocks + Drop> Looked<E> {
     }
 
     /// Notes the step, which is the post of this number, and, for each key in order, the block that the cache has of it
-    /// in that post, if it has one; for each that it has not, a spare block comes along, while there are any. After
-    /// `NoMemory` nothing is noted.
+    /// in that post, if it has one; for each that it has not, a spare block comes along, while there are any that nobody
+    /// else holds. After `NoMemory` nothing is noted.
     pub(crate) fn note(
         &mut self,
         published: &Published<E>,

@@ -66,26 +66,33 @@ impl Spare {
         }
     }
 
-    /// Keeps a block of others, if there is one, for each that was not found.
+    /// Keeps a block of others for each that was not found, of those that nobody else holds any more. One that somebody
+    /// still copies samples from stays with the others until it can be used.
     pub(crate) fn keep_of(&mut self, others: &mut Spare, found: &[Option<Block>])
         ensures room { self.new ≡ self.old }
         ensures others { others.new ≡ others.old }
     {
-        for block in found {
-            if block.is_none() {
-                self.keep(others.take());
+        let mut wanted = found.iter().filter(|block| block.is_none()).count();
+        for place in (0..others.blocks.len()).rev() {
+            if wanted == 0 {
+                return;
             }
+            let block = others.take_free(place);
+            if block.is_some() {
+                wanted -= 1;
+            }
+            self.keep(block);
         }
     }
 
-    /// Takes out the block that was kept last.
-    fn take(&mut self) -> Option<Block>
+    /// Takes out the block at this place, if there is one that nobody else holds. The last one takes its place.
+    fn take_free(&mut self, place: usize) -> Option<Block>
         ensures { self.new ≡ self.old }
     {
-        match self.blocks.pop() {
-            Some(bytes) => Some(Block::new(bytes)),
-            None => None,
+        if place < self.blocks.len() && Arc::strong_count(&self.blocks[place]) == 1 {
+            return Some(Block::new(self.blocks.swap_remove(place)));
         }
+        None
     }
 
     /// Takes all blocks out, and the room with them. Takes no memory.
