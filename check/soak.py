@@ -1,8 +1,8 @@
 #!/usr/bin/env python3
 """Asks a server of many workers random questions over kept links for a minute, and looks at every byte.
 
-    check/soak.py PROGRAM [--seconds 60] [--links 64] [--questions 256] [--workers 64] [--cache 256] [--steps 16] [--seed 1]
-        [--ingest]
+    check/soak.py PROGRAM [--seconds 60] [--settle 10] [--links 64] [--questions 256] [--workers 64] [--cache 256]
+        [--steps 16] [--seed 1] [--ingest]
 
 The dataset has 16 steps of 64^3 samples of four bytes, 64 blocks of 16 KiB each: sample n of step t in row-major order is
 n + t * 2^18. Each link asks for random boxes between random levels of random steps, one question after another, and after so
@@ -12,7 +12,7 @@ samples are n + (t + 1000) * 2^18. The memory of the server is looked at each se
 docs/SERVING.md advises for many workers, unless the environment says otherwise.
 
 The last line is `N requests, W wrong, ...`; the exit status is 1 where a byte was wrong, a link ended early, or the
-memory grew by more than a tenth behind the first ten seconds. It is no part of the quick checks.
+memory grew by more than a tenth behind the first seconds (--settle). It is no part of the quick checks.
 """
 import array
 import os
@@ -175,8 +175,8 @@ def resident(process):
 
 def main():
     parser = words_of(__doc__)
-    for name, value in (("seconds", 60), ("links", 64), ("questions", 256), ("workers", 64), ("cache", 256), ("steps", 16),
-                        ("seed", 1)):
+    for name, value in (("seconds", 60), ("settle", 10), ("links", 64), ("questions", 256), ("workers", 64), ("cache", 256),
+                        ("steps", 16), ("seed", 1)):
         parser.add_argument(f"--{name}", type=int, default=value)
     parser.add_argument("--ingest", action="store_true")
     given = parser.parse_args()
@@ -221,7 +221,7 @@ def main():
                 server.kill()
     asked = sum(count for key, count in found.items() if isinstance(key, int))
     early = sum(count for key, count in found.items() if str(key).startswith("ended"))
-    settled = memory[min(10, len(memory) - 1)]
+    settled = memory[min(given.settle, len(memory) - 1)]
     grew = max(memory) > settled * 1.1
     print("server:", output.decode().strip(), "status", server.returncode)
     print("by status:", {key: count for key, count in sorted(found.items(), key=str)})
