@@ -9,12 +9,19 @@ use crate::block::Block;
 use crate::caching::note_all;
 use crate::published::Published;
 use crate::spare::Spare;
-use crate::{BlockName, Key};
+use crate::{BlockName, Key, LEAST_BYTES};
 use idx_cache::Cache;
 use idx_outside::{Blocks, Bytes, NoMemory};
 use std::alloc::Global;
 use std::marker::Model;
+use std::mem::size_of;
 use std::sync::Arc;
+
+/// A look has room for so many found blocks at least.
+const LEAST_FOUND: usize = LEAST_BYTES / size_of::<Option<Block>>();
+
+/// A look has room for so many spare blocks at least.
+const LEAST_SPARE: u64 = (LEAST_BYTES / size_of::<Arc<Bytes>>()) as u64;
 
 /// What a look finds: the step that it looked in, and for each key the cached block or nothing. It also brings spare
 /// blocks, at most as many as keys were missed: blocks that fell out of the cache, whose memory may be used again.
@@ -44,9 +51,9 @@ impl<E: Blocks + Drop> Looked<E> {
     {
         Ok(Looked {
             published: None,
-            blocks: Vec::with_capacity(alloc, room as usize)?,
+            blocks: Vec::with_capacity(alloc, LEAST_FOUND.max(room as usize))?,
             room,
-            spare: Spare::new(alloc, room)?,
+            spare: Spare::new(alloc, LEAST_SPARE.max(room))?,
         })
     }
 

@@ -90,7 +90,6 @@ fault_told None faults = tt
 fault_told (Some s) faults = refl
 
 -- the answer of the whole call, where all that was read before it stands in what is kept
-pub told_by : (before come : Option (List ℕ)) (kept left : List ℕ) (r : HeadRead) → left ≡ kept → behind kept come ≡ before
-    → Told (behind kept come) (behind kept come) r → Told before (behind left come) r
-told_by before come kept left r same input told =
-    subst (λ (k : List ℕ). Told before (behind k come) r) (sym same) (subst (λ o. Told o (behind kept come) r) input told)
+pub told_by : (before come : Option (List ℕ)) (kept : List ℕ) (r : HeadRead) → behind kept come ≡ before
+    → Told (behind kept come) (behind kept come) r → Told before (behind kept come) r
+told_by before come kept r input told = subst (λ o. Told o (behind kept come) r) input told

@@ -1,5 +1,5 @@
 //! What stands at the front of a buffer.
-ghost use Rattle.std.specs.Prelude.{◌≡◌, ◌==◌, ◌≤◌, All, length, map};
+ghost use Rattle.std.specs.Prelude.{◌≡◌, ◌==◌, ◌*◌, ◌<◌, ◌≤◌, All, length, map};
 ghost use Rattle.std.specs.List.{list_all};
 ghost use Rattle.httparse.specs.Spans.{IsHeaderWithin, header_bytes};
 ghost use Rattle.idx_http.specs.Heads.{head_limit};
@@ -8,11 +8,14 @@ ghost use Rattle.idx_http.specs.Values.{announces, has_body, is_zeros};
 
 use http1::fields::KnownFields;
 use http1::text::eq_ignore_case;
-use httparse::spans::{HeaderSpan, Span, parse_request};
+use httparse::spans::{EMPTY_HEADER_SPAN, HeaderSpan, Span, parse_request};
 use httparse::{Error, Status};
 
-/// For so many fields the parser has room. A field takes at least three bytes, so a buffer of 8,192 bytes has fewer.
-pub(crate) const FIELD_ROOM: usize = 2731;
+/// A buffer of up to 767 bytes, as most heads have, has fewer fields, since a field takes at least three bytes.
+const FEW_FIELDS: usize = 256;
+
+/// A buffer of up to 8,192 bytes has fewer fields.
+const MANY_FIELDS: usize = 2731;
 
 /// A head, as offsets into the buffer.
 #[derive(Clone, Copy, Debug)]
@@ -36,10 +39,30 @@ pub(crate) enum Look {
     Bad,
 }
 
-/// What stands at the front of the buffer. `spans` is room to work in.
-pub(crate) fn look_at(buffer: &[u8], spans: &mut [HeaderSpan]) -> Look
-    requires short { length buffer.now ≤ head_limit }
-    requires room { length spans.old ≡ FIELD_ROOM }
+/// What stands at the front of the buffer. The room to work in is on the stack, and little of it where the buffer is short.
+pub(crate) fn look_at(buffer: &[u8]) -> Look
+    requires { length buffer.now ≤ head_limit }
+    ensures { IsLook buffer.now result }
+{
+    if buffer.len() < 3 * FEW_FIELDS {
+        look_with(buffer, &mut [EMPTY_HEADER_SPAN; FEW_FIELDS])
+    } else {
+        look_at_long(buffer)
+    }
+}
+
+/// The same for a long buffer. It is a call of its own, so that its 87 KiB of stack are touched only then.
+#[inline(never)]
+fn look_at_long(buffer: &[u8]) -> Look
+    requires { length buffer.now ≤ head_limit }
+    ensures { IsLook buffer.now result }
+{
+    look_with(buffer, &mut [EMPTY_HEADER_SPAN; MANY_FIELDS])
+}
+
+/// The same, with room for the fields of any buffer of this length.
+fn look_with(buffer: &[u8], spans: &mut [HeaderSpan]) -> Look
+    requires { length buffer.now < 3 * length spans.old }
     ensures { IsLook buffer.now result }
 {
     match parse_request(buffer, spans) {

@@ -6,8 +6,7 @@ ghost use Rattle.idx_outside.specs.Input.{behind, read_once_more};
 ghost use Rattle.idx_http.specs.Heads.{head_limit, window};
 ghost use Rattle.idx_http.specs.Read.{IsLook};
 
-use crate::look::{FIELD_ROOM, Look, look_at};
-use httparse::spans::{EMPTY_HEADER_SPAN, HeaderSpan};
+use crate::look::{Look, look_at};
 use idx_outside::{Link, NoMemory, Outage};
 use std::alloc::Global;
 use std::marker::Model;
@@ -15,12 +14,11 @@ use std::marker::Model;
 /// A head has at most so many bytes.
 pub(crate) const HEAD_LIMIT: usize = 8192;
 
-/// The bytes that were read from a link and not yet taken, with the room to read a head.
+/// The bytes that were read from a link and not yet taken, with room for those of a head.
 #[derive(Drop)]
 pub struct Pending {
     buffer: Vec<u8>,
     len: usize,
-    spans: Vec<HeaderSpan>,
 }
 
 impl Model for Pending {
@@ -30,8 +28,7 @@ impl Model for Pending {
 
     ghost view = { λ p. take p.len p.buffer.items };
 
-    ghost invariant = { λ p. (p.len ≤ length p.buffer.items) × (8192 ≤ length p.buffer.items)
-        × (length p.spans.items ≡ 2731) };
+    ghost invariant = { λ p. (p.len ≤ length p.buffer.items) × (8192 ≤ length p.buffer.items) };
 }
 
 impl Pending {
@@ -42,7 +39,6 @@ impl Pending {
         Ok(Pending {
             buffer: vec![in alloc; 0u8; HEAD_LIMIT]?,
             len: 0,
-            spans: vec![in alloc; EMPTY_HEADER_SPAN; FIELD_ROOM]?,
         })
     }
 
@@ -61,12 +57,11 @@ impl Pending {
     }
 
     /// What stands at the front of what is kept.
-    pub(crate) fn look(&mut self) -> Look
-        ensures look { IsLook (window self.old) result }
-        ensures same { self.new ≡ self.old }
+    pub(crate) fn look(&self) -> Look
+        ensures { IsLook (window self.now) result }
     {
         let len = self.len.min(HEAD_LIMIT);
-        look_at(&self.buffer[..len], self.spans.as_mut_slice())
+        look_at(&self.buffer[..len])
     }
 
     /// Keeps some more bytes of the link: as many as it answers, and 0 exactly at the end of the input.

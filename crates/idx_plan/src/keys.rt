@@ -10,10 +10,14 @@ use crate::counting::points_between;
 use crate::counts::counts_behind;
 use crate::descent::{add_branch, key_of};
 use crate::level::level_part;
-use idx_hall::Key;
+use idx_hall::{Key, LEAST_BYTES};
 use idx_header::Header;
 use idx_outside::NoMemory;
 use std::alloc::Global;
+use std::mem::size_of;
+
+/// There is room for so many keys at least.
+const LEAST_KEYS: usize = LEAST_BYTES / size_of::<Key>();
 
 /// The keys of the blocks that hold a sample of the answer, rising.
 pub(crate) fn needed_keys(alloc: Global, header: &Header, ask: &Ask) -> Result<Vec<Key>, NoMemory>
@@ -30,7 +34,7 @@ fn first_key(alloc: Global, header: &Header, ask: &Ask) -> Result<Vec<Key>, NoMe
     requires { IsAnswerable header.now ask.now }
     ensures { IfOk result (λ keys. keys.items ≡ map (key_of ask.now) (filter (is_needed header.now ask.now) (0 ∷ []))) }
 {
-    let mut keys = Vec::new(alloc);
+    let mut keys = Vec::with_capacity(alloc, LEAST_KEYS)?;
     if needs_first_block(header, ask) {
         keys.push(key_of(ask, 0))?;
     }

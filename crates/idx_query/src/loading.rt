@@ -2,11 +2,15 @@ ghost use Rattle.std.specs.Prelude.{◌≡◌, ◌-◌, [], IfOk, OnOk, length};
 ghost use Rattle.idx_hall.specs.Calls.{pairs_of};
 ghost use Rattle.idx_query.specs.Steps.{LoadingValue, load_state, with_block};
 
-use idx_hall::Key;
+use idx_hall::{Key, LEAST_BYTES};
 use idx_outside::{Bytes, NoMemory};
 use std::alloc::Global;
 use std::marker::Model;
+use std::mem::size_of;
 use std::sync::Arc;
+
+/// There is room for so many loaded blocks at least.
+const LEAST_LOADED: usize = LEAST_BYTES / size_of::<(Key, Arc<Bytes>)>();
 
 /// The blocks that a round loads, each in memory of its own. Those are kept which a cache of so many blocks still has
 /// behind the last of them; the others share a buffer. Memory of spare blocks is used before fresh one is taken.
@@ -40,7 +44,7 @@ impl Loading {
             shared: None,
             spare: Vec::new(alloc),
             skip: 0,
-            loaded: Vec::with_capacity(alloc, blocks as usize)?,
+            loaded: Vec::with_capacity(alloc, LEAST_LOADED.max(blocks as usize))?,
         })
     }
 

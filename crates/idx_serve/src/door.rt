@@ -1,15 +1,19 @@
-ghost use Rattle.std.specs.Prelude.{◌≡◌, Bool, None, if◌then◌else◌};
+ghost use Rattle.std.specs.Prelude.{◌≡◌, Bool, None, [], if◌then◌else◌};
 ghost use Rattle.idx_layout.specs.Shape.{shape_of};
 ghost use Rattle.idx_session.specs.Entry.{state_of};
 ghost use Rattle.idx_serve.specs.Later.{IsLater};
 ghost use Rattle.idx_serve.specs.Visits.{AtDoor, IsEnd, is_starving, link_tells};
 
 use crate::{Site, serve_link};
-use idx_hall::Hall;
-use idx_outside::{Blocks, Door, Gate, GatePlace, Reader};
+use idx_hall::{Hall, LEAST_BYTES};
+use idx_outside::{Blocks, Door, Gate, GatePlace, Reader, Served};
 use idx_session::LinkEnd;
 use idx_turn::Turn;
 use std::alloc::Global;
+use std::mem::size_of;
+
+/// There is room for so many entries of a link at least.
+const LEAST_ENTRIES: usize = LEAST_BYTES / size_of::<Served>();
 
 /// How serving ended.
 #[derive(Clone, Copy, Debug, PartialEq, Eq)]
@@ -72,7 +76,7 @@ pub fn serve_door<E: Blocks + Drop, T: Turn<Hall<E>>, R: Reader<E::Leaf>, D: Doo
             }
         };
         gate.pass(GatePlace::Accepted, worker);
-        let mut served = Vec::new(alloc);
+        let mut served = no_entries(alloc);
         let end = serve_link(alloc, site, turn, reader, &mut link, &mut served);
         starved |= is_starving(end);
         replies = replies.saturating_add(served.len() as u64);
@@ -80,6 +84,16 @@ pub fn serve_door<E: Blocks + Drop, T: Turn<Hall<E>>, R: Reader<E::Leaf>, D: Doo
         gate.pass(GatePlace::Answered, worker);
     }
     conclude(u64::MAX, replies, starved, ServeEnd::NoMemory)
+}
+
+/// No entries of a link, with room for some where there is memory for it.
+fn no_entries(alloc: Global) -> Vec<Served>
+    ensures { result.items ≡ [] }
+{
+    match Vec::with_capacity(alloc, LEAST_ENTRIES) {
+        Ok(entries) => entries,
+        Err(_) => Vec::new(alloc),
+    }
 }
 
 /// What came of so many links and heads. Want of memory goes before how the door ended.

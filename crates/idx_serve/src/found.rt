@@ -1,5 +1,5 @@
 //! An answer out of the hall.
-ghost use Rattle.std.specs.Prelude.{◌≡◌, ◌+◌, ◌<◌, IfErr, IfOk, None, drop, length, true};
+ghost use Rattle.std.specs.Prelude.{◌≡◌, ◌+◌, ◌<◌, IfErr, IfOk, None, drop, length, replicate, true};
 ghost use Rattle.idx_outside.specs.Cause.{NeverFalls};
 ghost use Rattle.idx_layout.specs.Shape.{shape_of};
 ghost use Rattle.idx_plan.specs.Needed.{answer_bytes};
@@ -9,9 +9,9 @@ ghost use Rattle.idx_serve.specs.States.{IsAnswerRefused, IsFound};
 
 use crate::Refusal;
 use crate::texts::HEAD_ROOM;
-use idx_hall::Hall;
+use idx_hall::{Hall, LEAST_BYTES};
 use idx_header::Header;
-use idx_outside::{Blocks, Bytes, Reader};
+use idx_outside::{Blocks, Bytes, NoMemory, Reader};
 use idx_plan::Ask;
 use idx_query::{Report, answer};
 use idx_turn::Turn;
@@ -57,11 +57,20 @@ pub(crate) fn find<E: Blocks + Drop, T: Turn<Hall<E>>, R: Reader<E::Leaf>>(
     ensures given { T.given turn.new ≡ None }
     ensures count { NeverFalls (R.faults reader.old) (R.faults reader.new) }
 {
-    let Ok(mut samples) = Bytes::zeros(alloc, HEAD_ROOM) else {
+    let Ok(mut samples) = head_room(alloc) else {
         return Err(Refusal::NoMemory);
     };
     match answer(alloc, header, ask, turn, reader, &mut samples) {
         Ok(report) => Ok(Found { report, samples }),
         Err(fault) => Err(Refusal::from(fault)),
     }
+}
+
+/// Room for the head of a reply, in memory that a small answer behind it fits into.
+fn head_room(alloc: Global) -> Result<Bytes, NoMemory>
+    ensures { IfOk result (λ room. room ≡ replicate HEAD_ROOM 0) }
+{
+    let mut room = Bytes::with_capacity(alloc, LEAST_BYTES)?;
+    room.append(&[0u8; HEAD_ROOM])?;
+    Ok(room)
 }

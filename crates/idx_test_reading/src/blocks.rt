@@ -127,3 +127,16 @@ fn what_fell_out_comes_with_a_look_that_misses(rt: HostRuntime) -> Result<(), Fa
     assert!(rt; spare_behind_an_eviction(rt.alloc(), &rt, hall)? == 0);
     Ok(())
 }
+
+#[test]
+fn what_somebody_still_reads_does_not_come(rt: HostRuntime) -> Result<(), Fail> {
+    let hall = hall_of(rt.alloc(), &rt, 1)?;
+    let (_answer, mut hall) = ask_hall(rt.alloc(), &rt, hall, IN_0);
+    let mut reading = Looked::new(rt.alloc(), 1)?;
+    let _ = hall.look(0, &[key(0)], &mut reading)?;
+    let (_answer, mut hall) = ask_hall(rt.alloc(), &rt, hall, IN_6);
+    assert!(rt; spare_brought(rt.alloc(), &mut hall, 0)? == 0);
+    reading.clear();
+    assert!(rt; spare_brought(rt.alloc(), &mut hall, 0)? == 1);
+    Ok(())
+}

@@ -4,8 +4,8 @@ use Rattle.idx_http.specs.Read.{IsLook}
 use Rattle.idx_http.proofs.ListLemmas.{window_of_kept}
 use Rattle.idx_http.proofs.pending.Pending.look.Goals as goal
 
-pub returns-clause-look : goal.returns-clause-look
-returns-clause-look c =
+pub returns : goal.returns
+returns c =
     let inside = c.self.inside in
     let front : take c.min-len.result c.deref.result.now ≡ window c.args.self.now =
     ap (take c.min-len.result) c.deref.ensures.value

@@ -1,20 +1,20 @@
-use Rattle.std.proofs.Common.{◌≡◌, ◌||◌, map, take, refl, ap, subst, ◌∙◌, rules, Err}
+use Rattle.std.proofs.Common.{◌≡◌, ◌||◌, map, take, refl, ap, ◌∙◌, rules, Err}
 use Rattle.std.specs.Prelude.{◌==◌, codes, bytes_eq}
 use Rattle.std.proofs.lemmas.Bool.{ne_eqb}
-use Rattle.httparse.specs.Spans.{IsRequestOf, IsRequestWithin, RequestExceeds, header_bytes, span_bytes}
+use Rattle.httparse.specs.Spans.{IsRequestOf, IsRequestWithin, header_bytes, span_bytes}
 use Rattle.http1.specs.Fields.{known_fields}
 use Rattle.idx_http.specs.Values.{lists_close}
 use Rattle.idx_http.proofs.FieldLemmas.{never_exceeds}
 use Rattle.idx_http.proofs.FoundLemmas.{found_is}
 use Rattle.idx_http.proofs.ListLemmas.{or_true, or_false}
-use Rattle.idx_http.proofs.look.look_at.Goals as goal
-use Rattle.idx_http.proofs.look.look_at.Goals.{then-head-eq0, else-head-eq0}
+use Rattle.idx_http.proofs.look.look_with.Goals as goal
+use Rattle.idx_http.proofs.look.look_with.Goals.{then-head-eq0, else-head-eq0}
 
 pub unreachable-requires : goal.unreachable-requires
 unreachable-requires c =
     let buffer = c.args.buffer.now in
     let many = c.in-Err-TooManyHeaders.ensures.too_many (ap Err c.in-Err-TooManyHeaders.field-0-is) in
-    never_exceeds buffer c.requires.short (subst (λ n. RequestExceeds n buffer) c.requires.room many)
+    never_exceeds buffer _ c.requires many
 
 pub returns-after-head-eq0 : goal.returns-after-head-eq0
 unfolding known_fields
