@@ -31,8 +31,21 @@ where
         Ok(()) => link_new(rt, alloc, staged.as_str(), path, text),
         Err(reason) => Err(reason),
     };
+    let put = match put {
+        Ok(Put::Moved) => return Ok(()),
+        Ok(Put::Linked) => Ok(()),
+        Err(reason) => Err(reason),
+    };
     let _removed = fs::remove_file(rt, staged.as_str());
     put
+}
+
+/// How a text came to stand under a path.
+enum Put {
+    /// The file beside the path is still there.
+    Linked,
+    /// It was moved. Its name may be that of another run's file by now.
+    Moved,
 }
 
 /// Makes an empty file beside a path, under a name that no other run has.
@@ -64,12 +77,12 @@ fn link_new<R: Files>(
     staged: &str,
     path: &str,
     text: &[u8],
-) -> Result<(), Reason>
+) -> Result<Put, Reason>
 where
     R::File: Lockable,
 {
     match fs::hard_link(rt, staged, path) {
-        Ok(()) => Ok(()),
+        Ok(()) => Ok(Put::Linked),
         Err(error) if error.kind() == ErrorKind::AlreadyExists => {
             settle(rt, alloc, staged, path, text)
         }
@@ -84,7 +97,7 @@ fn settle<R: Files>(
     staged: &str,
     path: &str,
     text: &[u8],
-) -> Result<(), Reason>
+) -> Result<Put, Reason>
 where
     R::File: Lockable,
 {
@@ -104,7 +117,7 @@ fn settle_once<R: Files>(
     staged: &str,
     path: &str,
     text: &[u8],
-) -> Result<(), Reason>
+) -> Result<Put, Reason>
 where
     R::File: Lockable,
 {
@@ -113,10 +126,11 @@ where
         return Err(Reason::StandsAlready);
     }
     if standing.len() == 0 {
-        return replace_empty(rt, staged, path);
+        replace_empty(rt, staged, path)?;
+        return Ok(Put::Moved);
     }
     if has_text(rt, alloc, path, text)? {
-        return Ok(());
+        return Ok(Put::Linked);
     }
     Err(Reason::StandsAlready)
 }
@@ -130,7 +144,7 @@ fn has_text<R: Files>(rt: &R, alloc: Global, path: &str, text: &[u8]) -> Result<
     }
 }
 
-/// Renames a file over an empty one, which no other run may do at the same time. Where one does, or has done so, that is
+/// Moves a file over an empty one, which no other run may do at the same time. Where one does, or has done so, that is
 /// told.
 fn replace_empty<R: Files>(rt: &R, staged: &str, path: &str) -> Result<(), Reason>
 where
