@@ -1,10 +1,10 @@
 """What docs/FORMATS.md says of drills: runs in memory that are known beforehand."""
 from __future__ import annotations
 
+from dataclasses import dataclass, field
 from functools import lru_cache
 
-from reference import (Header, Point, file_of_block, file_size, files_of_step, guessed_mask, header_words,
-                       hierarchical_address, level, parse_header, place_in_volume, points, present_blocks, z_address)
+from reference import Header, file_of_block, file_size, guessed_mask, header_words, parse_header, z_address
 
 
 def header_of(number: int) -> Header:
@@ -15,64 +15,76 @@ def header_of(number: int) -> Header:
     return parse_header(header_words([box, b"a uint8", mask, b"%d" % bits, b"4", b"./%06x.bin", b"0 0 time%04d/"]))
 
 
-def block(header: Header, point: Point) -> int:
-    """The block in which a point has its address."""
-    return hierarchical_address(point, header.mask) >> header.bits_per_block
+@dataclass
+class Seen:
+    """What the points of a drill's box have: of each level how many there are, the sum of their bytes and their blocks; the pairs of a piece and
+    a rank, and those of a piece and a file."""
+    samples: list[int]
+    sums: list[int]
+    blocks: list[set[int]]
+    parts: set[tuple[int, int]] = field(default_factory=set)
+    shipments: set[tuple[int, int]] = field(default_factory=set)
 
 
-def rank(header: Header, point: Point) -> int:
-    """The rank that has a point: the last axis is cut into equal parts."""
-    _, high = header.box[-1]
-    return point[-1] * min(4, high + 1) // (high + 1)
+def axis_parts(header: Header) -> list[list[int]]:
+    """For each axis what each coordinate gives of a Z address: each digit of the mask names a bit of one coordinate, so that an address is the
+    sum of these."""
+    points = [[tuple(at if other == axis else 0 for other in range(3)) for at in range(high + 1)] for axis, (_, high) in enumerate(header.box)]
+    return [[z_address(point, header.mask) for point in of_axis] for of_axis in points]
 
 
-def step_events(header: Header) -> int:
+def look_over(number: int, header: Header) -> Seen:
+    """Goes through the points of the box, axis 0 fastest. The last axis is cut into equal parts, one for each rank."""
+    digits, side = len(header.mask), 2 ** number
+    below = max(0, digits - 6)
+    seen = Seen([0] * (digits + 1), [0] * (digits + 1), [set() for _ in range(digits + 1)])
+    fast, middle, slow = axis_parts(header)
+    place = 0
+    for last, slow_part in enumerate(slow):
+        rank = last * min(4, side) // side
+        for middle_part in middle:
+            for part in fast:
+                address = part + middle_part + slow_part
+                level = digits + 1 - (address & -address).bit_length() if address else 0
+                block = (address | 1 << digits) // (2 << digits - level) >> header.bits_per_block if address else 0
+                seen.samples[level] += 1
+                seen.sums[level] += (31 * place + number) % 256
+                seen.blocks[level].add(block)
+                seen.parts.add((address >> below, rank))
+                seen.shipments.add((address >> below, file_of_block(block, header.blocks_per_file)))
+                place += 1
+    return seen
+
+
+def step_events(seen: Seen, files: int) -> int:
     """The events until the step is published: parts are given, pieces are shipped, and files are written."""
-    parts: set[tuple[int, int]] = set()
-    shipments: set[tuple[int, int]] = set()
-    for point in points(header.box):
-        piece = z_address(point, header.mask) >> max(0, len(header.mask) - 6)
-        parts.add((piece, rank(header, point)))
-        shipments.add((piece, file_of_block(block(header, point), header.blocks_per_file)))
-    return len(parts) + len(shipments) + len(files_of_step(header)) + 1
+    return len(seen.parts) + len(seen.shipments) + files + 1
 
 
-def question_events(header: Header) -> int:
+def question_events(seen: Seen) -> int:
     """The events of the questions: each looks and answers, and reads and keeps the blocks that no coarser level needs."""
-    needed: dict[int, set[int]] = {}
-    for point in points(header.box):
-        needed.setdefault(level(point, header.mask), set()).add(block(header, point))
     events, kept = 0, set()
-    for _, blocks in sorted(needed.items()):
+    for blocks in seen.blocks:
         missing = blocks - kept
         events += 2 + len(missing) + (1 if missing else 0)
         kept |= missing
     return events
 
 
-def level_lines(number: int, header: Header) -> list[bytes]:
-    """For each level how many points have it, and the sum of their bytes."""
-    counts, sums = [0] * (len(header.mask) + 1), [0] * (len(header.mask) + 1)
-    for point in points(header.box):
-        of_level = level(point, header.mask)
-        counts[of_level] += 1
-        sums[of_level] += (31 * place_in_volume(point, header.box) + number) % 256
-    return [b"level %d samples %d sum %d" % line for line in zip(range(len(counts)), counts, sums)]
-
-
 @lru_cache(maxsize=8)
 def drill_text(number: int) -> bytes:
     """All lines of a drill."""
     header = header_of(number)
-    blocks = present_blocks(header)
+    seen = look_over(number, header)
+    blocks = sorted(set().union(*seen.blocks))
     files = [file_of_block(block, header.blocks_per_file) for block in blocks]
     size = sum(file_size(header, files.count(file)) for file in set(files))
     lines = [
         b"box " + b" ".join(b"%d %d" % pair for pair in header.box),
-        *level_lines(number, header),
+        *(b"level %d samples %d sum %d" % line for line in zip(range(len(seen.samples)), seen.samples, seen.sums)),
         b"files %d bytes %d" % (len(set(files)), size),
         b"reads %d" % len(blocks),
-        b"events %d" % (step_events(header) + question_events(header)),
+        b"events %d" % (step_events(seen, len(set(files))) + question_events(seen)),
     ]
     return b"".join(line + b"\n" for line in lines)
 

@@ -6,7 +6,11 @@
 The volume has 512 by 512 by 1200 samples of one byte, 300 MiB of random bytes; its box ends between two powers of two. The files
 of four ranks have to be those of one, byte for byte. Questions for the two halves of the box have to give the raw volume back,
 and one for a coarse level its samples. The raw volume may not be read more than twice over: a window that is read for one piece
-holds samples of its neighbours too. The last line is `N passed, M failed`.
+holds samples of its neighbours too.
+
+Before, a volume of 768 MiB, all zeros in a file with holes, is converted by one rank and by four. A batch of pieces has 256 MiB of samples
+at most, and while the next one is read those of the last one may still have their memory: no conversion may take 640 MiB. One that
+reads the whole volume at once takes more than 768. The last line is `N passed, M failed`.
 """
 import hashlib
 import os
@@ -22,22 +26,26 @@ SIDE, DEPTH = 512, 1200
 VOLUME = SIDE * SIDE * DEPTH
 MASK = "V22" + "012" * 9
 LEVELS = len(MASK) - 1
+WIDE, HIGH = 1024, 768
+MOST_MEMORY = 640 * 2 ** 20
 
 
-def words(program, dataset, raw, ranks):
+def words(program, dataset, raw, ranks, side=SIDE, depth=DEPTH, mask=MASK):
     """The words of a conversion."""
-    box = f"0 {SIDE - 1} 0 {SIDE - 1} 0 {DEPTH - 1}"
-    texts = [box, "n uint8", MASK, "16", "64", "./%04x.bin", "0 0 time%04d/", "0"]
+    box = f"0 {side - 1} 0 {side - 1} 0 {depth - 1}"
+    texts = [box, "n uint8", mask, "16", "64", "./%04x.bin", "0 0 time%04d/", "0"]
     return [program, "convert", str(dataset), str(raw), *texts, "--ranks", str(ranks)]
 
 
 def converted(argv):
-    """Whether a conversion ends with 0 and says nothing, and how many bytes it read."""
+    """Whether a conversion ends with 0 and says nothing, how many bytes it read, and the most bytes of memory that it had at a time."""
     with subprocess.Popen(argv, stdin=subprocess.DEVNULL, stdout=subprocess.DEVNULL, stderr=subprocess.PIPE) as run:
         text = run.stderr.read()
         os.waitid(os.P_PID, run.pid, os.WEXITED | os.WNOWAIT)
         counts = dict(line.split(": ") for line in Path(f"/proc/{run.pid}/io").read_text().splitlines())
-    return run.returncode == 0 and not text, int(counts["rchar"])
+        _, status, used = os.wait4(run.pid, 0)
+        run.returncode = os.waitstatus_to_exitcode(status)
+    return run.returncode == 0 and not text, int(counts["rchar"]), used.ru_maxrss * 1024
 
 
 def sums(folder):
@@ -58,18 +66,33 @@ def coarse(raw, step):
     return b"".join(plane[y * SIDE:(y + 1) * SIDE:step] for plane in planes for y in range(0, SIDE, step))
 
 
+def hold_memory(program, top, results):
+    """Holds how much memory conversions of a volume take that is three times as large as a batch."""
+    raw = top / "wide.raw"
+    with raw.open("wb") as file:
+        file.truncate(WIDE * WIDE * HIGH)
+    for ranks in (1, 4):
+        is_done, _, memory = converted(words(program, top / "wide.idx", raw, ranks, WIDE, HIGH, "auto"))
+        results.hold(f"the end of {ranks} ranks with a larger volume", is_done)
+        results.hold(f"the memory of {ranks} ranks, {memory >> 20} MiB", memory < MOST_MEMORY)
+        shutil.rmtree(top / "time0000", ignore_errors=True)
+    raw.unlink()
+
+
 def main():
     program = words_of(__doc__).parse_args().program
     results = Results()
     with tempfile.TemporaryDirectory() as folder:
         top = Path(folder)
+        # First, since the system counts what this program had before it began another as the other's.
+        hold_memory(program, top, results)
         raw = top / "n.raw"
         raw.write_bytes(os.urandom(VOLUME))
         files = {}
         dataset = top / "n.idx"
         for ranks in (4, 1):
             shutil.rmtree(top / "time0000", ignore_errors=True)
-            is_done, read = converted(words(program, dataset, raw, ranks))
+            is_done, read, _ = converted(words(program, dataset, raw, ranks))
             results.hold(f"the end of {ranks} ranks", is_done)
             results.hold(f"what {ranks} ranks read", VOLUME <= read <= 2 * VOLUME + 2 ** 24)
             files[ranks] = sums(top / "time0000")
