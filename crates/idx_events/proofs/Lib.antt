@@ -7,3 +7,4 @@ pub mod RoundLemmas
 pub mod WorldLemmas
 pub mod StartLemmas
 pub mod TinyLemmas
+pub mod NewestLemmas

@@ -1,17 +1,28 @@
 -- What the events of asking need of a query, and what they make of it.
-use Rattle.std.specs.Prelude.{ℕ, ◌+◌, Bool, false, not, ◌&&◌, nat_eq, nat_lt, is_some, is_none, List, [], ◌∷◌, ◌++◌, length, map, take, filter, get_or, slice_get, Option, Some, None}
+use Rattle.std.specs.Prelude.{◌≡◌, ℕ, ◌+◌, Bool, false, not, ◌&&◌, nat_eq, nat_lt, is_some, is_none, List, [], ◌∷◌, ◌++◌, length, map, take, filter, get_or, slice_get, Option, Some, None}
 use Rattle.std.specs.Option.{option_map_or, option_or, unwrap_or}
 use Rattle.idx_events.specs.Lists.{has, joined}
-use Rattle.idx_hall.specs.Posts.{Post, bytes_at, newest}
+use Rattle.idx_hall.specs.Posts.{Post, IsNewestOf, bytes_at, newest}
 use Rattle.idx_hall.specs.Hall.{HallValue, named, noted}
 use Rattle.idx_hall.specs.declared.key.Key.{Key}
 use Rattle.idx_plan.specs.Needed.{key_of}
 use Rattle.idx_events.specs.Setting.{Setting}
-use Rattle.idx_events.specs.World.{Query, Round, loaded_in}
+use Rattle.idx_events.specs.World.{Query, Round, World, loaded_in}
 
 -- the post of a question: that which was noted in its first round, or, before that, the newest of its timestep
 abbrev pub post_for : List Post → Query → Option ℕ
 post_for board x = option_or x.post (newest board x.ask.time)
+
+-- the post that the question of a number has noted
+abbrev pub post_noted : ℕ → World → Option ℕ
+post_noted number w = option_map_or (λ x. x.post) (slice_get w.queries number) None
+
+-- what was noted is the newest post that the timestep has on the board
+pub record NotesNewest (board : List Post) (time : ℕ) (noted : Option ℕ) : Type 0 where
+  pub number : ℕ
+  pub post : Post
+  pub is : IsNewestOf board time number post
+  pub noted_is : noted ≡ Some number
 
 -- what is found of some keys in a post: nothing where there is no post
 abbrev pub found_in : Option ℕ → List Key → HallValue → List (Option (List ℕ))

@@ -9,5 +9,5 @@ mod phase;
 
 pub use event::Event;
 pub use examples::worked_run;
-pub use laws::events_keep;
+pub use laws::{events_keep, looks_are_of_the_newest};
 pub use phase::Phase;
