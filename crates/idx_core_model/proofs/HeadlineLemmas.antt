@@ -1,9 +1,15 @@
 -- The headline of every world that events lead to, out of what they keep.
-use Rattle.std.proofs.Common.{◌≡◌, ℕ, zero, suc, ◌+◌, ◌<◌, ◌≤◌, Bool, true, false, ◌&&◌, cond, nat_eq, is_none, List, [], ◌∷◌, length, map, filter, Option, Some, None, refl, sym, ap, ◌∙◌, subst, arith}
-use Rattle.std.specs.List.{AllByRecursion}
-use Rattle.std.specs.Option.{IsSome, is_some}
+use Rattle.std.proofs.Common.{◌≡◌, ℕ, zero, suc, ◌+◌, ◌<◌, ◌≤◌, Bool, true, false, ◌&&◌, cond, nat_eq, is_none, List, [], ◌∷◌, length, map, filter, slice_get, Option, Some, None, refl, sym, ap, ◌∙◌, subst, arith}
+use Rattle.std.specs.List.{AllByRecursion, slice_index_or}
+use Rattle.std.specs.Option.{IsSome, is_some, option_map_or}
 use Rattle.std.specs.Cmp.Derive.{both_true}
 use Rattle.std.proofs.lemmas.Bool.{eq-eqb, false≢true, le-leb, lt-ltb}
+use Rattle.idx_hz.specs.Answer.{answer}
+use Rattle.idx_layout.specs.Shape.{shape_of}
+use Rattle.idx_layout.specs.Step.{volume_of_raw}
+use Rattle.idx_hall.specs.Posts.{Post}
+use Rattle.idx_plan.proofs.AnswerLemmas.{all_levels}
+use Rattle.idx_events.specs.Queries.{post_at}
 use Rattle.idx_header.specs.Header.{HasTime, HasTimeAmong, HeaderValue, at_revision, volume_bytes}
 use Rattle.idx_header.specs.declared.steps.Steps.{Steps}
 use Rattle.idx_plan.specs.declared.ask.Ask.{Ask}
@@ -12,13 +18,13 @@ use Rattle.idx_events.specs.World.{World, Volume, Query, is_published}
 use Rattle.idx_events.specs.Volumes.{count_of, is_published_of, post_of, sealed_files}
 use Rattle.idx_events.specs.Events.{run, all_enabled}
 use Rattle.idx_events.specs.Start.{new_volumes, new_world, replayed}
-use Rattle.idx_events.specs.WorldOk.{WorldOk, AnswerOk, IsAnswerOf}
+use Rattle.idx_events.specs.WorldOk.{WorldOk, AnswerOk, HeldOk, IsAnswerOf}
 use Rattle.idx_events.specs.declared.event.Event.{Event}
-use Rattle.idx_events.proofs.ListLemmas.{AnyOf-each, Each-both, Each-filter, Each-weaker, map-agree}
+use Rattle.idx_events.proofs.ListLemmas.{AnyOf-each, no_Some, Each-both, Each-filter, Each-weaker, map-agree}
 use Rattle.idx_events.proofs.StartLemmas.{new-world, replay-keeps}
 use Rattle.idx_events.proofs.WorldLemmas.{keeps, keeps-all}
 use Rattle.idx_core_model.specs.Layers.{answer_of_raw, has_step_among, is_ask, is_raw, is_step, setting_of}
-use Rattle.idx_core_model.specs.Headline.{CanBeAsked, HeadlineHolds, IsAnswerFrom, IsDivided, IsTaken, files_of_volume, post_of_volume}
+use Rattle.idx_core_model.specs.Headline.{CanBeAsked, HeadlineHolds, IsAnswerFrom, IsDivided, IsTaken, files_of_volume, post_of_volume, region_samples}
 use Rattle.idx_core_model.proofs.SettingLemmas.{files_of_layers, layers_ok, raw_taken}
 
 -- ---- what a world takes
@@ -82,6 +88,27 @@ module _ (h : HeaderValue) (e n : ℕ) where
   post-is : (v : Volume) → length v.raw ≡ volume_bytes h → post_of (setting_of h e n) v ≡ post_of_volume h v
   post-is v whole = ap (λ files. post_of_files (setting_of h e n) v.time v.revision files) (files_of_layers h e n v.time v.revision v.raw whole) ∙ made-post v
 
+  shape-is : (setting_of h e n).shape ≡ shape_of h
+  unfolding setting_of
+  shape-is = refl
+
+  -- the post that a question noted is of its timestep, and so is the volume of this post
+  time-is : (board : List Post) (x : Query) (v : Volume) → HeldOk (setting_of h e n) board x → post_at board x ≡ Some (post_of (setting_of h e n) v) → v.time ≡ x.ask.time
+  time-is board x v held is = (elim x.post as (λ o. x.post ≡ o → option_map_or (slice_get board) o None ≡ Some (post_of (setting_of h e n) v) → v.time ≡ x.ask.time) [
+    | None ↦ λ none found. no_Some (post_of (setting_of h e n) v) found
+    | Some number ↦ λ noted found. let from = held.from number noted in
+        let same : Some (post_of (setting_of h e n) v) ≡ Some from.post = sym found ∙ from.is.at in
+        let posts : post_of (setting_of h e n) v ≡ from.post = (cc) in
+        ap (λ (p : Post). p.time) posts ∙ from.is.time
+  ]) refl is
+
+  -- all levels are all samples
+  whole-is : (raw : List ℕ) (ask : Ask) (bytes : List ℕ) → bytes ≡ answer_of_raw h raw ask → ask.lo ≡ 0 → ask.hi ≡ length h.mask → bytes ≡ region_samples h raw ask.field ask.region
+  whole-is raw ask bytes is lo hi =
+      is
+      ∙ (λ i. answer h.mask h.box (slice_index_or (volume_of_raw h raw) ask.field []) ask.region (lo i) (hi i))
+      ∙ all_levels h.mask h.box ask.region (slice_index_or (volume_of_raw h raw) ask.field [])
+
   answer-is : (raw : List ℕ) (ask : Ask) → (setting_of h e n).answer raw ask ≡ answer_of_raw h raw ask
   unfolding setting_of
   answer-is raw ask = refl
@@ -95,14 +122,17 @@ module _ (h : HeaderValue) (e n : ℕ) where
     posts = λ time. ok.board.posts time ∙ map-agree (post_of (setting_of h e n)) (post_of_volume h) (filter (is_published_of time) w.volumes)
         (Each-filter (λ v. post_of (setting_of h e n) v ≡ post_of_volume h v) (is_published_of time) w.volumes
         (Each-weaker (λ v. (setting_of h e n).valid_raw v.raw ≡ true) (λ v. post_of (setting_of h e n) v ≡ post_of_volume h v) (λ v whole. post-is v (raw-is v.raw whole)) w.volumes ok.volumes.whole));
+    shape = ok.shape ∙ shape-is;
     cache = ok.hall;
-    answers = Each-weaker (AnswerOk (setting_of h e n) w.volumes w.hall.board) _
-        (λ x answered bytes made. AnyOf-each (IsAnswerOf (setting_of h e n) w.hall.board x bytes) (λ v. (setting_of h e n).valid_raw v.raw ≡ true) (IsAnswerFrom h w.hall.board x bytes)
+    answers = Each-both (HeldOk (setting_of h e n) w.hall.board) (AnswerOk (setting_of h e n) w.volumes w.hall.board) _
+        (λ x held answered bytes made. AnyOf-each (IsAnswerOf (setting_of h e n) w.hall.board x bytes) (λ v. (setting_of h e n).valid_raw v.raw ≡ true) (IsAnswerFrom h w.hall.board x bytes)
         (λ v is whole. record {
           phase = is.phase;
+          time = time-is w.hall.board x v held is.post;
           post = is.post ∙ ap Some (post-is v (raw-is v.raw whole));
           answer = is.answer ∙ answer-is v.raw x.ask;
-        }) w.volumes (answered bytes made) ok.volumes.whole) w.queries ok.answers;
+          whole = whole-is v.raw x.ask bytes (is.answer ∙ answer-is v.raw x.ask);
+        }) w.volumes (answered bytes made) ok.volumes.whole) w.queries ok.held ok.answers;
   }
 
   -- after events that may happen
