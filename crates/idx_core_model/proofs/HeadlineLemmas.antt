@@ -1,5 +1,5 @@
 -- The headline of every world that events lead to, out of what they keep.
-use Rattle.std.proofs.Common.{◌≡◌, ℕ, zero, suc, ◌+◌, ◌<◌, ◌≤◌, Bool, true, false, ◌&&◌, cond, nat_eq, is_none, List, [], ◌∷◌, length, map, filter, slice_get, Option, Some, None, refl, sym, ap, ◌∙◌, subst, arith}
+use Rattle.std.proofs.Common.{◌≡◌, ℕ, suc, ◌+◌, ◌<◌, ◌≤◌, true, false, cond, nat_eq, is_none, List, [], ◌∷◌, length, map, filter, slice_get, Option, Some, None, refl, sym, ap, ◌∙◌, arith}
 use Rattle.std.specs.List.{AllByRecursion, slice_index_or}
 use Rattle.std.specs.Option.{IsSome, is_some, option_map_or}
 use Rattle.std.specs.Cmp.Derive.{both_true}
@@ -10,7 +10,7 @@ use Rattle.idx_layout.specs.Step.{volume_of_raw}
 use Rattle.idx_hall.specs.Posts.{Post}
 use Rattle.idx_plan.proofs.AnswerLemmas.{all_levels}
 use Rattle.idx_events.specs.Queries.{post_at}
-use Rattle.idx_header.specs.Header.{HasTime, HasTimeAmong, HeaderValue, at_revision, volume_bytes}
+use Rattle.idx_header.specs.Header.{HasTime, HasTimeAmong, HeaderValue, volume_bytes}
 use Rattle.idx_header.specs.declared.steps.Steps.{Steps}
 use Rattle.idx_plan.specs.declared.ask.Ask.{Ask}
 use Rattle.idx_events.specs.Setting.{post_of_files}
@@ -22,8 +22,8 @@ use Rattle.idx_events.specs.WorldOk.{WorldOk, AnswerOk, HeldOk, IsAnswerOf}
 use Rattle.idx_events.specs.declared.event.Event.{Event}
 use Rattle.idx_events.proofs.ListLemmas.{AnyOf-each, no_Some, Each-both, Each-filter, Each-weaker, map-agree}
 use Rattle.idx_events.proofs.StartLemmas.{new-world, replay-keeps}
-use Rattle.idx_events.proofs.WorldLemmas.{keeps, keeps-all}
-use Rattle.idx_core_model.specs.Layers.{answer_of_raw, has_step_among, is_ask, is_raw, is_step, setting_of}
+use Rattle.idx_events.proofs.WorldLemmas.{keeps-all}
+use Rattle.idx_core_model.specs.Layers.{answer_of_raw, has_step_among, setting_of}
 use Rattle.idx_core_model.specs.Headline.{CanBeAsked, HeadlineHolds, IsAnswerFrom, IsDivided, IsTaken, files_of_volume, post_of_volume, region_samples}
 use Rattle.idx_core_model.proofs.SettingLemmas.{files_of_layers, layers_ok, raw_taken}
 
