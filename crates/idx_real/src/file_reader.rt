@@ -1,19 +1,19 @@
 ghost use Rattle.std.specs.Prelude.{◌≡◌, ◌↔◌, ◌<◌, ◌+◌, ◌%◌, ◌^◌, length, None, IsSome, option_map, OnOk, OnErr};
 ghost use Rattle.idx_outside.specs.Cause.{counted, NeverFalls, Rose};
 ghost use Rattle.idx_real.specs.Faults.{no_faults};
-ghost use Rattle.idx_real.specs.Placed.{WasReadAt, OfItsFile};
+ghost use Rattle.idx_real.specs.Placed.{WasReadAt};
+ghost use Rattle.idx_real.specs.ReaderState.{IsOpenAt, OfFileAt};
 
 use crate::fault_log::FaultLog;
-use crate::placed::read_range;
-use crate::regular_file::open_regular;
+use crate::opened::{Opened, read_new};
 use crate::{Fault, FileLeaf, Reason};
 use idx_outside::{Outage, Reader};
 use std::alloc::Global;
 use std::marker::Model;
 use std::rt::Files;
 
-/// A reader of finished files. The file that was read last stays open. A contract sees how many reads there were,
-/// and how many bytes they asked for, both modulo 2^64, and the faults.
+/// A reader of finished files. The file that was read last stays open. A contract sees that file with its path, how many
+/// reads there were, and how many bytes they asked for, both modulo 2^64, and the faults.
 ///
 /// Each is one fault: a path that cannot be opened, what is no regular file, a read that fails, and a range that passes
 /// the file's end.
@@ -28,25 +28,18 @@ pub struct FileReader<R: Files + Drop> {
     log: FaultLog,
 }
 
-/// An open file, and its path.
-#[derive(Drop)]
-struct Opened<F: Drop> {
-    path: String,
-    file: F,
-}
-
 impl<R: Files + Drop> Model for FileReader<R> {
     ghost use Rattle.idx_real.specs.ReaderState.{ReaderState};
 
-    ghost Value = { ReaderState };
+    ghost Value = { ReaderState R.File };
 
-    ghost view = { λ s. record { reads = s.reads; asked = s.asked; faults = s.log } };
+    ghost view = { λ s. record { last = s.last; reads = s.reads; asked = s.asked; faults = s.log } };
 }
 
 impl<R: Files + Drop> FileReader<R> {
     /// Opens nothing yet and takes no memory.
     pub fn new(rt: R, alloc: Global) -> FileReader<R>
-        ensures { result ≡ record { reads = 0; asked = 0; faults = no_faults } }
+        ensures { result ≡ record { last = None; reads = 0; asked = 0; faults = no_faults } }
     {
         FileReader {
             rt,
@@ -87,8 +80,10 @@ impl<R: Files + Drop> Reader<FileLeaf> for FileReader<R> {
     ghost asked = { λ s. s.asked };
 
     fn read_at(&mut self, leaf: &FileLeaf, at: u64, into: &mut [u8]) -> Result<(), Outage>
-        ensures read { OnOk result (OfItsFile None
+        ensures read { OnOk result (OfFileAt self.old.last leaf.now.path
             (λ f. WasReadAt R.File.remaining R.File.stream_position R.File.stream_bytes f at into.new)) }
+        ensures stays { OnOk result (IsOpenAt leaf.now.path self.new.last) }
+        ensures kept { OnErr result (option_map (λ o. o.path) self.new.last ≡ option_map (λ o. o.path) self.old.last) }
         ensures reads { self.new.reads ≡ (self.old.reads + 1) % 2 ^ 64 }
         ensures asked { self.new.asked ≡ (self.old.asked + length into.old) % 2 ^ 64 }
         ensures quiet { OnOk result (self.new.faults ≡ self.old.faults) }
@@ -110,7 +105,7 @@ impl<R: Files + Drop> Reader<FileLeaf> for FileReader<R> {
     }
 }
 
-/// Reads a file that is open already, or opens it. It stays open where there is memory for its path.
+/// Reads the file of this path, which is open already, or is opened. It stays open where there is memory for its path.
 fn read_of<R: Files>(
     rt: &R,
     alloc: Global,
@@ -119,18 +114,16 @@ fn read_of<R: Files>(
     at: u64,
     into: &mut [u8],
 ) -> Result<(), Reason>
-    ensures { OnOk result (OfItsFile None
+    ensures read { OnOk result (OfFileAt last.old path.now
         (λ f. WasReadAt R.File.remaining R.File.stream_position R.File.stream_bytes f at into.new)) }
+    ensures stays { OnOk result (IsOpenAt path.now last.new) }
+    ensures kept { OnErr result (option_map (λ o. o.path) last.new ≡ option_map (λ o. o.path) last.old) }
 {
     if let Some(opened) = last {
-        if opened.path.as_str() == path {
-            return read_range(&mut opened.file, at, into);
+        if opened.is_at(path) {
+            return opened.read(path, at, into);
         }
     }
-    let mut file = open_regular(rt, path)?;
-    read_range(&mut file, at, into)?;
-    if let Ok(path) = String::from_str(alloc, path) {
-        *last = Some(Opened { path, file });
-    }
+    *last = read_new(rt, alloc, path, at, into)?;
     Ok(())
 }

@@ -11,6 +11,7 @@ mod file_source;
 mod folder_bay;
 mod header_file;
 mod lock;
+mod opened;
 mod patience;
 mod placed;
 mod refusal;

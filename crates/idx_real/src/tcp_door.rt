@@ -3,6 +3,7 @@ ghost use Rattle.std.specs.Arc.{arc_value};
 ghost use Rattle.idx_outside.specs.Cause.{counted, NeverFalls, Rose};
 ghost use Rattle.idx_real.specs.DoorState.{one_less};
 ghost use Rattle.idx_real.specs.Faults.{no_faults};
+ghost use Rattle.idx_real.specs.LinkState.{most_read};
 
 use crate::fault_log::FaultLog;
 use crate::{Fault, Patience, Reason, SharedListener, Sockets, TcpLink};
@@ -76,6 +77,7 @@ impl<R: Sockets> TcpDoor<R> {
     /// The next connection.
     fn next(&mut self) -> Result<TcpLink<TcpStream, R>, Reason>
         ensures fresh { IfOk result (λ link. link.faults ≡ no_faults) }
+        ensures unread { IfOk result (λ link. link.left ≡ most_read) }
         ensures same { self.new ≡ self.old }
     {
         let listener = opened(&self.rt, &self.shared, &mut self.listener)?;
@@ -94,6 +96,7 @@ impl<R: Sockets> Door for TcpDoor<R> {
         ensures none { IfOk result (λ next. IsNone next ↔ (self.old.left ≡ Some 0)) }
         ensures ended { self.old.left ≡ Some 0 → IsOk result }
         ensures fresh { IfOk result (λ next. IfSome next (λ link. link.faults ≡ no_faults)) }
+        ensures unread { IfOk result (λ next. IfSome next (λ link. link.left ≡ most_read)) }
         ensures address { self.new.address ≡ self.old.address }
         ensures left { self.new.left ≡ (if is_ok result then one_less self.old.left else self.old.left) }
         ensures quiet { OnOk result (self.new.faults ≡ self.old.faults) }
@@ -140,7 +143,8 @@ fn first_begun<R: Clock + Copy>(
     listener: &TcpListener,
     patience: Patience,
 ) -> Result<TcpLink<TcpStream, R>, Reason>
-    ensures { IfOk result (λ link. link.faults ≡ no_faults) }
+    ensures fresh { IfOk result (λ link. link.faults ≡ no_faults) }
+    ensures unread { IfOk result (λ link. link.left ≡ most_read) }
 {
     let mut given_up = io::Error::from(ErrorKind::ConnectionAborted);
     for _ in 0..MOST_GIVEN_UP {
