@@ -18,3 +18,6 @@ pub mod StreamLemmas
 pub mod SealedLemmas
 pub mod ClosingLemmas
 pub mod GatherLemmas
+pub mod SumLemmas
+pub mod CountLemmas
+pub mod LoadLemmas

@@ -1,8 +1,9 @@
 -- What a refusal within a window says of the whole.
-use Rattle.std.proofs.Common.{◌≡◌, ℕ, List, drop, sym, subst, ◌∙◌, arith, inl, inr}
-use Rattle.std.specs.Prelude.{IfErr, Option, Result, Ok, Err}
+use Rattle.std.proofs.Common.{◌≡◌, ℕ, List, drop, sym, ap, subst, ◌∙◌, arith, inl, inr}
+use Rattle.std.specs.Prelude.{IfErr, slice_index, Option, Result, Ok, Err}
 use Rattle.std.specs.Result.{IsErrAnd}
 use Rattle.idx_outside.specs.Cause.{Rose}
+use Rattle.idx_outside.specs.Counts.{EachMeetsOnce}
 use Rattle.idx_outside.specs.declared.bay_call.BayCall.{BayCall}
 use Rattle.idx_outside.specs.declared.mem_file.MemFile.{MemFile}
 use Rattle.idx_header.specs.Header.{HeaderValue}
@@ -65,3 +66,15 @@ caused_moved h g told raw start before after first mid last fault header same st
     (subst (λ (xs : List ℕ). IsCaused h told xs after mid last fault) starts
     (subst (λ (o : Option (List ℕ)). IsCaused h o before after mid last fault) same
     (subst (λ (x : HeaderValue). IsCaused x raw before after mid last fault) header cause)))
+
+-- where no count has changed, none has met a fault
+pub none_met : (old new : List ℕ) → new ≡ old → EachMeetsOnce old new
+none_met old new same = λ i. let own : slice_index new i ≡ slice_index old i = ap (λ (xs : List ℕ). slice_index xs i) same in omega (arith, own)
+
+-- faults are met once where no count had changed before
+pub each_again : (old middle new : List ℕ) → middle ≡ old → EachMeetsOnce middle new → EachMeetsOnce old new
+each_again old middle new same once = subst (λ (xs : List ℕ). EachMeetsOnce xs new) same once
+
+-- nor where none changes behind
+pub each_still : (old middle new : List ℕ) → new ≡ middle → EachMeetsOnce old middle → EachMeetsOnce old new
+each_still old middle new same once = subst (λ (xs : List ℕ). EachMeetsOnce old xs) (sym same) once

@@ -3,3 +3,4 @@ pub mod Windows
 pub mod States
 pub mod Streams
 pub mod Causes
+pub mod Bytes

@@ -1,4 +1,5 @@
 ghost use Rattle.std.specs.Prelude.{◌≡◌, ◌<◌, ◌++◌, ℕ, All, IfErr, IfOk, List, OnOk, Some, drop, length, map, vec_len};
+ghost use Rattle.idx_outside.specs.Counts.{EachMeetsOnce};
 ghost use Rattle.idx_outside.specs.Objects.{SameContents, contents_at};
 ghost use Rattle.idx_pieces.specs.Ranks.{rank_count};
 ghost use Rattle.idx_pieces.specs.Samples.{raw_sample};
@@ -48,6 +49,7 @@ impl<L: Leaf> Docking<L> {
         ensures idle { drop (rank_count self.opening.header.box (vec_len raws.old)) raws.new.items
             ≡ drop (rank_count self.opening.header.box (vec_len raws.old)) raws.old.items }
         ensures raw_count { NoneFalls (map V.faults raws.old.items) (map V.faults raws.new.items) }
+        ensures raw_once { EachMeetsOnce (map V.faults raws.old.items) (map V.faults raws.new.items) }
     {
         // The box has axes and points, so that some rank has a part of it.
         let _axes = self.opening.header.axes();

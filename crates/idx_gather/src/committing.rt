@@ -1,6 +1,6 @@
 ghost use Rattle.std.specs.Prelude.{◌≡◌, ◌≢◌, ◌⊎◌, ℕ, Err, IfOk, List, None, OnErr, OnOk};
 ghost use Rattle.std.specs.Option.{ForSome};
-ghost use Rattle.idx_outside.specs.Cause.{NeverFalls, Rose};
+ghost use Rattle.idx_outside.specs.Cause.{MeetsOnce, NeverFalls, Rose};
 ghost use Rattle.idx_outside.specs.Files.{AllNamed, HasStep as HasCommitted, shown};
 ghost use Rattle.idx_header.specs.Names.{step_folder};
 ghost use Rattle.idx_layout.specs.Shape.{shape_of};
@@ -53,6 +53,7 @@ pub(crate) fn commit_leaves<B: Bay>(
     ensures header { B.header bay.new ≡ B.header bay.old }
     ensures begun { B.begun bay.new ≡ B.begun bay.old }
     ensures count { NeverFalls (B.faults bay.old) (B.faults bay.new) }
+    ensures once { MeetsOnce (B.faults bay.old) (B.faults bay.new) }
     ensures quiet { OnOk result (B.faults bay.new ≡ B.faults bay.old) }
     ensures no_memory { result ≡ Err BayFault.NoMemory → B.faults bay.new ≡ B.faults bay.old }
     ensures outage { result ≡ Err BayFault.Outage → Rose (B.faults bay.old) (B.faults bay.new) }

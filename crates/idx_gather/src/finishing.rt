@@ -1,6 +1,6 @@
 ghost use Rattle.std.specs.Prelude.{◌≡◌, ◌⊎◌, ℕ, IfErr, IfOk, List, None, OnErr, OnOk, length};
 ghost use Rattle.std.specs.Option.{ForSome};
-ghost use Rattle.idx_outside.specs.Cause.{NeverFalls};
+ghost use Rattle.idx_outside.specs.Cause.{MeetsOnce, NeverFalls};
 ghost use Rattle.idx_outside.specs.Files.{HasStep as HasCommitted, shown};
 ghost use Rattle.idx_header.specs.Names.{step_folder};
 ghost use Rattle.idx_layout.specs.Shape.{shape_of};
@@ -76,6 +76,7 @@ impl<L: Leaf> Sealed<L> {
         ensures begun { B.begun bay.new ≡ B.begun bay.old }
         ensures failed { LeavesFailed (B.files bay.old) (B.files bay.new) (B.failed bay.old) (B.failed bay.new) result }
         ensures count { NeverFalls (B.faults bay.old) (B.faults bay.new) }
+        ensures once { MeetsOnce (B.faults bay.old) (B.faults bay.new) }
         ensures quiet { OnOk result (B.faults bay.new ≡ B.faults bay.old) }
     {
         let Sealed {

@@ -1,4 +1,5 @@
 ghost use Rattle.std.specs.Prelude.{◌≡◌, ◌≢◌, ◌<◌, ◌≤◌, ℕ, IfErr, OnOk, drop, map, vec_len};
+ghost use Rattle.idx_outside.specs.Counts.{EachMeetsOnce};
 ghost use Rattle.idx_outside.specs.Objects.{SameContents, contents_at};
 ghost use Rattle.idx_gather.specs.Gather.{HasVolume, IsCaused, NoneFalls};
 
@@ -17,6 +18,7 @@ pub(crate) fn check_length<V: Source>(header: &Header, raws: &mut Vec<V>) -> Res
     ensures same { SameContents V.contents raws.old.items raws.new.items }
     ensures idle { (n : ℕ) → 1 ≤ n → drop n raws.new.items ≡ drop n raws.old.items }
     ensures raw_count { NoneFalls (map V.faults raws.old.items) (map V.faults raws.new.items) }
+    ensures raw_once { EachMeetsOnce (map V.faults raws.old.items) (map V.faults raws.new.items) }
     ensures number { vec_len raws.new ≡ vec_len raws.old }
 {
     let want = header.volume_bytes();

@@ -5,6 +5,7 @@ ghost use Rattle.idx_header.specs.Names.{file_name};
 ghost use Rattle.idx_gather.specs.Gather.{IsStoreFault, LeavesFailed};
 ghost use Rattle.idx_gather.specs.States.{AreFull};
 ghost use Rattle.idx_seal.specs.Files.{dock_file};
+ghost use Rattle.idx_seal.specs.Rows.{MeetsOnceOrRow};
 
 use crate::docks::look_over;
 use crate::{Docking, GatherFault, Opening};
@@ -47,6 +48,7 @@ impl<L: Leaf> Docking<L> {
         ensures still { StillAdmits B.admits bay.old bay.new }
         ensures failed { LeavesFailed (B.files bay.old) (B.files bay.new) (B.failed bay.old) (B.failed bay.new) result }
         ensures count { NeverFalls (B.faults bay.old) (B.faults bay.new) }
+        ensures once { MeetsOnceOrRow (B.failed bay.new) self.opening.ranks (B.faults bay.old) (B.faults bay.new) }
         ensures quiet { OnOk result (B.faults bay.new ≡ B.faults bay.old) }
     {
         let Docking {

@@ -1,10 +1,12 @@
 ghost use Rattle.std.specs.Prelude.{◌≡◌, ◌<◌, ◌^◌, ℕ, [], IfErr, IfOk, List, OnOk, drop, length, map, vec_len};
 ghost use Rattle.idx_outside.specs.Cause.{NeverFalls};
+ghost use Rattle.idx_outside.specs.Counts.{EachMeetsOnce};
 ghost use Rattle.idx_outside.specs.Files.{StillAdmits, shown};
 ghost use Rattle.idx_outside.specs.Objects.{SameContents, contents_at};
 ghost use Rattle.idx_header.specs.Header.{HeaderValue};
 ghost use Rattle.idx_header.specs.Names.{file_name};
 ghost use Rattle.idx_pieces.specs.Ranks.{rank_count};
+ghost use Rattle.idx_seal.specs.Rows.{MeetsOnceOrRow};
 ghost use Rattle.idx_gather.specs.Gather.{HasVolume, HaveSame, IsCaused, LeavesFailed, NoneFalls};
 ghost use Rattle.idx_gather.specs.States.{AreFirstFiles, HaveSamples};
 ghost use Rattle.idx_gather.specs.Streams.{AreOpen};
@@ -54,11 +56,13 @@ where
     ensures idle { drop (rank_count opening.header.box (vec_len raws.old)) raws.new.items
         ≡ drop (rank_count opening.header.box (vec_len raws.old)) raws.old.items }
     ensures raw_count { NoneFalls (map V.faults raws.old.items) (map V.faults raws.new.items) }
+    ensures raw_once { EachMeetsOnce (map V.faults raws.old.items) (map V.faults raws.new.items) }
     ensures files { B.files bay.new ≡ B.files bay.old }
     ensures header { B.header bay.new ≡ B.header bay.old }
     ensures begun { B.begun bay.new ≡ B.begun bay.old }
     ensures failed { LeavesFailed (B.files bay.old) (B.files bay.new) (B.failed bay.old) (B.failed bay.new) result }
     ensures count { NeverFalls (B.faults bay.old) (B.faults bay.new) }
+    ensures once { MeetsOnceOrRow (B.failed bay.new) opening.ranks (B.faults bay.old) (B.faults bay.new) }
     ensures quiet { OnOk result (B.faults bay.new ≡ B.faults bay.old) }
 {
     let mut opening = opening;
@@ -113,12 +117,14 @@ where
     ensures idle { drop (rank_count stream.opening.header.box (vec_len raws.old)) raws.new.items
         ≡ drop (rank_count stream.opening.header.box (vec_len raws.old)) raws.old.items }
     ensures raw_count { NoneFalls (map V.faults raws.old.items) (map V.faults raws.new.items) }
+    ensures raw_once { EachMeetsOnce (map V.faults raws.old.items) (map V.faults raws.new.items) }
     ensures files { B.files bay.new ≡ B.files bay.old }
     ensures header { B.header bay.new ≡ B.header bay.old }
     ensures begun { B.begun bay.new ≡ B.begun bay.old }
     ensures still { StillAdmits B.admits bay.old bay.new }
     ensures failed { LeavesFailed (B.files bay.old) (B.files bay.new) (B.failed bay.old) (B.failed bay.new) result }
     ensures count { NeverFalls (B.faults bay.old) (B.faults bay.new) }
+    ensures once { MeetsOnceOrRow (B.failed bay.new) stream.opening.ranks (B.faults bay.old) (B.faults bay.new) }
     ensures quiet { OnOk result (B.faults bay.new ≡ B.faults bay.old) }
 {
     let mut stream = stream;

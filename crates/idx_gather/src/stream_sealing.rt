@@ -5,6 +5,7 @@ ghost use Rattle.idx_outside.specs.Cause.{NeverFalls};
 ghost use Rattle.idx_outside.specs.Files.{AllNamed, StillAdmits};
 ghost use Rattle.idx_header.specs.Names.{file_name};
 ghost use Rattle.idx_dock.specs.Dock.{IsDock};
+ghost use Rattle.idx_seal.specs.Rows.{MeetsOnceOrRow};
 ghost use Rattle.idx_gather.specs.Gather.{IsStoreFault, LeavesFailed};
 ghost use Rattle.idx_gather.specs.States.{AreFull};
 ghost use Rattle.idx_gather.specs.Streams.{dock_entry, full_docks, numbered, other_docks};
@@ -45,6 +46,7 @@ where
     ensures still { StillAdmits B.admits bay.old bay.new }
     ensures failed { LeavesFailed (B.files bay.old) (B.files bay.new) (B.failed bay.old) (B.failed bay.new) result }
     ensures count { NeverFalls (B.faults bay.old) (B.faults bay.new) }
+    ensures once { MeetsOnceOrRow (B.failed bay.new) stream.opening.ranks (B.faults bay.old) (B.faults bay.new) }
     ensures quiet { OnOk result (B.faults bay.new ≡ B.faults bay.old) }
 {
     let Stream {
@@ -108,6 +110,7 @@ where
     ensures still { StillAdmits B.admits bay.old bay.new }
     ensures failed { LeavesFailed (B.files bay.old) (B.files bay.new) (B.failed bay.old) (B.failed bay.new) result }
     ensures count { NeverFalls (B.faults bay.old) (B.faults bay.new) }
+    ensures once { MeetsOnceOrRow (B.failed bay.new) opening.now.ranks (B.faults bay.old) (B.faults bay.new) }
     ensures quiet { OnOk result (B.faults bay.new ≡ B.faults bay.old) }
 {
     let numbers = numbers_of(alloc, &docks)?;

@@ -1,5 +1,6 @@
 //! A window begins, and the next batch of its pieces is read and handed to the aggregators.
 ghost use Rattle.std.specs.Prelude.{◌≡◌, ◌≢◌, ◌⊎◌, ◌<◌, ◌≤◌, ◌++◌, ℕ, [], All, IfErr, IfOk, List, OnOk, Some, drop, length, map, vec_len};
+ghost use Rattle.idx_outside.specs.Counts.{EachMeetsOnce};
 ghost use Rattle.idx_outside.specs.Objects.{SameContents, contents_at};
 ghost use Rattle.idx_header.specs.Header.{HeaderValue, volume_bytes};
 ghost use Rattle.idx_pieces.specs.Pieces.{IsPiece};
@@ -11,19 +12,15 @@ ghost use Rattle.idx_gather.specs.Gather.{HasVolume, HaveSame, IsCaused, NoneFal
 ghost use Rattle.idx_gather.specs.States.{HaveSamples};
 ghost use Rattle.idx_gather.specs.Streams.{AreOpen, IsNextWindow};
 
-use crate::batch::batch_count;
+use crate::batch::read_batch;
 use crate::begun::opens_few;
 use crate::docks::make_window;
-use crate::length::check_length;
 use crate::stream::Stream;
 use crate::window::window_count;
 use crate::{GatherFault, Opening};
-use idx_aggregate::ship_loads;
 use idx_dock::Dock;
-use idx_header::Header;
 use idx_outside::{Gate, Leaf, NoMemory, Source};
 use idx_pieces::Piece;
-use idx_ranks::{Load, read_loads};
 use std::alloc::Global;
 use std::thread::Threads;
 
@@ -112,6 +109,7 @@ pub(crate) fn deliver<L: Leaf, V: Source + Send, G: Gate, R: Threads + Sync>(
     ensures idle { drop (rank_count stream.opening.header.box (vec_len raws.old)) raws.new.items
         ≡ drop (rank_count stream.opening.header.box (vec_len raws.old)) raws.old.items }
     ensures raw_count { NoneFalls (map V.faults raws.old.items) (map V.faults raws.new.items) }
+    ensures raw_once { EachMeetsOnce (map V.faults raws.old.items) (map V.faults raws.new.items) }
 {
     // The box has axes and points, and the pieces lie in it.
     let _axes = stream.opening.header.axes();
@@ -121,64 +119,12 @@ pub(crate) fn deliver<L: Leaf, V: Source + Send, G: Gate, R: Threads + Sync>(
         left,
         sealed,
     } = stream;
-    let (loads, rest) = read_batch(rt, alloc, &opening.header, opening.room, left, raws, gate)?;
-    let docks = ship_loads(
-        rt,
-        alloc,
-        &opening.header,
-        loads,
-        docks,
-        opening.ranks,
-        gate,
-    )?;
+    let (batch, rest) = read_batch(rt, alloc, &opening.header, opening.room, left, raws, gate)?;
+    let docks = batch.ship(rt, alloc, &opening, docks, gate)?;
     Ok(Stream {
         opening,
         docks,
         left: rest,
         sealed,
     })
-}
-
-/// Reads the next batch of the pieces that are left, if any are: as many as fit into the room together, or one. Those
-/// behind it are still left. The first raw volume's length is asked first.
-fn read_batch<V: Source + Send, G: Gate, R: Threads + Sync>(
-    rt: &R,
-    alloc: Global,
-    header: &Header,
-    room: u64,
-    left: Vec<Piece>,
-    raws: &mut Vec<V>,
-    gate: &G,
-) -> Result<(Vec<Load>, Vec<Piece>), GatherFault>
-    requires some { 0 < vec_len raws.old }
-    requires few { vec_len raws.old ≤ 256 }
-    requires alike { HaveSame V.contents raws.old.items }
-    requires right { HasVolume header.now (contents_at V.contents raws.old.items 0) }
-    requires pieces { All (IsPiece header.now) left.items }
-    requires ranks { All (λ piece. piece.of_ranks ≡ vec_len raws.old) left.items }
-    ensures left { IfOk result (λ read. pieces_in read.0.items ++ read.1.items ≡ left.items) }
-    ensures moves { IfOk result (λ read. (length read.1.items < length left.items) ⊎ (read.1.items ≡ [])) }
-    ensures loads { IfOk result (λ read. All (IsLoad header.now) read.0.items) }
-    ensures samples { IfOk result (λ read. (bytes : List ℕ) → contents_at V.contents raws.old.items 0 ≡ Some bytes →
-        All (HoldsLoad header.now (raw_sample header.now bytes)) read.0.items) }
-    ensures cause { (count : ℕ) → IfErr result (IsCaused header.now (contents_at V.contents raws.old.items 0)
-        (map V.faults raws.old.items) (map V.faults raws.new.items) count count) }
-    ensures quiet { OnOk result (map V.faults raws.new.items ≡ map V.faults raws.old.items) }
-    ensures number { vec_len raws.new ≡ vec_len raws.old }
-    ensures same { SameContents V.contents raws.old.items raws.new.items }
-    ensures idle { drop (rank_count header.now.box (vec_len raws.old)) raws.new.items
-        ≡ drop (rank_count header.now.box (vec_len raws.old)) raws.old.items }
-    ensures raw_count { NoneFalls (map V.faults raws.old.items) (map V.faults raws.new.items) }
-{
-    // The box has axes and points, so that some rank has a part of it.
-    let _axes = header.axes();
-    check_length(header, raws)?;
-    let mut left = left;
-    let count = batch_count(header, &left, room);
-    let rest = match left.split_off(count) {
-        Ok(rest) => rest,
-        Err(_) => return Err(GatherFault::NoMemory),
-    };
-    let loads = read_loads(rt, alloc, header, left, raws, gate)?;
-    Ok((loads, rest))
 }

@@ -1,4 +1,1 @@
-pub mod SumLemmas
-pub mod CountLemmas
-pub mod LoadLemmas
 pub mod OpenLemmas

@@ -11,7 +11,7 @@ ghost use Rattle.idx_aggregate.specs.Docks.{has_id, pieces_in};
 ghost use Rattle.idx_gather.specs.States.{AreDocks, AreLoads, HasAllBut, IsOpening};
 ghost use Rattle.idx_gather.specs.Streams.{AreOpen, open_bytes};
 ghost use Rattle.idx_gather.specs.Windows.{FitOrIsOne};
-ghost use Rattle.idx_memory_bound.specs.Bytes.{load_bytes};
+ghost use Rattle.idx_gather.specs.Bytes.{load_bytes};
 ghost use Rattle.idx_memory_bound.specs.Open.{begun_bytes};
 
 /// The parcels of a piece have together exactly as many bytes as the samples of the piece.

@@ -5,8 +5,8 @@ use Rattle.std.specs.Global.{Vec}
 use Rattle.std.proofs.lemmas.Bool.{cases_lt}
 use Rattle.std.proofs.lemmas.List.{ext_get_or, get_or-map, get_or_past, length-map}
 use Rattle.idx_header.specs.Header.{HeaderValue, volume_bytes}
-use Rattle.idx_outside.specs.Cause.{NeverFalls, Rose}
-use Rattle.idx_outside.specs.Counts.{NoneFell}
+use Rattle.idx_outside.specs.Cause.{MeetsOnce, NeverFalls, Rose}
+use Rattle.idx_outside.specs.Counts.{EachMeetsOnce, NoneFell}
 use Rattle.idx_outside.specs.Objects.{SameContents}
 use Rattle.idx_pieces.specs.Parcels.{AreParcelsOf, IsFull}
 use Rattle.idx_pieces.specs.Ranks.{rank_count, rank_region}
@@ -104,6 +104,19 @@ module _ {V : Type 0} (contents : V → Option (List ℕ)) (faults asked : V →
       outside : (i : ℕ) → length old ≤ i → NeverFalls (slice_index (map faults old) i) (slice_index (map faults new) i)
       outside i past =
           let none : slice_index (map faults old) i ≡ 0 = get_or_past (map faults old) i 0 (omega (arith, past, length-map old faults)) in
+          omega (arith, none)
+
+  pub each_once : EachMeetsOnce (map faults old) (map faults new)
+  each_once i = ⊎_elim inside outside (cases_lt i (length old))
+    where
+      inside : i < length old → MeetsOnce (slice_index (map faults old) i) (slice_index (map faults new) i)
+      inside lt =
+          let d : V = some_of old i lt in
+          rw (count_at old i d lt, count_at new i d (in_new i lt)) ((are.each i d (some_of reads i (in_reads i lt)) lt).raw.once)
+
+      outside : length old ≤ i → MeetsOnce (slice_index (map faults old) i) (slice_index (map faults new) i)
+      outside past =
+          let none : slice_index (map faults new) i ≡ 0 = get_or_past (map faults new) i 0 (omega (arith, past, length-map new faults, are.number)) in
           omega (arith, none)
 
   pub asks : EachAsksAtMost (map asked old) (map asked new) (volume_bytes h)

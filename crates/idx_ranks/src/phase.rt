@@ -1,6 +1,6 @@
 ghost use Rattle.std.specs.Prelude.{◌≡◌, ◌<◌, ◌≤◌, ℕ, All, IfErr, IfOk, List, OnErr, OnOk, Some, drop, map, vec_capacity, vec_len};
 ghost use Rattle.idx_header.specs.Header.{volume_bytes};
-ghost use Rattle.idx_outside.specs.Counts.{NoneFell};
+ghost use Rattle.idx_outside.specs.Counts.{EachMeetsOnce, NoneFell};
 ghost use Rattle.idx_outside.specs.Objects.{SameContents};
 ghost use Rattle.idx_pieces.specs.Pieces.{IsPiece};
 ghost use Rattle.idx_pieces.specs.Ranks.{rank_count};
@@ -49,6 +49,7 @@ pub fn read_loads<V: Source + Send, G: Gate, R: Threads + Sync>(
     ensures quiet { OnOk result (map V.faults raws.new.items ≡ map V.faults raws.old.items) }
     ensures refused { IfErr result (IsRefusedBy (map V.faults raws.old.items) (map V.faults raws.new.items)) }
     ensures count { NoneFell (map V.faults raws.old.items) (map V.faults raws.new.items) }
+    ensures once { EachMeetsOnce (map V.faults raws.old.items) (map V.faults raws.new.items) }
     ensures same { SameContents V.contents raws.old.items raws.new.items }
     ensures idle { drop (rank_count header.now.box (vec_len raws.old)) raws.new.items ≡
         drop (rank_count header.now.box (vec_len raws.old)) raws.old.items }

@@ -1,18 +1,40 @@
 -- What one call after another does to a bay.
-use Rattle.std.proofs.Common.{◌≡◌, ◌≢◌, ℕ, zero, suc, ◌+◌, ◌-◌, ◌≤◌, List, Option, Result, Ok, Err, refl, sym, subst, ◌∙◌, arith}
+use Rattle.std.proofs.Common.{◌≡◌, ◌≢◌, ℕ, zero, suc, ◌+◌, ◌-◌, ◌≤◌, List, Option, Some, None, Result, Ok, Err, refl, sym, subst, ◌∙◌, arith}
 use Rattle.std.specs.Result.{IsErrAnd}
-use Rattle.idx_outside.specs.Cause.{NeverFalls, Rose}
+use Rattle.idx_outside.specs.Cause.{MeetsOnce, NeverFalls, Rose}
 use Rattle.idx_outside.specs.declared.bay_call.BayCall.{BayCall}
+use Rattle.idx_outside.specs.declared.bay_call.BayCall.TheVariants as calls
 use Rattle.idx_outside.specs.declared.bay_fault.BayFault.{BayFault}
 use Rattle.idx_outside.specs.declared.bay_fault.BayFault.TheVariants.{NoMemory, Outage}
 use Rattle.idx_outside.specs.declared.mem_file.MemFile.{MemFile}
 use Rattle.idx_seal.specs.Bay.{Answers, GivesUp, Keeps}
+use Rattle.idx_seal.specs.Rows.{MeetsOnceOrRow, most_at_once}
 
 pub rose_then : (a b c : ℕ) → Rose a b → NeverFalls b c → Rose a c
 rose_then a b c rose up = grind arith
 
 pub then_rose : (a b c : ℕ) → NeverFalls a b → Rose b c → Rose a c
 then_rose a b c up rose = grind arith
+
+-- some fault may be counted
+pub some_at_once : (failed : Option BayCall) (workers : ℕ) → 1 ≤ workers → 1 ≤ most_at_once failed workers
+some_at_once None workers some = omega arith
+some_at_once (Some calls.Header) workers some = omega arith
+some_at_once (Some calls.SetHeader) workers some = omega arith
+some_at_once (Some calls.HasStep) workers some = omega arith
+some_at_once (Some calls.BeginStep) workers some = omega arith
+some_at_once (Some calls.Create) workers some = omega arith
+some_at_once (Some calls.Leaf) workers some = omega arith
+some_at_once (Some calls.Commit) workers some = omega arith
+some_at_once (Some calls.Retire) workers some = some
+
+-- what was met once was met once or by a row
+pub row_of_once : (failed : Option BayCall) (workers old new : ℕ) → 1 ≤ workers → MeetsOnce old new → MeetsOnceOrRow failed workers old new
+row_of_once failed workers old new some once = omega (arith, once, some_at_once failed workers some)
+
+-- where drafts were given up, no more than there are workers
+pub row_of_retire : (failed : Option BayCall) (workers old new : ℕ) → failed ≡ Some calls.Retire → new ≤ old + workers → MeetsOnceOrRow failed workers old new
+row_of_retire failed workers old new is few = subst (λ call. MeetsOnceOrRow call workers old new) (sym is) few
 
 -- nothing was given up
 pub gives_none : (before : ℕ) (failed : Option BayCall) → GivesUp 0 before before failed failed

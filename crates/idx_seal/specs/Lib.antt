@@ -1,3 +1,4 @@
 pub mod Bay
+pub mod Rows
 pub mod Files
 pub mod Jobs

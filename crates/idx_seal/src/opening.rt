@@ -2,6 +2,7 @@
 ghost use Rattle.std.specs.Prelude.{◌≡◌, ◌+◌, ◌≤◌, ◌++◌, ℕ, All, IfOk, None, OnOk, map, vec_capacity, vec_len};
 ghost use Rattle.std.specs.List.{AllByRecursion};
 ghost use Rattle.std.specs.Vec.Iter.{into_iter_items, into_iter_len};
+ghost use Rattle.idx_outside.specs.Cause.{MeetsOnce};
 ghost use Rattle.idx_header.specs.Names.{file_name};
 ghost use Rattle.idx_dock.specs.Dock.{missing};
 ghost use Rattle.idx_seal.specs.Bay.{Answers, Keeps};
@@ -42,6 +43,7 @@ pub(crate) fn open_row<B: Bay>(
     ensures left { OnOk result (into_iter_len docks.new + count ≡ into_iter_len docks.old) }
     ensures complete { OnOk result (AllByRecursion (λ d. missing d ≡ None) (into_iter_items docks.new)) }
     ensures answers { Answers result (B.faults bay.old) (B.faults bay.new) (B.failed bay.old) (B.failed bay.new) }
+    ensures once { MeetsOnce (B.faults bay.old) (B.faults bay.new) }
     ensures kept { Keeps B.header B.files B.begun B.admits B.faults bay.old bay.new }
 {
     for opened in 0..count {
@@ -68,6 +70,7 @@ fn open_file<B: Bay>(
     ensures opened { IfOk result (IsOpened B.Draft.contents B.Draft.path B.Draft.faults (B.files bay.old)) }
     ensures planned { IfOk result (λ job. planned job ≡ dock_file layout header.now step dock) }
     ensures answers { Answers result (B.faults bay.old) (B.faults bay.new) (B.failed bay.old) (B.failed bay.new) }
+    ensures once { MeetsOnce (B.faults bay.old) (B.faults bay.new) }
     ensures kept { Keeps B.header B.files B.begun B.admits B.faults bay.old bay.new }
 {
     let mut dock = dock;

@@ -8,6 +8,7 @@ ghost use Rattle.idx_dock.specs.Dock.{missing};
 ghost use Rattle.idx_seal.specs.Bay.{Answers, Keeps};
 ghost use Rattle.idx_seal.specs.Files.{dock_file};
 ghost use Rattle.idx_seal.specs.Jobs.{IsFinished};
+ghost use Rattle.idx_seal.specs.Rows.{MeetsOnceOrRow};
 
 use crate::giving_up::give_all_up;
 use crate::leaves::take_leaves;
@@ -54,6 +55,7 @@ where
     ensures complete { OnOk result (AllByRecursion (λ d. missing d ≡ None) (into_iter_items docks.new)) }
     ensures room { OnOk result (vec_len leaves.new + into_iter_len docks.new ≤ vec_capacity leaves.new) }
     ensures answers { Answers result (B.faults bay.old) (B.faults bay.new) (B.failed bay.old) (B.failed bay.new) }
+    ensures once { MeetsOnceOrRow (B.failed bay.new) workers (B.faults bay.old) (B.faults bay.new) }
     ensures kept { Keeps B.header B.files B.begun B.admits B.faults bay.old bay.new }
 {
     let left = docks.len();

@@ -5,6 +5,7 @@ ghost use Rattle.idx_header.specs.Names.{file_name};
 ghost use Rattle.idx_dock.specs.Dock.{missing};
 ghost use Rattle.idx_seal.specs.Bay.{IsSealCall};
 ghost use Rattle.idx_seal.specs.Files.{dock_file};
+ghost use Rattle.idx_seal.specs.Rows.{MeetsOnceOrRow};
 
 use crate::row::seal_row;
 use idx_dock::Dock;
@@ -55,6 +56,7 @@ where
     ensures failed { result ≡ Err BayFault.Outage → IsSealCall (B.failed bay.new) }
     ensures unfailed { result ≢ Err BayFault.Outage → B.failed bay.new ≡ B.failed bay.old }
     ensures count { NeverFalls (B.faults bay.old) (B.faults bay.new) }
+    ensures once { MeetsOnceOrRow (B.failed bay.new) workers (B.faults bay.old) (B.faults bay.new) }
     ensures quiet { OnOk result (B.faults bay.new ≡ B.faults bay.old) }
     ensures no_memory { result ≡ Err BayFault.NoMemory → B.faults bay.new ≡ B.faults bay.old }
     ensures outage { result ≡ Err BayFault.Outage → Rose (B.faults bay.old) (B.faults bay.new) }

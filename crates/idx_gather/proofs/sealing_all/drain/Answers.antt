@@ -13,7 +13,7 @@ use Rattle.idx_gather.specs.States.{HaveSamples}
 use Rattle.idx_gather.specs.Streams.{AreOpen, AreSealed, dock_entry, full_docks, numbered}
 use Rattle.idx_gather.proofs.FillLemmas.{alike_still, first_same}
 use Rattle.idx_gather.proofs.FirstLemmas.{moved}
-use Rattle.idx_gather.proofs.SealAllLemmas.{caused_again, idle_again, none_failed, on_fault, store_caused}
+use Rattle.idx_gather.proofs.SealAllLemmas.{caused_again, each_again, idle_again, none_failed, none_met, on_fault, store_caused}
 use Rattle.idx_gather.proofs.SealedLemmas.{numbers_more, others_have, sealed_moved, sealed_none, sealed_turn}
 use Rattle.idx_gather.proofs.StreamLemmas.{fewer_left, kept_count, none_open, open_moved, open_sealed}
 use Rattle.idx_gather.proofs.sealing_all.drain.Goals as goal
@@ -193,3 +193,12 @@ returns-clause-files_made g c =
     (c.in_ok-close_stream.ensures.first known told
     (sealed_moved o.layout s.layout o.header s.header o.step s.step known told o.files.items s.files.items (shown contents o.leaves.items) (shown contents s.leaves.items) (numbered contents c.batches.stream.sealed.items)
     (sym layout) (sym header) (sym step) (sym files) (sym first) inv.sealed))
+
+pub returns-in_err-next-clause-raw_once : goal.returns-in_err-next-clause-raw_once
+returns-in_err-next-clause-raw_once g c =
+    each_again (map g.V.Source.faults c.args.raws.now.items) (map g.V.Source.faults c.batches.raws.items) (map g.V.Source.faults c.deliver.new.raws.items)
+    c.batches.invariant.quiet c.deliver.ensures.raw_once
+
+pub returns-in_err-stream-clause-raw_once : goal.returns-in_err-stream-clause-raw_once
+returns-in_err-stream-clause-raw_once g c =
+    none_met (map g.V.Source.faults c.args.raws.now.items) (map g.V.Source.faults c.deliver.new.raws.items) (c.in_ok-next.ensures.quiet ∙ c.batches.invariant.quiet)

@@ -7,7 +7,7 @@ use Rattle.idx_gather.specs.Gather.{IsCaused, NoneFalls}
 use Rattle.idx_gather.specs.States.{AreFirstFiles}
 use Rattle.idx_gather.proofs.FillLemmas.{alike_still, first_same}
 use Rattle.idx_gather.proofs.FirstLemmas.{moved}
-use Rattle.idx_gather.proofs.SealAllLemmas.{caused_moved, idle_again, on_fault}
+use Rattle.idx_gather.proofs.SealAllLemmas.{caused_moved, each_again, idle_again, on_fault}
 use Rattle.idx_gather.proofs.sealing_all.seal_all.Goals as goal
 
 pub drain-requires-clause-alike : goal.drain-requires-clause-alike
@@ -81,3 +81,8 @@ windows-preserved g c =
           (shown g.B.Leaf.Leaf.contents t.leaves.items) (shown g.B.Leaf.Leaf.contents t.leaves.items) layout header step inv.bay_files (λ i. (files i).items) refl
           (subst (λ (x : Option (List ℕ)). AreFirstFiles s.layout s.header s.step (g.B.Bay.files c.windows.bay) x s.files.items (shown g.B.Leaf.Leaf.contents t.leaves.items)) same n.files_made);
     }
+
+pub returns-in_err-opening-clause-raw_once : goal.returns-in_err-opening-clause-raw_once
+returns-in_err-opening-clause-raw_once g c =
+    each_again (map g.V.Source.faults c.args.raws.now.items) (map g.V.Source.faults c.windows.raws.items) (map g.V.Source.faults c.drain.new.raws.items)
+    c.windows.invariant.quiet c.drain.ensures.raw_once

@@ -1,6 +1,6 @@
 use Rattle.std.proofs.Common.{length}
 use Rattle.idx_gather.proofs.ShipLemmas.{loads_are}
-use Rattle.idx_memory_bound.proofs.LoadLemmas.{batch_fits}
+use Rattle.idx_gather.proofs.LoadLemmas.{batch_fits}
 use Rattle.idx_memory_bound.proofs.laws.parcelled_pieces_fit_into_the_room.Goals as goal
 
 pub returns : goal.returns

@@ -2,7 +2,7 @@ use Rattle.std.proofs.Common.{◌≡◌, ℕ, None, length, drop, sym, ◌∙◌
 use Rattle.std.proofs.lemmas.Grind.{common_steps}
 use Rattle.idx_pieces.specs.Ranks.{rank_count}
 use Rattle.idx_ranks.specs.Queues.{AreQueuesOf}
-use Rattle.idx_ranks.proofs.FaultLemmas.{asks, full_none, full_told, idle, none_failed, none_fell, number_made, queues_are, quiet, refused, same_contents}
+use Rattle.idx_ranks.proofs.FaultLemmas.{asks, each_once, full_none, full_told, idle, none_failed, none_fell, number_made, queues_are, quiet, refused, same_contents}
 use Rattle.idx_ranks.proofs.LoadLemmas.{loads_are, loads_hold}
 use Rattle.idx_ranks.proofs.phase.read_loads.Goals as goal
 
@@ -15,6 +15,11 @@ returns-in-Err-clause-refused g c =
 pub returns-in-Err-clause-count : goal.returns-in-Err-clause-count
 returns-in-Err-clause-count g c =
     none_fell g.V.Source.contents g.V.Source.faults g.V.Source.asked c.args.header.now c.args.pieces.items c.args.raws.now.items c.read_all.new.raws.items c.in-Ok.reads.items
+    c.in-Ok.ensures.reads
+
+pub returns-in-Err-clause-once : goal.returns-in-Err-clause-once
+returns-in-Err-clause-once g c =
+    each_once g.V.Source.contents g.V.Source.faults g.V.Source.asked c.args.header.now c.args.pieces.items c.args.raws.now.items c.read_all.new.raws.items c.in-Ok.reads.items
     c.in-Ok.ensures.reads
 
 pub returns-in-Err-clause-same : goal.returns-in-Err-clause-same
@@ -74,6 +79,11 @@ returns-in-Ok-sorted-clause-count g c =
     none_fell g.V.Source.contents g.V.Source.faults g.V.Source.asked c.args.header.now c.args.pieces.items c.args.raws.now.items c.read_all.new.raws.items c.in-Ok.reads.items
     c.in-Ok.ensures.reads
 
+pub returns-in-Ok-sorted-clause-once : goal.returns-in-Ok-sorted-clause-once
+returns-in-Ok-sorted-clause-once g c =
+    each_once g.V.Source.contents g.V.Source.faults g.V.Source.asked c.args.header.now c.args.pieces.items c.args.raws.now.items c.read_all.new.raws.items c.in-Ok.reads.items
+    c.in-Ok.ensures.reads
+
 pub returns-in-Ok-sorted-clause-same : goal.returns-in-Ok-sorted-clause-same
 returns-in-Ok-sorted-clause-same g c =
     same_contents g.V.Source.contents g.V.Source.faults g.V.Source.asked c.args.header.now c.args.pieces.items c.args.raws.now.items c.read_all.new.raws.items c.in-Ok.reads.items
@@ -102,6 +112,11 @@ returns-in-Err-sorted-clause-refused g c =
 pub returns-in-Err-sorted-clause-count : goal.returns-in-Err-sorted-clause-count
 returns-in-Err-sorted-clause-count g c =
     none_fell g.V.Source.contents g.V.Source.faults g.V.Source.asked c.args.header.now c.args.pieces.items c.args.raws.now.items c.read_all.new.raws.items c.in-Ok.reads.items
+    c.in-Ok.ensures.reads
+
+pub returns-in-Err-sorted-clause-once : goal.returns-in-Err-sorted-clause-once
+returns-in-Err-sorted-clause-once g c =
+    each_once g.V.Source.contents g.V.Source.faults g.V.Source.asked c.args.header.now c.args.pieces.items c.args.raws.now.items c.read_all.new.raws.items c.in-Ok.reads.items
     c.in-Ok.ensures.reads
 
 pub returns-in-Err-sorted-clause-same : goal.returns-in-Err-sorted-clause-same

@@ -20,6 +20,7 @@ jobs-preserved g c =
       counted = gives_next (sum_by faults c.args.jobs.items) (sum_by faults (into_iter_items c.jobs.left)) (faults c.in-Some.job) (sum_by faults (into_iter_items c.next.new.self))
           (bay.faults c.args.bay.now) (bay.faults c.jobs.bay) (bay.faults c.give_up.new.bay) (bay.failed c.args.bay.now) (bay.failed c.jobs.bay) (bay.failed c.give_up.new.bay)
           sum before.within before.counted c.give_up.ensures.counted before.kept.count c.give_up.ensures.kept.count;
+      few = grind (arith, common_steps);
       kept = keeps_then bay.header bay.files bay.begun bay.admits bay.faults c.args.bay.now c.jobs.bay c.give_up.new.bay before.kept c.give_up.ensures.kept;
     }
 

@@ -1,4 +1,4 @@
-use Rattle.std.proofs.Common.{◌-◌, ◌≤◌}
+use Rattle.std.proofs.Common.{◌+◌, ◌-◌, ◌≤◌, vec_len}
 use Rattle.std.specs.List.{sum_by}
 use Rattle.std.specs.Vec.Iter.{into_iter_items, into_iter_len}
 use Rattle.idx_seal.specs.Bay.{GivesUp, Keeps}
@@ -13,6 +13,7 @@ invariant-jobs g l =
     record {
       within : sum_by faults (into_iter_items l.left) ≤ sum_by faults l.fn.jobs.items;
       counted : GivesUp (sum_by faults l.fn.jobs.items - sum_by faults (into_iter_items l.left)) (bay.faults l.fn.bay) (bay.faults l.bay) (bay.failed l.fn.bay) (bay.failed l.bay);
+      few : bay.faults l.bay + into_iter_len l.left ≤ bay.faults l.fn.bay + vec_len l.fn.jobs;
       kept : Keeps bay.header bay.files bay.begun bay.admits bay.faults l.fn.bay l.bay;
     }
 

@@ -7,7 +7,7 @@ use Rattle.idx_outside.specs.Files.{shown}
 use Rattle.idx_seal.specs.Bay.{IsSealCall}
 use Rattle.idx_seal.specs.Files.{dock_file}
 use Rattle.idx_seal.specs.Jobs.{has_failed, job_shown, planned}
-use Rattle.idx_seal.proofs.BayLemmas.{keeps_then, refused_then}
+use Rattle.idx_seal.proofs.BayLemmas.{keeps_then, refused_then, row_of_once, row_of_retire}
 use Rattle.idx_seal.proofs.RowLemmas.{opened_faultless, row_failed, row_finished, row_leaves, row_sealed}
 use Rattle.idx_seal.proofs.row.seal_row.Goals as goal
 
@@ -75,3 +75,27 @@ returns-clause-finished g c =
     c.take_leaves.ensures.finished (g.B.Bay.files c.args.bay.now)
     (row_finished g.B.Draft.Draft.contents g.B.Draft.Draft.path g.B.Draft.Draft.faults g.B.Leaf.Leaf.contents g.B.Leaf.Leaf.path g.B.Leaf.Leaf.faults (g.B.Bay.files c.args.bay.now) old new number
     (λ i d within. c.write_all.ensures.each i d (grind (arith, common_steps))) c.in_default-open_row.ensures.opened)
+
+pub returns-in_default-clause-once : goal.returns-in_default-clause-once
+returns-in_default-clause-once g c = row_of_once _ _ _ _ c.requires.workers (omega arith)
+
+pub returns-in-Err-clause-once : goal.returns-in-Err-clause-once
+returns-in-Err-clause-once g c =
+    let bay = g.B.Bay in
+    let none = opened_faultless g.B.Draft.Draft.contents g.B.Draft.Draft.path g.B.Draft.Draft.faults g.B.Leaf.Leaf.contents g.B.Leaf.Leaf.path g.B.Leaf.Leaf.faults (bay.files c.args.bay.now) c.open_row.new.jobs.items c.in-Err.ensures.opened in
+    row_of_once _ _ _ _ c.requires.workers (omega (arith, c.in-Err.ensures.once, c.give_all_up.ensures.counted.same none))
+
+pub returns-then-any_failed-clause-once : goal.returns-then-any_failed-clause-once
+returns-then-any_failed-clause-once g c =
+    let bay = g.B.Bay in
+    let old = c.open_row.new.jobs.items in
+    let new = c.write_all.new.jobs.items in
+    let number : length new ≡ length old = grind (arith, common_steps) in
+    let failed = sym (c.any_failed.ensures ∙ ap (list_any has_failed) c.deref.ensures.value) ∙ c.if-any_failed.true in
+    let some = row_failed g.B.Draft.Draft.contents g.B.Draft.Draft.path g.B.Draft.Draft.faults g.B.Leaf.Leaf.contents g.B.Leaf.Leaf.path g.B.Leaf.Leaf.faults (bay.files c.args.bay.now) old new number
+    (λ i d within. c.write_all.ensures.each i d (grind (arith, common_steps))) c.in_default-open_row.ensures.opened failed in
+    row_of_retire _ _ _ _ (c.give_all_up-then-any_failed.ensures.counted.call some)
+    (grind (arith, common_steps, c.give_all_up-then-any_failed.ensures.few, c.write_all.ensures.number, c.in_default-open_row.ensures.number, c.in_default-open_row.ensures.answers))
+
+pub returns-clause-once : goal.returns-clause-once
+returns-clause-once g c = row_of_once _ _ _ _ c.requires.workers (omega (arith, c.in_default-open_row.ensures.answers.0))

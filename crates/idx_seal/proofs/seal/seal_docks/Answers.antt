@@ -9,7 +9,8 @@ use Rattle.idx_dock.specs.Dock.{missing}
 use Rattle.idx_seal.specs.Bay.{Answers}
 use Rattle.idx_seal.specs.Files.{dock_file}
 use Rattle.idx_seal.specs.Jobs.{IsFinished}
-use Rattle.idx_seal.proofs.BayLemmas.{call_stays, handed_on, keeps_none, keeps_then}
+use Rattle.idx_seal.specs.Rows.{MeetsOnceOrRow}
+use Rattle.idx_seal.proofs.BayLemmas.{call_stays, handed_on, keeps_none, keeps_then, row_of_once}
 use Rattle.idx_seal.proofs.RowLemmas.{all_in_turn}
 use Rattle.idx_seal.proofs.seal.seal_docks.Goals as goal
 use Rattle.idx_seal.proofs.seal.seal_docks.Goals.{After-from_residual-in_err-seal_row}
@@ -38,6 +39,11 @@ returns-in_err-seal_row-clause-no_memory g c is = (told_at g (goal.at.returns-in
 
 pub returns-in_err-seal_row-clause-outage : goal.returns-in_err-seal_row-clause-outage
 returns-in_err-seal_row-clause-outage g c is = (told_at g (goal.at.returns-in_err-seal_row-clause-outage g c).After-from_residual-in_err-seal_row Outage is).0
+
+pub returns-in_err-seal_row-clause-once : goal.returns-in_err-seal_row-clause-once
+returns-in_err-seal_row-clause-once g c =
+    let bay = g.B.Bay in
+    subst (λ before. MeetsOnceOrRow (bay.failed c.seal_row.new.bay) c.args.workers before (bay.faults c.seal_row.new.bay)) c.rows.invariant.quiet c.seal_row.ensures.once
 
 pub rows-preserved : goal.rows-preserved
 rows-preserved g c =
@@ -86,3 +92,9 @@ returns-clause-leaves g c =
     let leaves = shown g.B.Leaf.Leaf.contents c.rows.leaves.items in
     let none : into_iter_items c.rows.docks ≡ [] = grind (arith, common_steps) in
     sym (append-nil leaves) ∙ subst (λ docks. leaves ++ known_files known (map f docks) ≡ known_files known (map f c.args.docks.items)) none c.rows.invariant.all
+
+pub returns-in_err-leaves-clause-once : goal.returns-in_err-leaves-clause-once
+returns-in_err-leaves-clause-once g c = row_of_once _ _ _ _ c.requires.some (omega arith)
+
+pub returns-clause-once : goal.returns-clause-once
+returns-clause-once g c = row_of_once _ _ _ _ c.requires.some (omega (arith, c.rows.invariant.quiet))

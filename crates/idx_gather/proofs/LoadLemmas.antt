@@ -23,9 +23,9 @@ use Rattle.idx_aggregate.specs.Docks.{pieces_in}
 use Rattle.idx_gather.specs.States.{AreLoads}
 use Rattle.idx_gather.specs.Windows.{FitOrIsOne}
 use Rattle.idx_gather.proofs.RunLemmas.{run_fits}
-use Rattle.idx_memory_bound.specs.Bytes.{load_bytes}
-use Rattle.idx_memory_bound.proofs.CountLemmas.{bytes_piece}
-use Rattle.idx_memory_bound.proofs.SumLemmas.{sum_had, sum_same}
+use Rattle.idx_gather.specs.Bytes.{load_bytes}
+use Rattle.idx_gather.proofs.CountLemmas.{bytes_piece}
+use Rattle.idx_gather.proofs.SumLemmas.{sum_had, sum_same}
 
 -- ---- searches that find nothing
 

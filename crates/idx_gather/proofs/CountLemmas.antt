@@ -16,7 +16,7 @@ use Rattle.idx_pieces.proofs.JoinLists.{joined_single, length-joined}
 use Rattle.idx_pieces.proofs.JoinParts.{IsIn, back_axes, by_rows, by_rows_and_ranks, front_axes, part_bounded, part_bounds, row_at}
 use Rattle.idx_pieces.proofs.LawLemmas.{piece_exact, ranks_of_piece}
 use Rattle.idx_pieces.proofs.RankLemmas.{cut_is}
-use Rattle.idx_memory_bound.proofs.SumLemmas.{sum_same, sum_times}
+use Rattle.idx_gather.proofs.SumLemmas.{sum_same, sum_times}
 
 -- a point alone
 abbrev alone : List ℕ → List (List ℕ)
