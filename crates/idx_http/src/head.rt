@@ -1,6 +1,6 @@
 //! Heads, one after another.
 ghost use Rattle.std.specs.Prelude.{◌≡◌, ◌<◌, length, Some, IfSome};
-ghost use Rattle.idx_outside.specs.Cause.{NeverFalls, Rose};
+ghost use Rattle.idx_outside.specs.Cause.{MeetsOnce, NeverFalls, Rose};
 ghost use Rattle.idx_outside.specs.Input.{behind};
 ghost use Rattle.idx_http.specs.Heads.{head_limit, window};
 ghost use Rattle.idx_http.specs.Read.{IsHeadRead, IsLook, IsTaken, IsWanting, OnFault, ReadsFronts, UnlessFault};
@@ -53,6 +53,7 @@ pub fn read_head<L: Link>(alloc: Global, link: &mut L, pending: &mut Pending) ->
     ensures front { OnFault result (λ faults. IsWanting pending.new) }
     ensures written { L.written link.new ≡ L.written link.old }
     ensures count { NeverFalls (L.faults link.old) (L.faults link.new) }
+    ensures once { MeetsOnce (L.faults link.old) (L.faults link.new) }
     ensures quiet { UnlessFault result (L.faults link.new ≡ L.faults link.old) }
     ensures cause { OnFault result (λ faults. Rose (L.faults link.old) (L.faults link.new)) }
     ensures faults { OnFault result (λ faults. faults ≡ L.faults link.new) }

@@ -1,7 +1,7 @@
 //! The bytes that were read from a link and not yet taken.
 ghost use Rattle.std.specs.Prelude.{◌≡◌, ◌+◌, ◌<◌, ◌≤◌, [], length, drop, take};
 ghost use Rattle.std.specs.Prelude.{IfOk, IfSome, OnOk, OnErr};
-ghost use Rattle.idx_outside.specs.Cause.{NeverFalls, Rose};
+ghost use Rattle.idx_outside.specs.Cause.{MeetsOnce, NeverFalls, Rose};
 ghost use Rattle.idx_outside.specs.Input.{behind, read_once_more};
 ghost use Rattle.idx_http.specs.Heads.{head_limit, window};
 ghost use Rattle.idx_http.specs.Read.{IsLook};
@@ -76,6 +76,7 @@ impl Pending {
             ≡ read_once_more (L.readings link.old) (L.incoming link.old) (L.written link.old) }
         ensures written { L.written link.new ≡ L.written link.old }
         ensures count { NeverFalls (L.faults link.old) (L.faults link.new) }
+        ensures once { MeetsOnce (L.faults link.old) (L.faults link.new) }
         ensures quiet { OnOk result (L.faults link.new ≡ L.faults link.old) }
         ensures cause { OnErr result (Rose (L.faults link.old) (L.faults link.new)) }
     {
@@ -107,6 +108,7 @@ fn read_behind<L: Link>(link: &mut L, buffer: &mut [u8], len: usize) -> Result<u
         ≡ read_once_more (L.readings link.old) (L.incoming link.old) (L.written link.old) }
     ensures written { L.written link.new ≡ L.written link.old }
     ensures count { NeverFalls (L.faults link.old) (L.faults link.new) }
+    ensures once { MeetsOnce (L.faults link.old) (L.faults link.new) }
     ensures quiet { OnOk result (L.faults link.new ≡ L.faults link.old) }
     ensures cause { OnErr result (Rose (L.faults link.old) (L.faults link.new)) }
 {

@@ -13,11 +13,7 @@ use Rattle.idx_session.specs.declared.asked.Asked.{Asked}
 use Rattle.idx_session.specs.declared.link_end.LinkEnd.{LinkEnd}
 use Rattle.idx_session.specs.declared.link_end.LinkEnd.TheVariants as E
 use Rattle.idx_session.specs.Entry.{Answers, Lost, Entry, Mark, mark_after, served_of, IsAsked, left_of}
-use Rattle.idx_session.specs.Session.{IsNext, is_last, Follows, Spells, joined, EndsAs, WrittenAs, KnownAs, Session, IsEntry, InTurn, ReadInTurn}
-
--- the entry does not close
-abbrev pub IsOpen : Entry → Type 0
-IsOpen e = e.reply.closes ≡ false
+use Rattle.idx_session.specs.Session.{IsNext, is_last, Follows, Spells, joined, EndsAs, WrittenAs, KnownAs, Session, IsEntry, InTurn, IsOpen, ReadInTurn}
 
 -- the input, where it is known, spells these entries up to what is still to come
 abbrev pub SpellsUpTo : Option (List ℕ) → Option (List ℕ) → List Entry → Type 0
@@ -38,9 +34,9 @@ pub record SoFar (answers : Answers) (mark known : Mark) (input left written_old
 -- ---- when the link was read
 
 -- what was read only at the front of what is left was read in turn
-finds_in_turn : (s w rest : List ℕ) (entries : List Entry) → Spells s entries rest → (reading : Reading) → FindsFront rest (w ++ joined entries) reading
+finds_in_turn : (s w rest : List ℕ) (entries : List Entry) → All IsOpen entries → Spells s entries rest → (reading : Reading) → FindsFront rest (w ++ joined entries) reading
     → InTurn s w entries reading
-finds_in_turn s w rest entries spells reading f = record {
+finds_in_turn s w rest entries going spells reading f = record {
   front = entries;
   more = [];
   split = sym (append-nil entries);
@@ -48,21 +44,22 @@ finds_in_turn s w rest entries spells reading f = record {
   spells = subst (Spells s entries) f.split spells;
   wanting = f.wanting;
   written = f.same;
+  going = going;
 }
 
-timely_read : (input left wo wn : Option (List ℕ)) (ro rn rm : Option (List Reading)) (entries : List Entry) → SpellsUpTo input left entries
+timely_read : (input left wo wn : Option (List ℕ)) (ro rn rm : Option (List Reading)) (entries : List Entry) → All IsOpen entries → SpellsUpTo input left entries
     → wn ≡ appended wo (joined entries) → ReadInTurn entries input wo ro rn → ReadsFronts left wn rn rm → ReadInTurn entries input wo ro rm
-timely_read None left wo wn ro rn rm entries spelt wrote timely reads = tt
-timely_read (Some s) left None wn ro rn rm entries spelt wrote timely reads = tt
-timely_read (Some s) left (Some w) wn None rn rm entries spelt wrote timely reads = tt
-timely_read (Some s) left (Some w) wn (Some old) rn rm entries (rest, is, spells) wrote (more, was, all) reads =
+timely_read None left wo wn ro rn rm entries going spelt wrote timely reads = tt
+timely_read (Some s) left None wn ro rn rm entries going spelt wrote timely reads = tt
+timely_read (Some s) left (Some w) wn None rn rm entries going spelt wrote timely reads = tt
+timely_read (Some s) left (Some w) wn (Some old) rn rm entries going (rest, is, spells) wrote (more, was, all) reads =
     let known : ReadsFronts (Some rest) (Some (w ++ joined entries)) (Some (old ++ more)) rm =
     subst (λ (o : Option (List ℕ)). ReadsFronts o (Some (w ++ joined entries)) (Some (old ++ more)) rm) is
     (subst (λ (o : Option (List ℕ)). ReadsFronts left o (Some (old ++ more)) rm) wrote (subst (λ (o : Option (List Reading)). ReadsFronts left wn o rm) was reads)) in (
       more ++ known.0,
       known.1 ∙ ap Some (append_assoc old more known.0),
       All-append (InTurn s w entries) more known.0 all
-          (All-weaker (FindsFront rest (w ++ joined entries)) (InTurn s w entries) (finds_in_turn s w rest entries spells) known.0 known.2),
+          (All-weaker (FindsFront rest (w ++ joined entries)) (InTurn s w entries) (finds_in_turn s w rest entries going spells) known.0 known.2),
     )
 
 -- what was read in turn stays so when more is answered
@@ -75,6 +72,7 @@ in_turn_more s w entries last reading t = record {
   spells = t.spells;
   wanting = t.wanting;
   written = t.written;
+  going = t.going;
 }
 
 timely_push : (input wo : Option (List ℕ)) (ro rn : Option (List Reading)) (entries last : List Entry) → ReadInTurn entries input wo ro rn
@@ -104,7 +102,7 @@ so_far_read {input = input} {left = left} {wo = wo} {wn = wn} {ro = ro} {rn = rn
   written = same ∙ f.written;
   going = f.going;
   spelt = f.spelt;
-  timely = subst (ReadInTurn f.entries input wo ro) (sym still) (timely_read input left wo wn ro rn rm f.entries f.spelt f.written f.timely reads);
+  timely = subst (ReadInTurn f.entries input wo ro) (sym still) (timely_read input left wo wn ro rn rm f.entries f.going f.spelt f.written f.timely reads);
 }
 
 -- ---- more entries

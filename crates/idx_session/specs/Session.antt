@@ -69,8 +69,12 @@ KnownAs lost last known (E.CutOff kept) = known ≡ last
 KnownAs lost last known (E.LinkFault faults) = known ≡ last
 KnownAs lost last known E.NoMemory = (known ≡ last) ⊎ lost last known
 
+-- the reply to the entry does not close
+abbrev pub IsOpen : Entry → Type 0
+IsOpen e = e.reply.closes ≡ false
+
 -- The reading was made in its turn: when what had come of the input s behind the heads of the first entries only began a head,
--- and when behind w the replies to these heads had been written, all of them and nothing else.
+-- when behind w the replies to these heads had been written, all of them and nothing else, and when none of these replies closed.
 pub record InTurn (s w : List ℕ) (entries : List Entry) (reading : Reading) : Type 0 where
   pub front : List Entry
   pub more : List Entry
@@ -79,6 +83,7 @@ pub record InTurn (s w : List ℕ) (entries : List Entry) (reading : Reading) : 
   pub spells : Spells s front (kept ++ reading.coming)
   pub wanting : IsWanting kept
   pub written : reading.written ≡ w ++ joined front
+  pub going : All IsOpen front
 
 -- Each reading was made in its turn, where the input, what was written before and the readings are known.
 abbrev pub ReadInTurn : List Entry → Option (List ℕ) → Option (List ℕ) → Option (List Reading) → Option (List Reading) → Type 0

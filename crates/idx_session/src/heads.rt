@@ -1,6 +1,6 @@
 //! The heads of a link, one after another.
 ghost use Rattle.std.specs.Prelude.{◌≡◌, IfErr, IfSome, OnOk};
-ghost use Rattle.idx_outside.specs.Cause.{NeverFalls};
+ghost use Rattle.idx_outside.specs.Cause.{MeetsOnce, NeverFalls};
 ghost use Rattle.idx_outside.specs.Input.{behind};
 ghost use Rattle.idx_http.specs.Read.{ReadsFronts};
 ghost use Rattle.idx_session.specs.Session.{EndCounts, IsNext, Session};
@@ -34,6 +34,7 @@ pub fn serve_heads<S, T, R, P: Responder<S, T, R>, L: Link>(
         served.old.items served.new.items result }
     ensures grew { P.grew turn.old reader.old turn.new reader.new }
     ensures count { NeverFalls (L.faults link.old) (L.faults link.new) }
+    ensures once { MeetsOnce (L.faults link.old) (L.faults link.new) }
     ensures counts { EndCounts (L.faults link.old) (L.faults link.new) result }
 {
     let Ok(mut pending) = Pending::new(alloc) else {
@@ -65,6 +66,7 @@ fn next_asked<L: Link>(alloc: Global, link: &mut L, pending: &mut Pending) -> Re
         (L.readings link.old) (L.readings link.new) }
     ensures written { L.written link.new ≡ L.written link.old }
     ensures count { NeverFalls (L.faults link.old) (L.faults link.new) }
+    ensures once { MeetsOnce (L.faults link.old) (L.faults link.new) }
     ensures quiet { OnOk result (L.faults link.new ≡ L.faults link.old) }
     ensures counts { IfErr result (EndCounts (L.faults link.old) (L.faults link.new)) }
 {

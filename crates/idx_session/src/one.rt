@@ -1,6 +1,6 @@
 //! One head is answered.
 ghost use Rattle.std.specs.Prelude.{◌≡◌};
-ghost use Rattle.idx_outside.specs.Cause.{NeverFalls};
+ghost use Rattle.idx_outside.specs.Cause.{MeetsOnce, NeverFalls};
 ghost use Rattle.idx_session.specs.Entry.{target_of};
 ghost use Rattle.idx_session.specs.Session.{IsStep, StepCounts};
 
@@ -42,6 +42,7 @@ pub(crate) fn answer_one<S, T, R, P: Responder<S, T, R>, L: Link>(
     ensures readings { L.readings link.new ≡ L.readings link.old }
     ensures grew { P.grew turn.old reader.old turn.new reader.new }
     ensures count { NeverFalls (L.faults link.old) (L.faults link.new) }
+    ensures once { MeetsOnce (L.faults link.old) (L.faults link.new) }
     ensures counts { StepCounts (L.faults link.old) (L.faults link.new) result }
 {
     let Ok(()) = served.reserve(1) else {
