@@ -6,6 +6,7 @@ pub mod NatLemmas
 pub mod AddressLemmas
 pub mod BetweenLemmas
 pub mod PieceLemmas
+pub mod PiecesLemmas
 pub mod StrayLemmas
 pub mod StoredLemmas
 pub mod VerdictLemmas

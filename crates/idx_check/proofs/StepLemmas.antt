@@ -28,7 +28,7 @@ use Rattle.idx_edition.specs.Loaded.{Counts}
 use Rattle.idx_edition.proofs.SoFarLemmas.{same_counts}
 use Rattle.idx_check.specs.Cause.{IsCheckCause}
 use Rattle.idx_check.specs.Difference.{first_difference}
-use Rattle.idx_check.specs.Verdict.{all_files, file_count, is_written, same, verdict_of, written_length, wrong_in, wrong_of_file, wrong_there}
+use Rattle.idx_check.specs.Verdict.{all_files, file_count, is_written, same, verdict_of, written_before, written_length, wrong_in, wrong_of_file, wrong_there}
 use Rattle.idx_check.specs.Wanted.{wanted_bytes}
 use Rattle.idx_check.specs.declared.check_fault.CheckFault.{CheckFault}
 use Rattle.idx_check.specs.declared.check_fault.CheckFault.TheVariants.{NoMemory, StoreFault}
@@ -149,10 +149,6 @@ few_bytes_of_file h file is =
     omega (arith, length_of_file-sums (placing_of h) file, product, table, is.blocks_some)
 
 -- ---- the files up to one
--- the files that the writer writes, of the first so many
-abbrev pub written_before : Placing → ℕ → List ℕ
-written_before l i = filter (is_written l) (map (λ k. l.per_file * k) (range_with_len 0 i))
-
 written_next : (l : Placing) (i : ℕ) → written_before l (i + 1) ≡ written_before l i ++ cond (is_written l (l.per_file * i)) (l.per_file * i ∷ []) []
 written_next l i =
     ap (λ xs. filter (is_written l) (map (λ k. l.per_file * k) xs)) (range-split 0 i 1)

@@ -4,6 +4,7 @@ pub mod Verdict
 pub mod Cause
 pub mod Stray
 pub mod Piece
+pub mod Pieces
 pub mod Form
 pub mod Worked
 pub mod Refused

@@ -1,5 +1,5 @@
 -- What is wrong with the files of a step, if anything.
-use Rattle.std.specs.Prelude.{ℕ, Bool, true, false, ◌+◌, ◌-◌, ◌*◌, ◌/◌, ◌==◌, List, length, map, slice_get, sum_by, Option, Some, None, if◌then◌else◌}
+use Rattle.std.specs.Prelude.{ℕ, Bool, true, false, ◌+◌, ◌-◌, ◌*◌, ◌/◌, ◌==◌, List, filter, length, map, slice_get, sum_by, Option, Some, None, if◌then◌else◌}
 use Rattle.std.specs.Option.{option_map, unwrap_or}
 use Rattle.std.specs.List.{filter_map, list_any, range_with_len}
 use Rattle.idx_outside.specs.Files.{file_at}
@@ -42,6 +42,10 @@ wrong_there l file there = wrong_in l file (is_written l file) there
 -- how many bytes the writer writes into the file of a number: none where it does not write it
 unfoldable pub written_length : Placing → ℕ → ℕ
 written_length l file = if is_written l file then length_of_file l file else 0
+
+-- the files that the writer writes, of the first so many
+abbrev pub written_before : Placing → ℕ → List ℕ
+written_before l i = filter (is_written l) (map (λ k. l.per_file * k) (range_with_len 0 i))
 
 -- what is wrong with the file of this number of a step, if anything
 abbrev pub wrong_of_file : HeaderValue → ℕ → List MemFile → ℕ → Option Verdict

@@ -1,6 +1,6 @@
 ghost use Rattle.std.specs.Prelude.{◌≡◌, ◌≢◌, ℕ, ◌+◌, ◌-◌, ◌*◌, ◌^◌, ◌<◌, ◌≤◌, min, Err, IfErr, IfOk, IfSome, IfNone, IsTrue, List, OnErr, OnOk, length, slice_index, sum_by};
 ghost use Rattle.std.specs.List.{range_with_len};
-ghost use Rattle.idx_outside.specs.Cause.{AskedFor, NeverFalls, Rose};
+ghost use Rattle.idx_outside.specs.Cause.{AskedFor, MeetsOnce, NeverFalls, Rose};
 ghost use Rattle.idx_header.specs.Header.{IsHeader, block_count, sample_bytes_of};
 ghost use Rattle.idx_table.specs.Table.{table_bytes};
 ghost use Rattle.idx_layout.specs.Files.{length_of_file, row_count};
@@ -8,6 +8,7 @@ ghost use Rattle.idx_layout.specs.OfHeader.{placing_of};
 ghost use Rattle.idx_layout.specs.Placing.{block_bytes, present_blocks};
 ghost use Rattle.idx_check.specs.Form.{HasForm};
 ghost use Rattle.idx_check.specs.Piece.{AskedUpTo, HasLength, IsOnTheWay};
+ghost use Rattle.idx_check.specs.Pieces.{ReadsOn, read_to};
 ghost use Rattle.idx_check.specs.Stray.{IsFirstBetween, IsFirstStray};
 
 use crate::CheckFault;
@@ -35,11 +36,14 @@ pub(crate) fn wrong_in_blocks<L: Leaf, R: Reader<L>>(
         AskedFor before (R.asked reader.old) (min (table_bytes (row_count (placing_of header.now))) there) →
         IfOk result (λ found. IfNone found (AskedFor before (R.asked reader.new)
         (min (length_of_file (placing_of header.now) file) there))) }
+    ensures pieces { OnOk result (ReadsOn R.reads R.asked reader.old reader.new
+        (table_bytes (row_count (placing_of header.now))) (length_of_file (placing_of header.now) file)) }
     ensures outage { IfErr result (λ fault. fault ≢ CheckFault.NoMemory →
         (fault ≡ CheckFault.StoreFault (R.faults reader.new)) × Rose (R.faults reader.old) (R.faults reader.new)) }
     ensures no_memory { result ≡ Err CheckFault.NoMemory → R.faults reader.new ≡ R.faults reader.old }
     ensures quiet { OnOk result (R.faults reader.new ≡ R.faults reader.old) }
     ensures count { NeverFalls (R.faults reader.old) (R.faults reader.new) }
+    ensures once { MeetsOnce (R.faults reader.old) (R.faults reader.new) }
 {
     let present = present_in_file(header, file);
     let mut at = table_len(header);
@@ -81,11 +85,13 @@ fn wrong_in_field<L: Leaf, R: Reader<L>>(
     ensures fresh { IfOk result (λ found. IfNone found (length piece.new.bytes.items ≡ piece.new.used)) }
     ensures asked { (before : ℕ) → AskedFor before (R.asked reader.old) (min at there) →
         IfOk result (λ found. IfNone found (AskedFor before (R.asked reader.new) (min end there))) }
+    ensures pieces { OnOk result (ReadsOn R.reads R.asked reader.old reader.new at end) }
     ensures outage { IfErr result (λ fault. fault ≢ CheckFault.NoMemory →
         (fault ≡ CheckFault.StoreFault (R.faults reader.new)) × Rose (R.faults reader.old) (R.faults reader.new)) }
     ensures no_memory { result ≡ Err CheckFault.NoMemory → R.faults reader.new ≡ R.faults reader.old }
     ensures quiet { OnOk result (R.faults reader.new ≡ R.faults reader.old) }
     ensures count { NeverFalls (R.faults reader.old) (R.faults reader.new) }
+    ensures once { MeetsOnce (R.faults reader.old) (R.faults reader.new) }
 {
     let run = run_of(header, field);
     let stretch = Stretch {
@@ -169,11 +175,17 @@ fn wrong_in_block<L: Leaf, R: Reader<L>>(
         AskedUpTo before (R.asked reader.old) piece.old.bytes.items piece.old.used at stretch.there →
         IfOk result (λ found. IfNone found (AskedUpTo before (R.asked reader.new)
         piece.new.bytes.items piece.new.used (at + run.size * 2 ^ header.now.block_bits) stretch.there)) }
+    ensures pieces { IfOk result (λ found. IfNone found (ReadsOn R.reads R.asked reader.old reader.new
+        (read_to at piece.old.bytes.items piece.old.used)
+        (read_to (at + run.size * 2 ^ header.now.block_bits) piece.new.bytes.items piece.new.used))) }
+    ensures ended { IfOk result (λ found. IfSome found (λ _. ReadsOn R.reads R.asked reader.old reader.new
+        (read_to at piece.old.bytes.items piece.old.used) stretch.end)) }
     ensures outage { IfErr result (λ fault. fault ≢ CheckFault.NoMemory →
         (fault ≡ CheckFault.StoreFault (R.faults reader.new)) × Rose (R.faults reader.old) (R.faults reader.new)) }
     ensures no_memory { result ≡ Err CheckFault.NoMemory → R.faults reader.new ≡ R.faults reader.old }
     ensures quiet { OnOk result (R.faults reader.new ≡ R.faults reader.old) }
     ensures count { NeverFalls (R.faults reader.old) (R.faults reader.new) }
+    ensures once { MeetsOnce (R.faults reader.old) (R.faults reader.new) }
 {
     let (mask, region) = (header.mask(), header.region());
     let runs = address_count(header.bits_per_block() - run.bits);

@@ -1,11 +1,12 @@
 ghost use Rattle.std.specs.Prelude.{◌≡◌, ◌≢◌, ℕ, ◌<◌, ◌≤◌, min, Err, None, Ok, Some, IfErr, IfOk, IfSome, List, OnErr, OnOk, length};
-ghost use Rattle.idx_outside.specs.Cause.{AskedFor, NeverFalls, Rose};
+ghost use Rattle.idx_outside.specs.Cause.{AskedFor, MeetsOnce, NeverFalls, Rose};
 ghost use Rattle.idx_header.specs.Header.{block_count};
 ghost use Rattle.idx_layout.specs.Files.{length_of_file};
 ghost use Rattle.idx_layout.specs.OfHeader.{placing_of};
 ghost use Rattle.idx_check.specs.Difference.{first_difference};
 ghost use Rattle.idx_check.specs.Form.{HasForm};
 ghost use Rattle.idx_check.specs.Piece.{HasLength};
+ghost use Rattle.idx_check.specs.Pieces.{ReadsOn};
 ghost use Rattle.idx_check.specs.Stray.{IsFirstBetween, first_end};
 ghost use Rattle.idx_check.specs.Wanted.{wanted_bytes};
 
@@ -31,11 +32,14 @@ pub(crate) fn wrong_byte<L: Leaf, R: Reader<L>>(
         found ≡ first_difference bytes (wanted_bytes (placing_of header.now) file bytes))) }
     ensures whole { result ≡ Ok None →
         AskedFor (R.asked reader.old) (R.asked reader.new) (length_of_file (placing_of header.now) file) }
+    ensures pieces { OnOk result (ReadsOn R.reads R.asked reader.old reader.new 0
+        (length_of_file (placing_of header.now) file)) }
     ensures outage { IfErr result (λ fault. fault ≢ CheckFault.NoMemory →
         (fault ≡ CheckFault.StoreFault (R.faults reader.new)) × Rose (R.faults reader.old) (R.faults reader.new)) }
     ensures no_memory { result ≡ Err CheckFault.NoMemory → R.faults reader.new ≡ R.faults reader.old }
     ensures quiet { OnOk result (R.faults reader.new ≡ R.faults reader.old) }
     ensures count { NeverFalls (R.faults reader.old) (R.faults reader.new) }
+    ensures once { MeetsOnce (R.faults reader.old) (R.faults reader.new) }
 {
     let there = leaf.len();
     piece.used = piece.bytes.len();
@@ -60,11 +64,14 @@ fn wrong_place<L: Leaf, R: Reader<L>>(
         (length_of_file (placing_of header.now) file) found)) }
     ensures asked { result ≡ Ok None → AskedFor (R.asked reader.old) (R.asked reader.new)
         (min (length_of_file (placing_of header.now) file) there) }
+    ensures pieces { OnOk result (ReadsOn R.reads R.asked reader.old reader.new 0
+        (length_of_file (placing_of header.now) file)) }
     ensures outage { IfErr result (λ fault. fault ≢ CheckFault.NoMemory →
         (fault ≡ CheckFault.StoreFault (R.faults reader.new)) × Rose (R.faults reader.old) (R.faults reader.new)) }
     ensures no_memory { result ≡ Err CheckFault.NoMemory → R.faults reader.new ≡ R.faults reader.old }
     ensures quiet { OnOk result (R.faults reader.new ≡ R.faults reader.old) }
     ensures count { NeverFalls (R.faults reader.old) (R.faults reader.new) }
+    ensures once { MeetsOnce (R.faults reader.old) (R.faults reader.new) }
 {
     let found = wrong_in_table(header, file, there, leaf, piece, reader)?;
     if found.is_some() {

@@ -1,6 +1,7 @@
 ghost use Rattle.std.specs.Prelude.{◌≡◌, ◌≢◌, ℕ, ◌+◌, ◌-◌, ◌<◌, ◌≤◌, min, Err, IfErr, IfSome, OnErr, OnOk, length, slice_index};
-ghost use Rattle.idx_outside.specs.Cause.{AskedFor, NeverFalls, Rose};
+ghost use Rattle.idx_outside.specs.Cause.{AskedFor, MeetsOnce, NeverFalls, Rose};
 ghost use Rattle.idx_check.specs.Piece.{AskedUpTo, HasLength, IsOnTheWay};
+ghost use Rattle.idx_check.specs.Pieces.{ReadsOn, read_to};
 
 use crate::CheckFault;
 use idx_outside::{Leaf, Reader};
@@ -59,11 +60,14 @@ impl Piece {
         ensures asked { (before : ℕ) →
             AskedUpTo before (R.asked reader.old) self.old.bytes.items self.old.used at stretch.there → OnOk result
             (AskedUpTo before (R.asked reader.new) self.new.bytes.items self.new.used at stretch.there) }
+        ensures pieces { OnOk result (ReadsOn R.reads R.asked reader.old reader.new
+            (read_to at self.old.bytes.items self.old.used) (read_to at self.new.bytes.items self.new.used)) }
         ensures outage { IfErr result (λ fault. fault ≢ CheckFault.NoMemory →
             (fault ≡ CheckFault.StoreFault (R.faults reader.new)) × Rose (R.faults reader.old) (R.faults reader.new)) }
         ensures no_memory { result ≡ Err CheckFault.NoMemory → R.faults reader.new ≡ R.faults reader.old }
         ensures quiet { OnOk result (R.faults reader.new ≡ R.faults reader.old) }
         ensures count { NeverFalls (R.faults reader.old) (R.faults reader.new) }
+        ensures once { MeetsOnce (R.faults reader.old) (R.faults reader.new) }
     {
         if self.used < self.bytes.len() {
             return Ok(());
@@ -85,15 +89,18 @@ fn read_padded<L: Leaf, R: Reader<L>>(
     reader: &mut R,
 ) -> Result<(), CheckFault>
     requires length { HasLength (L.contents leaf.now) there }
+    requires few { count ≤ PIECE }
     ensures length { OnOk result (length into.new.items ≡ count) }
     ensures bytes { OnOk result (IfSome (L.contents leaf.now) (λ bytes. (i : ℕ) → i < count →
         slice_index into.new.items i ≡ slice_index bytes (at + i))) }
     ensures asked { OnOk result (AskedFor (R.asked reader.old) (R.asked reader.new) (min count (there - at))) }
+    ensures pieces { OnOk result (ReadsOn R.reads R.asked reader.old reader.new at (at + count)) }
     ensures outage { IfErr result (λ fault. fault ≢ CheckFault.NoMemory →
         (fault ≡ CheckFault.StoreFault (R.faults reader.new)) × Rose (R.faults reader.old) (R.faults reader.new)) }
     ensures no_memory { result ≡ Err CheckFault.NoMemory → R.faults reader.new ≡ R.faults reader.old }
     ensures quiet { OnOk result (R.faults reader.new ≡ R.faults reader.old) }
     ensures count { NeverFalls (R.faults reader.old) (R.faults reader.new) }
+    ensures once { MeetsOnce (R.faults reader.old) (R.faults reader.new) }
 {
     into.resize(count, 0)?;
     fill_padded(leaf, at, there, into, reader)
@@ -108,15 +115,18 @@ fn fill_padded<L: Leaf, R: Reader<L>>(
     reader: &mut R,
 ) -> Result<(), CheckFault>
     requires length { HasLength (L.contents leaf.now) there }
+    requires few { length into.old ≤ PIECE }
     ensures bytes { OnOk result (IfSome (L.contents leaf.now) (λ bytes. (i : ℕ) → i < length into.old →
         slice_index into.new i ≡ slice_index bytes (at + i))) }
     ensures asked { OnOk result (AskedFor (R.asked reader.old) (R.asked reader.new)
         (min (length into.old) (there - at))) }
+    ensures pieces { OnOk result (ReadsOn R.reads R.asked reader.old reader.new at (at + length into.old)) }
     ensures outage { IfErr result (λ fault. fault ≢ CheckFault.NoMemory →
         (fault ≡ CheckFault.StoreFault (R.faults reader.new)) × Rose (R.faults reader.old) (R.faults reader.new)) }
     ensures no_memory { result ≡ Err CheckFault.NoMemory → R.faults reader.new ≡ R.faults reader.old }
     ensures quiet { OnOk result (R.faults reader.new ≡ R.faults reader.old) }
     ensures count { NeverFalls (R.faults reader.old) (R.faults reader.new) }
+    ensures once { MeetsOnce (R.faults reader.old) (R.faults reader.new) }
 {
     let standing = there.saturating_sub(at).min(into.len() as u64) as usize;
     into[standing..].fill(0);

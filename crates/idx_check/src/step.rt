@@ -1,6 +1,6 @@
 ghost use Rattle.std.specs.Option.{option_map};
 ghost use Rattle.std.specs.Prelude.{◌≡◌, ◌≢◌, ◌↔◌, ℕ, ◌+◌, ◌*◌, ◌^◌, ◌<◌, ◌≤◌, Err, None, Ok, Some, IfErr, IfOk, IfSome, IfNone, OnErr, OnOk, if◌then◌else◌};
-ghost use Rattle.idx_outside.specs.Cause.{AskedFor, NeverFalls, Rose};
+ghost use Rattle.idx_outside.specs.Cause.{AskedFor, MeetsOnce, NeverFalls, Rose};
 ghost use Rattle.idx_outside.specs.Files.{StillAdmits, file_at, stored_at};
 ghost use Rattle.idx_outside.specs.declared.bay_call.BayCall.{BayCall};
 ghost use Rattle.idx_header.specs.Header.{IsHeader, block_count};
@@ -8,6 +8,7 @@ ghost use Rattle.idx_header.specs.Names.{file_name};
 ghost use Rattle.idx_layout.specs.OfHeader.{placing_of};
 ghost use Rattle.idx_edition.specs.Loaded.{counts};
 ghost use Rattle.idx_check.specs.Cause.{IsCheckCause};
+ghost use Rattle.idx_check.specs.Pieces.{ReadsOn, most_asked};
 ghost use Rattle.idx_check.specs.Verdict.{file_count, is_written, verdict_of, wrong_there, written_length};
 
 use crate::file::wrong_byte;
@@ -33,12 +34,16 @@ pub fn check_step<B: Bay, R: Reader<B::Leaf>>(
         verdict ≡ verdict_of header.now time files)) }
     ensures whole { (files bytes : ℕ) → result ≡ Ok (Verdict.Same files bytes) →
         AskedFor (R.asked reader.old) (R.asked reader.new) bytes }
+    ensures pieces { IfOk result (λ verdict. ReadsOn R.reads R.asked reader.old reader.new 0
+        (most_asked (placing_of header.now) verdict)) }
     ensures cause { IfErr result (IsCheckCause
         (counts B.faults B.failed R.faults bay.old bay.new reader.old reader.new)) }
     ensures quiet { OnOk result (B.faults bay.new ≡ B.faults bay.old) }
     ensures reader_quiet { OnOk result (R.faults reader.new ≡ R.faults reader.old) }
     ensures count { NeverFalls (B.faults bay.old) (B.faults bay.new) }
+    ensures once { MeetsOnce (B.faults bay.old) (B.faults bay.new) }
     ensures reader_count { NeverFalls (R.faults reader.old) (R.faults reader.new) }
+    ensures reader_once { MeetsOnce (R.faults reader.old) (R.faults reader.new) }
     ensures header { B.header bay.new ≡ B.header bay.old }
     ensures files { B.files bay.new ≡ B.files bay.old }
     ensures admits { StillAdmits B.admits bay.old bay.new }
@@ -136,12 +141,16 @@ fn wrong_with<B: Bay, R: Reader<B::Leaf>>(
         wrong_there (placing_of header.now) file (file_at (file_name header.now time file) files))) }
     ensures whole { result ≡ Ok None → AskedFor (R.asked reader.old) (R.asked reader.new)
         (written_length (placing_of header.now) file) }
+    ensures pieces { OnOk result (ReadsOn R.reads R.asked reader.old reader.new 0
+        (written_length (placing_of header.now) file)) }
     ensures cause { IfErr result (IsCheckCause
         (counts B.faults B.failed R.faults bay.old bay.new reader.old reader.new)) }
     ensures quiet { OnOk result (B.faults bay.new ≡ B.faults bay.old) }
     ensures reader_quiet { OnOk result (R.faults reader.new ≡ R.faults reader.old) }
     ensures count { NeverFalls (B.faults bay.old) (B.faults bay.new) }
+    ensures once { MeetsOnce (B.faults bay.old) (B.faults bay.new) }
     ensures reader_count { NeverFalls (R.faults reader.old) (R.faults reader.new) }
+    ensures reader_once { MeetsOnce (R.faults reader.old) (R.faults reader.new) }
     ensures header { B.header bay.new ≡ B.header bay.old }
     ensures files { B.files bay.new ≡ B.files bay.old }
     ensures admits { StillAdmits B.admits bay.old bay.new }
@@ -189,11 +198,14 @@ fn wrong_in_file<L: Leaf, R: Reader<L>>(
         wrong_there (placing_of header.now) file (Some bytes))) }
     ensures whole { result ≡ Ok None → AskedFor (R.asked reader.old) (R.asked reader.new)
         (written_length (placing_of header.now) file) }
+    ensures pieces { OnOk result (ReadsOn R.reads R.asked reader.old reader.new 0
+        (written_length (placing_of header.now) file)) }
     ensures outage { IfErr result (λ fault. fault ≢ CheckFault.NoMemory →
         (fault ≡ CheckFault.StoreFault (R.faults reader.new)) × Rose (R.faults reader.old) (R.faults reader.new)) }
     ensures no_memory { result ≡ Err CheckFault.NoMemory → R.faults reader.new ≡ R.faults reader.old }
     ensures quiet { OnOk result (R.faults reader.new ≡ R.faults reader.old) }
     ensures count { NeverFalls (R.faults reader.old) (R.faults reader.new) }
+    ensures once { MeetsOnce (R.faults reader.old) (R.faults reader.new) }
 {
     if !is_written(header, file) {
         return Ok(Some(Wrong {
@@ -223,6 +235,7 @@ fn leaf_of<B: Bay>(path: &[u8], bay: &mut B) -> Result<Option<B::Leaf>, CheckFau
     ensures uncalled { result ≡ Err CheckFault.NoMemory → B.failed bay.new ≡ B.failed bay.old }
     ensures quiet { OnOk result (B.faults bay.new ≡ B.faults bay.old) }
     ensures count { NeverFalls (B.faults bay.old) (B.faults bay.new) }
+    ensures once { MeetsOnce (B.faults bay.old) (B.faults bay.new) }
     ensures header { B.header bay.new ≡ B.header bay.old }
     ensures files { B.files bay.new ≡ B.files bay.old }
     ensures admits { StillAdmits B.admits bay.old bay.new }

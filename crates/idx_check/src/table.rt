@@ -1,5 +1,5 @@
 ghost use Rattle.std.specs.Prelude.{◌≡◌, ◌≢◌, ℕ, ◌+◌, ◌-◌, ◌<◌, ◌≤◌, min, Err, IfErr, IfOk, IfSome, IfNone, List, OnErr, OnOk, length, slice_index};
-ghost use Rattle.idx_outside.specs.Cause.{AskedFor, NeverFalls, Rose};
+ghost use Rattle.idx_outside.specs.Cause.{AskedFor, MeetsOnce, NeverFalls, Rose};
 ghost use Rattle.idx_header.specs.Header.{IsHeader, block_count};
 ghost use Rattle.idx_table.specs.Row.{row_bytes};
 ghost use Rattle.idx_table.specs.Table.{table_bytes};
@@ -7,6 +7,7 @@ ghost use Rattle.idx_layout.specs.Files.{row_count};
 ghost use Rattle.idx_layout.specs.OfHeader.{placing_of};
 ghost use Rattle.idx_check.specs.Form.{HasForm};
 ghost use Rattle.idx_check.specs.Piece.{AskedUpTo, HasLength, IsOnTheWay};
+ghost use Rattle.idx_check.specs.Pieces.{ReadsOn, read_to};
 ghost use Rattle.idx_check.specs.Stray.{IsFirstBetween};
 
 use crate::CheckFault;
@@ -35,11 +36,14 @@ pub(crate) fn wrong_in_table<L: Leaf, R: Reader<L>>(
     ensures fresh { IfOk result (λ found. IfNone found (length piece.new.bytes.items ≡ piece.new.used)) }
     ensures asked { IfOk result (λ found. IfNone found (AskedFor (R.asked reader.old) (R.asked reader.new)
         (min (table_bytes (row_count (placing_of header.now))) there))) }
+    ensures pieces { OnOk result (ReadsOn R.reads R.asked reader.old reader.new 0
+        (table_bytes (row_count (placing_of header.now)))) }
     ensures outage { IfErr result (λ fault. fault ≢ CheckFault.NoMemory →
         (fault ≡ CheckFault.StoreFault (R.faults reader.new)) × Rose (R.faults reader.old) (R.faults reader.new)) }
     ensures no_memory { result ≡ Err CheckFault.NoMemory → R.faults reader.new ≡ R.faults reader.old }
     ensures quiet { OnOk result (R.faults reader.new ≡ R.faults reader.old) }
     ensures count { NeverFalls (R.faults reader.old) (R.faults reader.new) }
+    ensures once { MeetsOnce (R.faults reader.old) (R.faults reader.new) }
 {
     let stretch = Stretch {
         there,
@@ -82,11 +86,17 @@ fn wrong_in_row<L: Leaf, R: Reader<L>>(
         AskedUpTo before (R.asked reader.old) piece.old.bytes.items piece.old.used at stretch.there →
         IfOk result (λ found. IfNone found (AskedUpTo before (R.asked reader.new)
         piece.new.bytes.items piece.new.used (at + ROW_BYTES) stretch.there)) }
+    ensures pieces { IfOk result (λ found. IfNone found (ReadsOn R.reads R.asked reader.old reader.new
+        (read_to at piece.old.bytes.items piece.old.used)
+        (read_to (at + ROW_BYTES) piece.new.bytes.items piece.new.used))) }
+    ensures ended { IfOk result (λ found. IfSome found (λ _. ReadsOn R.reads R.asked reader.old reader.new
+        (read_to at piece.old.bytes.items piece.old.used) stretch.end)) }
     ensures outage { IfErr result (λ fault. fault ≢ CheckFault.NoMemory →
         (fault ≡ CheckFault.StoreFault (R.faults reader.new)) × Rose (R.faults reader.old) (R.faults reader.new)) }
     ensures no_memory { result ≡ Err CheckFault.NoMemory → R.faults reader.new ≡ R.faults reader.old }
     ensures quiet { OnOk result (R.faults reader.new ≡ R.faults reader.old) }
     ensures count { NeverFalls (R.faults reader.old) (R.faults reader.new) }
+    ensures once { MeetsOnce (R.faults reader.old) (R.faults reader.new) }
 {
     piece.look_ahead(stretch, at, leaf, reader)?;
     let from = piece.used;

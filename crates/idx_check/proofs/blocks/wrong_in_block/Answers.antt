@@ -3,6 +3,8 @@ use Rattle.std.specs.Prelude.{slice_index}
 use Rattle.idx_check.specs.Piece.{AskedUpTo, IsOnTheWay}
 use Rattle.idx_check.specs.Stray.{IsClean, IsStray}
 use Rattle.idx_check.proofs.PieceLemmas.{asked_next, length-slice, way_behind}
+use Rattle.idx_check.specs.Pieces.{ReadsOn, read_to}
+use Rattle.idx_check.proofs.PiecesLemmas.{reads_both, reads_none, reads_wider}
 use Rattle.idx_check.proofs.RunLemmas.{clean_begins, clean_whole, run_clean, run_of, run_stray, runs_end}
 use Rattle.idx_check.proofs.blocks.wrong_in_block.Goals as goal
 
@@ -13,6 +15,8 @@ loop-k-init g c =
       clean = clean_begins (g.L.Leaf.contents c.args.leaf.now) c.args.header.now.mask c.args.header.now.box c.args.run.size (c.args.block * 2 ^ c.args.header.now.block_bits) c.args.at c.args.run.bytes;
       way = c.requires.way;
       asked = λ before is. is;
+      pieces = reads_none (g.R.Reader.reads c.args.reader.now) (g.R.Reader.reads c.args.reader.now) (g.R.Reader.asked c.args.reader.now) (g.R.Reader.asked c.args.reader.now)
+          (read_to c.args.at c.args.piece.now.bytes.items c.args.piece.now.used) (read_to c.args.at c.args.piece.now.bytes.items c.args.piece.now.used) refl refl (omega arith);
       quiet = refl;
     }
 
@@ -91,6 +95,21 @@ returns-in-Some-clause-within g c =
     subst (λ (xs : List ℕ). c.in-Some.place < length (take cut (drop used xs))) c.deref.ensures.value c.in-Some.ensures.within in
     omega (arith, less, length-slice piece used n cut cut_is room, run.room, c.loop-k.invariant.next)
 
+pub returns-in-Some-clause-ended : goal.returns-in-Some-clause-ended
+returns-in-Some-clause-ended g c =
+    let run = run_of (length c.args.header.now.mask) c.args.header.now.block_bits c.args.run.bits c.args.block c.address_count-runs.result c.loop-k.k c.args.run.size c.args.run.bytes c.args.at c.loop-k.next
+    c.requires.bits c.mask-mask.ensures.valid.bits_within c.mask-mask.ensures.valid.mask.few c.requires.exists
+    (c.address_count-runs.ensures.value ∙ ap (λ n. 2 ^ (n - c.args.run.bits)) c.bits_per_block.ensures.value) c.loop-k-test.true c.requires.run c.loop-k.invariant.next in
+    let reads = g.R.Reader.reads in
+    let asked = g.R.Reader.asked in
+    let piece : List ℕ = c.look_ahead.new.self.bytes.items in
+    let used : ℕ = c.look_ahead.new.self.used in
+    let before : ℕ = read_to c.loop-k.next c.loop-k.piece.bytes.items c.loop-k.piece.used in
+    reads_both (reads c.args.reader.now) (reads c.loop-k.reader) (reads c.look_ahead.new.reader) (asked c.args.reader.now) (asked c.loop-k.reader) (asked c.look_ahead.new.reader)
+    (read_to c.args.at c.args.piece.now.bytes.items c.args.piece.now.used) before c.args.stretch.end c.loop-k.invariant.pieces
+    (reads_wider (reads c.loop-k.reader) (reads c.look_ahead.new.reader) (asked c.loop-k.reader) (asked c.look_ahead.new.reader) before (read_to c.loop-k.next piece used) before c.args.stretch.end
+    (omega (arith, c.in_ok-look_ahead.ensures.way.few, run.behind, c.requires.more, c.requires.unit)) c.in_ok-look_ahead.ensures.pieces)
+
 pub loop-k-preserved : goal.loop-k-preserved
 loop-k-preserved g c =
     let run = run_of (length c.args.header.now.mask) c.args.header.now.block_bits c.args.run.bits c.args.block c.address_count-runs.result c.loop-k.k c.args.run.size c.args.run.bytes c.args.at c.loop-k.next
@@ -123,6 +142,13 @@ loop-k-preserved g c =
       way = way_behind contents piece used n c.loop-k.next c.args.stretch.end way room (omega (arith, run.behind, c.requires.more));
       asked = λ before is. asked_next before (g.R.Reader.asked c.look_ahead.new.reader) piece used n c.loop-k.next c.args.stretch.there room
           (c.in_ok-look_ahead.ensures.asked before (c.loop-k.invariant.asked before is));
+      pieces = reads_both (g.R.Reader.reads c.args.reader.now) (g.R.Reader.reads c.loop-k.reader) (g.R.Reader.reads c.look_ahead.new.reader)
+          (g.R.Reader.asked c.args.reader.now) (g.R.Reader.asked c.loop-k.reader) (g.R.Reader.asked c.look_ahead.new.reader)
+          (read_to c.args.at c.args.piece.now.bytes.items c.args.piece.now.used) (read_to c.loop-k.next c.loop-k.piece.bytes.items c.loop-k.piece.used) (read_to (c.loop-k.next + n) piece (used + n))
+          c.loop-k.invariant.pieces
+          (reads_wider (g.R.Reader.reads c.loop-k.reader) (g.R.Reader.reads c.look_ahead.new.reader) (g.R.Reader.asked c.loop-k.reader) (g.R.Reader.asked c.look_ahead.new.reader)
+          (read_to c.loop-k.next c.loop-k.piece.bytes.items c.loop-k.piece.used) (read_to c.loop-k.next piece used) (read_to c.loop-k.next c.loop-k.piece.bytes.items c.loop-k.piece.used) (read_to (c.loop-k.next + n) piece (used + n))
+          (omega (arith, room)) c.in_ok-look_ahead.ensures.pieces);
       quiet = c.in_ok-look_ahead.ensures.quiet ∙ c.loop-k.invariant.quiet;
     }
 
@@ -144,3 +170,9 @@ returns-clause-asked g c =
     let end = runs_end c.args.header.now.block_bits c.args.run.bits c.address_count-runs.result c.loop-k.k c.args.run.size c.args.run.bytes c.args.at c.loop-k.next
     c.requires.bits (c.address_count-runs.ensures.value ∙ ap (λ n. 2 ^ (n - c.args.run.bits)) c.bits_per_block.ensures.value) (omega (arith, c.loop-k-test.false, c.loop-k.auto.k-end)) c.requires.run c.loop-k.invariant.next in
     λ before is. subst (λ (at : ℕ). AskedUpTo before (g.R.Reader.asked c.loop-k.reader) c.loop-k.piece.bytes.items c.loop-k.piece.used at c.args.stretch.there) end.1 (c.loop-k.invariant.asked before is)
+
+pub returns-clause-pieces : goal.returns-clause-pieces
+returns-clause-pieces g c =
+    let end = runs_end c.args.header.now.block_bits c.args.run.bits c.address_count-runs.result c.loop-k.k c.args.run.size c.args.run.bytes c.args.at c.loop-k.next
+    c.requires.bits (c.address_count-runs.ensures.value ∙ ap (λ n. 2 ^ (n - c.args.run.bits)) c.bits_per_block.ensures.value) (omega (arith, c.loop-k-test.false, c.loop-k.auto.k-end)) c.requires.run c.loop-k.invariant.next in
+    subst (λ (at : ℕ). ReadsOn g.R.Reader.reads g.R.Reader.asked c.args.reader.now c.loop-k.reader (read_to c.args.at c.args.piece.now.bytes.items c.args.piece.now.used) (read_to at c.loop-k.piece.bytes.items c.loop-k.piece.used)) end.1 c.loop-k.invariant.pieces

@@ -8,6 +8,8 @@ use Rattle.idx_check.specs.Piece.{AskedUpTo, IsOnTheWay}
 use Rattle.idx_check.proofs.FieldLemmas.{AreSeen, agrees_nowhere, block_agrees, block_differs, bytes_of_block, next_block, seen_all, seen_first, size_of, whole_runs}
 use Rattle.idx_check.proofs.NatLemmas.{some_bytes}
 use Rattle.idx_check.proofs.PieceLemmas.{asked_begins, asked_ends, way_begins, way_ends}
+use Rattle.idx_check.specs.Pieces.{ReadsOn, read_to}
+use Rattle.idx_check.proofs.PiecesLemmas.{reads_both, reads_none, reads_wider}
 use Rattle.idx_check.proofs.TableLemmas.{agrees_to, if_none, if_some}
 use Rattle.idx_check.proofs.blocks.wrong_in_field.Goals as goal
 
@@ -23,6 +25,8 @@ loop-block-init g c =
       way = way_begins (g.L.Leaf.contents c.args.leaf.now) c.args.piece.now.bytes.items c.args.piece.now.used c.run_of-run.result.bytes c.args.at (c.args.end - c.args.at) c.requires.fresh
           (whole_runs (block_bytes (placing_of c.args.header.now) c.args.field) c.args.header.now.block_bits c.run_of-run.result.bits c.run_of-run.result.size c.run_of-run.result.bytes
           (length (present_blocks (placing_of c.args.header.now) c.args.file)) (c.args.end - c.args.at) c.run_of-run.ensures.bits c.run_of-run.ensures.bytes (sym bytes) left) some;
+      pieces = reads_none (g.R.Reader.reads c.args.reader.now) (g.R.Reader.reads c.args.reader.now) (g.R.Reader.asked c.args.reader.now) (g.R.Reader.asked c.args.reader.now)
+          c.args.at (read_to c.args.at c.args.piece.now.bytes.items c.args.piece.now.used) refl refl (omega (arith, c.requires.fresh));
       asked = λ before is. asked_begins before (g.R.Reader.asked c.args.reader.now) c.args.piece.now.bytes.items c.args.piece.now.used c.args.at c.args.there c.requires.fresh is;
       quiet = refl;
     }
@@ -69,6 +73,15 @@ overflow_add-next g c =
     let bytes : c.run_of-run.result.size * 2 ^ c.args.header.now.block_bits ≡ c.block_bytes-next.result = ap (λ s. s * 2 ^ c.args.header.now.block_bits) c.run_of-run.ensures.size ∙ sym c.block_bytes-next.ensures.value in
     omega (arith, next.fits, bytes, c.ranges.end.fits)
 
+pub returns-in-Some-found-clause-pieces : goal.returns-in-Some-found-clause-pieces
+returns-in-Some-found-clause-pieces g c =
+    let reads = g.R.Reader.reads in
+    let asked = g.R.Reader.asked in
+    reads_both (reads c.args.reader.now) (reads c.loop-block.reader) (reads c.wrong_in_block.new.reader) (asked c.args.reader.now) (asked c.loop-block.reader) (asked c.wrong_in_block.new.reader)
+    c.args.at (read_to c.loop-block.next c.loop-block.piece.bytes.items c.loop-block.piece.used) c.args.end c.loop-block.invariant.pieces
+    (if_some c.in_ok-found.found c.in-Some-found.place (λ _. ReadsOn reads asked c.loop-block.reader c.wrong_in_block.new.reader (read_to c.loop-block.next c.loop-block.piece.bytes.items c.loop-block.piece.used) c.args.end)
+    c.in-Some-found.is c.in_ok-found.ensures.ended)
+
 pub loop-block-preserved : goal.loop-block-preserved
 loop-block-preserved g c =
     let next = next_block c.args.header.now c.args.file c.args.field c.in-Some.block c.loop-block.block-iterator c.next.new.self c.args.at c.loop-block.next c.args.end (c.run_of-run.result.size * 2 ^ c.args.header.now.block_bits)
@@ -91,6 +104,11 @@ loop-block-preserved g c =
           (if_none c.in_ok-found.found c.in_default.is c.in_ok-found.ensures.way);
       asked = λ before is. subst (λ (at : ℕ). AskedUpTo before (g.R.Reader.asked c.wrong_in_block.new.reader) c.wrong_in_block.new.piece.bytes.items c.wrong_in_block.new.piece.used at c.args.there) place
           (if_none c.in_ok-found.found c.in_default.is (c.in_ok-found.ensures.asked before (c.loop-block.invariant.asked before is)));
+      pieces = subst (λ (at : ℕ). ReadsOn g.R.Reader.reads g.R.Reader.asked c.args.reader.now c.wrong_in_block.new.reader c.args.at (read_to at c.wrong_in_block.new.piece.bytes.items c.wrong_in_block.new.piece.used)) place
+          (reads_both (g.R.Reader.reads c.args.reader.now) (g.R.Reader.reads c.loop-block.reader) (g.R.Reader.reads c.wrong_in_block.new.reader)
+          (g.R.Reader.asked c.args.reader.now) (g.R.Reader.asked c.loop-block.reader) (g.R.Reader.asked c.wrong_in_block.new.reader)
+          c.args.at (read_to c.loop-block.next c.loop-block.piece.bytes.items c.loop-block.piece.used) (read_to (c.loop-block.next + n) c.wrong_in_block.new.piece.bytes.items c.wrong_in_block.new.piece.used)
+          c.loop-block.invariant.pieces (if_none c.in_ok-found.found c.in_default.is c.in_ok-found.ensures.pieces));
       quiet = c.in_ok-found.ensures.quiet ∙ c.loop-block.invariant.quiet;
     }
 
@@ -110,3 +128,12 @@ returns-clause-asked g c =
     let fresh = way_ends (g.L.Leaf.contents c.args.leaf.now) c.loop-block.piece.bytes.items c.loop-block.piece.used c.run_of-run.result.bytes c.loop-block.next (c.args.end - c.loop-block.next) c.loop-block.invariant.way (omega (arith, end)) in
     λ before is. subst (λ (n : ℕ). AskedFor before (g.R.Reader.asked c.loop-block.reader) (min n c.args.there)) end
     (asked_ends before (g.R.Reader.asked c.loop-block.reader) c.loop-block.piece.bytes.items c.loop-block.piece.used c.loop-block.next c.args.there fresh (c.loop-block.invariant.asked before is))
+
+pub returns-clause-pieces : goal.returns-clause-pieces
+returns-clause-pieces g c =
+    let reads = g.R.Reader.reads in
+    let asked = g.R.Reader.asked in
+    let end = seen_all (placing_of c.args.header.now) c.args.file c.args.field c.loop-block.block-iterator c.args.at c.loop-block.next c.args.end c.loop-block.invariant.seen c.in-None.ensures.steps.0 c.requires.ends in
+    let fresh = way_ends (g.L.Leaf.contents c.args.leaf.now) c.loop-block.piece.bytes.items c.loop-block.piece.used c.run_of-run.result.bytes c.loop-block.next (c.args.end - c.loop-block.next) c.loop-block.invariant.way (omega (arith, end)) in
+    reads_wider (reads c.args.reader.now) (reads c.loop-block.reader) (asked c.args.reader.now) (asked c.loop-block.reader) c.args.at (read_to c.loop-block.next c.loop-block.piece.bytes.items c.loop-block.piece.used) c.args.at c.args.end
+    (omega (arith, end, fresh)) c.loop-block.invariant.pieces

@@ -1,10 +1,12 @@
-use Rattle.std.proofs.Common.{◌≡◌, ℕ, ◌<◌, ◌*◌, Ok, ap, ◌∙◌, arith}
+use Rattle.std.proofs.Common.{◌≡◌, ℕ, ◌+◌, ◌<◌, ◌*◌, Ok, ap, ◌∙◌, subst, arith}
 use Rattle.std.specs.Option.{option_map}
 use Rattle.idx_header.specs.Header.{HeaderValue, IsHeader}
 use Rattle.idx_layout.specs.OfHeader.{placing_of}
 use Rattle.idx_layout.specs.Placing.{Placing}
 use Rattle.idx_check.specs.Verdict.{file_count, is_written, written_length}
 use Rattle.idx_check.specs.declared.verdict.Verdict.TheVariants.{Wrong}
+use Rattle.idx_check.specs.Pieces.{ReadsOn}
+use Rattle.idx_check.proofs.PiecesLemmas.{most_of_wrong, reads_both, reads_wider}
 use Rattle.idx_check.proofs.StepLemmas.{asked_next, bytes_next, count_next, few_files_next, few_next, first_is, nothing_is, place, right_next}
 use Rattle.idx_check.proofs.step.check_step.Goals as goal
 
@@ -58,6 +60,10 @@ loop-i-preserved g c =
       few_bytes = few_next h file i c.loop-i.sum.bytes more.result.bytes valid before.few_bytes more.ensures.bytes;
       asked = asked_next (asked c.args.reader.now) (asked c.loop-i.reader) (asked c.wrong_with.new.reader) c.loop-i.sum.bytes (written_length l file) more.result.bytes before.asked
           (found.whole (ap Ok c.in_default.is)) more.ensures.bytes;
+      pieces = reads_both (g.R.Reader.reads c.args.reader.now) (g.R.Reader.reads c.loop-i.reader) (g.R.Reader.reads c.wrong_with.new.reader) (asked c.args.reader.now) (asked c.loop-i.reader) (asked c.wrong_with.new.reader)
+          0 c.loop-i.sum.bytes more.result.bytes before.pieces
+          (reads_wider (g.R.Reader.reads c.loop-i.reader) (g.R.Reader.reads c.wrong_with.new.reader) (asked c.loop-i.reader) (asked c.wrong_with.new.reader) 0 (written_length l file) c.loop-i.sum.bytes more.result.bytes
+          (omega (arith, more.ensures.bytes)) found.pieces);
       files = found.files ∙ before.files;
       header = found.header ∙ before.header;
       admits = λ path admitted. found.admits path (before.admits path admitted);
@@ -67,6 +73,25 @@ loop-i-preserved g c =
       quiet = found.quiet ∙ before.quiet;
       reader_quiet = found.reader_quiet ∙ before.reader_quiet;
     }
+
+pub returns-in-Some-clause-pieces : goal.returns-in-Some-clause-pieces
+returns-in-Some-clause-pieces g c =
+    let h : HeaderValue = c.args.header.now in
+    let l : Placing = placing_of h in
+    let reads = g.R.Reader.reads in
+    let asked = g.R.Reader.asked in
+    let i : ℕ = c.loop-i.i in
+    let before = c.loop-i.invariant in
+    let valid : IsHeader h = c.blocks_per_file.ensures.valid in
+    let within : i < file_count l = omega (arith, c.loop-i-test.true, c.all_files-i-end.ensures.value) in
+    let here = place h i c.blocks_per_file.result valid c.blocks_per_file.ensures.value within in
+    let file : ℕ = i * c.blocks_per_file.result in
+    let total = most_of_wrong l file i c.in-Some.first.at c.loop-i.sum.bytes c.in-Some.first.why valid.blocks_some here.begins before.sum in
+    subst (λ (n : ℕ). ReadsOn reads asked c.args.reader.now c.wrong_with.new.reader 0 n) total
+    (reads_both (reads c.args.reader.now) (reads c.loop-i.reader) (reads c.wrong_with.new.reader) (asked c.args.reader.now) (asked c.loop-i.reader) (asked c.wrong_with.new.reader)
+    0 c.loop-i.sum.bytes (c.loop-i.sum.bytes + written_length l file) before.pieces
+    (reads_wider (reads c.loop-i.reader) (reads c.wrong_with.new.reader) (asked c.loop-i.reader) (asked c.wrong_with.new.reader) 0 (written_length l file) c.loop-i.sum.bytes (c.loop-i.sum.bytes + written_length l file)
+    (omega arith) c.in_ok-wrong.ensures.pieces))
 
 pub returns-clause-verdict : goal.returns-clause-verdict
 returns-clause-verdict g c =

@@ -4,7 +4,9 @@ use Rattle.idx_outside.specs.Cause.{AskedFor}
 use Rattle.idx_outside.specs.Files.{StillAdmits}
 use Rattle.idx_layout.specs.Files.{length_of_file}
 use Rattle.idx_layout.specs.OfHeader.{placing_of}
-use Rattle.idx_check.proofs.StepLemmas.{AreRight, written_before}
+use Rattle.idx_check.specs.Pieces.{ReadsOn}
+use Rattle.idx_check.specs.Verdict.{written_before}
+use Rattle.idx_check.proofs.StepLemmas.{AreRight}
 use Rattle.idx_check.proofs.step.check_step.Given as goal
 
 -- nothing is wrong with the files so far, and the sum is that of those that are written
@@ -18,6 +20,7 @@ invariant-loop-i g l =
       few_files : l.sum.files ≤ l.i;
       few_bytes : l.sum.bytes ≤ 2 ^ 31 * (l.header.blocks_per_file * l.i);
       asked : AskedFor (g.R.Reader.asked l.fn.reader) (g.R.Reader.asked l.reader) l.sum.bytes;
+      pieces : ReadsOn g.R.Reader.reads g.R.Reader.asked l.fn.reader l.reader 0 l.sum.bytes;
       files : bay.files l.bay ≡ bay.files l.fn.bay;
       header : bay.header l.bay ≡ bay.header l.fn.bay;
       admits : StillAdmits bay.admits l.fn.bay l.bay;
