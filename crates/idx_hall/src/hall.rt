@@ -54,6 +54,8 @@ impl<E: Blocks> Model for Hall<E> {
 impl<E: Blocks> Standing for Hall<E> {
     ghost shape = { λ h. h.shape };
 
+    ghost capacity = { λ h. h.cache.cap };
+
     ghost posts = { λ h. h.board };
 }
 
@@ -158,6 +160,7 @@ impl<E: Blocks + Drop> Hall<E> {
             (result ≡ Ok None) × (self.new ≡ self.old) × (looked.new ≡ looked.old) }
         ensures refused { OnErr result ((self.new ≡ self.old) × (looked.new ≡ looked.old)) }
         ensures shape { self.new.shape ≡ self.old.shape }
+        ensures capacity { self.new.cache.cap ≡ self.old.cache.cap }
         ensures board { self.new.board ≡ self.old.board }
     {
         let Some(number) = self.newest(time) else {
@@ -186,6 +189,7 @@ impl<E: Blocks + Drop> Hall<E> {
         ensures order { OnOk result (self.new ≡ after_look post keys.now self.old) }
         ensures refused { OnErr result ((self.new ≡ self.old) × (looked.new ≡ looked.old)) }
         ensures shape { self.new.shape ≡ self.old.shape }
+        ensures capacity { self.new.cache.cap ≡ self.old.cache.cap }
         ensures board { self.new.board ≡ self.old.board }
     {
         looked.note(

@@ -19,6 +19,7 @@ use Rattle.idx_extract.specs.Extract.{IsHeaderFault, Known, Under}
 use Rattle.idx_serve.specs.declared.door.Summary.{Summary}
 use Rattle.idx_serve.specs.declared.site.Site.{Site}
 use Rattle.idx_workers.specs.Workers.{AreServed, NoneBegan, Tells}
+use Rattle.idx_query.specs.Capacity.{capacity_for}
 use Rattle.idx_board.specs.Standing.{first_bad_row, reads_of, standing_posts, step_numbers}
 use Rattle.idx_host.specs.declared.host_fault.HostFault.{HostFault}
 use Rattle.idx_host.specs.declared.host_fault.HostFault.TheVariants as faults
@@ -35,37 +36,37 @@ pub record IsLoaded {R : Type 0} (faults reads : R → ℕ) (h : HeaderValue) (f
   pub others : OthersUntouched old new 0
   pub number : length new ≡ length old
 
--- The seat that serves before the first link: it has seen exactly these posts, and adds none.
-abbrev pub serving_seat : LockId → HeaderValue → List Post → SeatValue
-serving_seat lock h posts = seat_value lock (stand (shape_of h) posts) false
+-- The seat that serves before the first link: its lock's hall keeps so many blocks, it has seen exactly these posts, and adds none.
+abbrev pub serving_seat : LockId → HeaderValue → ℕ → List Post → SeatValue
+serving_seat lock h capacity posts = seat_value lock (stand (shape_of h) capacity posts) false
 
--- So many workers served a site side by side, each at a door and with a reader of its own, on seats that had seen exactly these posts
--- before the first link; or there was no memory for the workers. In the end these are all posts, and what each worker has
--- seen by then is their beginning.
-pub record AreServedOut {L D R : Type 0} (tell : Tells L D R) (site : Site) (workers : ℕ) (doors_old doors_new : List D)
+-- So many workers served a site side by side, each at a door and with a reader of its own, out of one hall that keeps so many blocks, on
+-- seats that had seen exactly these posts before the first link; or there was no memory for the workers. In the end these are all
+-- posts, and what each worker has seen by then is their beginning.
+pub record AreServedOut {L D R : Type 0} (tell : Tells L D R) (site : Site) (capacity workers : ℕ) (doors_old doors_new : List D)
     (readers_old readers_new : List R) (posts last : List Post) (summary : Summary) : Type 0 where
   pub lock : LockId
   pub back : SeatValue
-  pub served : AreServed tell site workers (serving_seat lock site.header posts) back doors_old doors_new readers_old readers_new summary
-      ⊎ NoneBegan (serving_seat lock site.header posts) back doors_old doors_new readers_old readers_new summary
+  pub served : AreServed tell site workers (serving_seat lock site.header capacity posts) back doors_old doors_new readers_old readers_new summary
+      ⊎ NoneBegan (serving_seat lock site.header capacity posts) back doors_old doors_new readers_old readers_new summary
   pub seen : Begins back.seen.posts last
 
 -- No row of the steps that stand is faulty, their newest revisions were published by rising time, and the workers served out of
--- them.
+-- them, with a cache of the capacity that follows from what was wished for.
 pub record IsHosted {L D R : Type 0} (tell : Tells L D R) (h : HeaderValue) (name : List ℕ) (files : Option (List MemFile))
-    (workers : ℕ) (doors_old doors_new : List D) (readers_old readers_new : List R) (posts last : List Post)
+    (cache workers : ℕ) (doors_old doors_new : List D) (readers_old readers_new : List R) (posts last : List Post)
     (summary : Summary) : Type 0 where
   pub sound : IfSome files (λ files. first_bad_row h files ≡ None)
   pub standing : IfSome files (λ files. posts ≡ standing_posts h files)
   pub loaded : List R
   pub load : IsLoaded tell.reader_faults tell.reads h files readers_old loaded
-  pub served : AreServedOut tell (site_of h name) workers doors_old doors_new loaded readers_new posts last summary
+  pub served : AreServedOut tell (site_of h name) (capacity_for h cache) workers doors_old doors_new loaded readers_new posts last summary
 
 -- The same under the header of the text, where that is known: no post was added meanwhile.
-abbrev pub Hosted : {L D R : Type 0} → Tells L D R → List ℕ → Option (List ℕ) → Option (List MemFile) → ℕ → List D → List D → List R → List R → Summary → Type 0
-Hosted tell name header files workers doors_old doors_new readers_old readers_new summary =
+abbrev pub Hosted : {L D R : Type 0} → Tells L D R → List ℕ → Option (List ℕ) → Option (List MemFile) → ℕ → ℕ → List D → List D → List R → List R → Summary → Type 0
+Hosted tell name header files cache workers doors_old doors_new readers_old readers_new summary =
     Under header (λ h. (posts : List Post)
-    × IsHosted tell h name files workers doors_old doors_new readers_old readers_new posts posts summary)
+    × IsHosted tell h name files cache workers doors_old doors_new readers_old readers_new posts posts summary)
 
 -- what is known of a bay and of the first reader, by the ghost members of their traits
 abbrev pub known_first : {B R : Type 0} → (B → Option (List ℕ)) → (B → Option (List MemFile)) → (B → ℕ) → (B → Option BayCall) → (R → ℕ) → (R → ℕ) → B → B → List R → List R → Known

@@ -1,5 +1,5 @@
 ghost use Rattle.std.specs.Prelude.{◌≡◌, ◌≢◌, ◌<◌, ◌≤◌, Err, IfErr, IfOk, OnErr, vec_len};
-ghost use Rattle.idx_outside.specs.Cause.{NeverFalls};
+ghost use Rattle.idx_outside.specs.Cause.{MeetsOnce, NeverFalls};
 ghost use Rattle.idx_outside.specs.Files.{StillAdmits};
 ghost use Rattle.idx_outside.specs.Objects.{OthersUntouched, faults_at};
 ghost use Rattle.idx_serve.specs.Visits.{link_tells};
@@ -51,7 +51,7 @@ where
     ensures hosted { IfOk result (Hosted
         (tells (link_tells D.Link.incoming D.Link.written D.Link.readings D.Link.faults)
         D.told D.faults R.faults R.reads)
-        name.now (B.header bay.old) (B.files bay.old) workers
+        name.now (B.header bay.old) (B.files bay.old) cache workers
         doors.old.items doors.new.items readers.old.items readers.new.items) }
 
     // Each refusal has its cause, and comes before a door is used and a reader but the first.
@@ -62,6 +62,8 @@ where
     ensures reader_number { OnErr result (vec_len readers.new ≡ vec_len readers.old) }
     ensures reader_count { OnErr result
         (NeverFalls (faults_at R.faults readers.old.items 0) (faults_at R.faults readers.new.items 0)) }
+    ensures reader_once { OnErr result
+        (MeetsOnce (faults_at R.faults readers.old.items 0) (faults_at R.faults readers.new.items 0)) }
 
     // A fault of the bay is answered, and so is one of the first reader before the first link.
     ensures failed { result ≢ Err HostFault.StoreFault → B.failed bay.new ≡ B.failed bay.old }
@@ -69,6 +71,7 @@ where
     ensures reader_quiet { OnErr result (result ≢ Err HostFault.StoreFault →
         faults_at R.faults readers.new.items 0 ≡ faults_at R.faults readers.old.items 0) }
     ensures bay_count { NeverFalls (B.faults bay.old) (B.faults bay.new) }
+    ensures bay_once { MeetsOnce (B.faults bay.old) (B.faults bay.new) }
 
     // Nothing of the dataset is changed.
     ensures header { B.header bay.new ≡ B.header bay.old }
@@ -111,7 +114,8 @@ where
     ensures served { IfOk result (AreServedOut
         (tells (link_tells D.Link.incoming D.Link.written D.Link.readings D.Link.faults)
         D.told D.faults R.faults R.reads)
-        site workers doors.old.items doors.new.items readers.old.items readers.new.items hall.board hall.board) }
+        site hall.cache.cap workers doors.old.items doors.new.items readers.old.items readers.new.items
+        hall.board hall.board) }
     ensures only { IfErr result (λ fault. fault ≡ HostFault.NoMemory) }
     ensures doors { OnErr result (doors.new.items ≡ doors.old.items) }
     ensures readers { OnErr result (readers.new.items ≡ readers.old.items) }

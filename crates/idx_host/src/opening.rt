@@ -1,6 +1,6 @@
 ghost use Rattle.std.specs.Prelude.{◌≡◌, ◌≢◌, ◌≤◌, ◌<◌, Err, IfErr, IfOk, IfSome, None, Ok, [], vec_len};
 ghost use Rattle.idx_outside.specs.Calls.{last_failed};
-ghost use Rattle.idx_outside.specs.Cause.{MadeReads, NeverFalls};
+ghost use Rattle.idx_outside.specs.Cause.{MadeReads, MeetsOnce, NeverFalls};
 ghost use Rattle.idx_outside.specs.Files.{StillAdmits};
 ghost use Rattle.idx_outside.specs.Objects.{OthersUntouched, faults_at};
 ghost use Rattle.idx_outside.specs.declared.bay_call.BayCall.{BayCall};
@@ -40,6 +40,7 @@ pub(crate) fn open_site<B: Bay, R: Reader<B::Leaf>>(
     ensures board { IfOk result (λ opened. IfSome (B.files bay.old)
         (λ files. opened.1.board ≡ standing_posts opened.0.header files)) }
     ensures shape { IfOk result (λ opened. opened.1.shape ≡ shape_of opened.0.header) }
+    ensures capacity { IfOk result (λ opened. opened.1.cache.cap ≡ capacity_for opened.0.header cache) }
     ensures sound { IfOk result (λ opened. IfSome (B.files bay.old)
         (λ files. first_bad_row opened.0.header files ≡ None)) }
     ensures loaded { IfOk result (λ opened. IsLoaded R.faults R.reads opened.0.header (B.files bay.old)
@@ -51,7 +52,9 @@ pub(crate) fn open_site<B: Bay, R: Reader<B::Leaf>>(
     ensures reader_quiet { result ≢ Err HostFault.StoreFault →
         faults_at R.faults readers.new.items 0 ≡ faults_at R.faults readers.old.items 0 }
     ensures bay_count { NeverFalls (B.faults bay.old) (B.faults bay.new) }
+    ensures bay_once { MeetsOnce (B.faults bay.old) (B.faults bay.new) }
     ensures reader_count { NeverFalls (faults_at R.faults readers.old.items 0) (faults_at R.faults readers.new.items 0) }
+    ensures reader_once { MeetsOnce (faults_at R.faults readers.old.items 0) (faults_at R.faults readers.new.items 0) }
     ensures others { OthersUntouched readers.old.items readers.new.items 0 }
     ensures number { vec_len readers.new ≡ vec_len readers.old }
     ensures header { B.header bay.new ≡ B.header bay.old }
@@ -90,7 +93,9 @@ fn open_with<B: Bay, R: Reader<B::Leaf>>(
     ensures quiet { result ≢ Err HostFault.StoreFault → B.faults bay.new ≡ B.faults bay.old }
     ensures reader_quiet { result ≢ Err HostFault.StoreFault → R.faults reader.new ≡ R.faults reader.old }
     ensures bay_count { NeverFalls (B.faults bay.old) (B.faults bay.new) }
+    ensures bay_once { MeetsOnce (B.faults bay.old) (B.faults bay.new) }
     ensures reader_count { NeverFalls (R.faults reader.old) (R.faults reader.new) }
+    ensures reader_once { MeetsOnce (R.faults reader.old) (R.faults reader.new) }
     ensures header { B.header bay.new ≡ B.header bay.old }
     ensures files { B.files bay.new ≡ B.files bay.old }
     ensures admits { StillAdmits B.admits bay.old bay.new }

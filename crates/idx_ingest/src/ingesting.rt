@@ -2,11 +2,13 @@ ghost use Rattle.std.specs.Prelude.{◌≡◌, ◌<◌, ◌≤◌, true, IsSome,
 ghost use Rattle.std.specs.Option.{ForSome};
 ghost use Rattle.idx_outside.specs.Cause.{NeverFalls};
 ghost use Rattle.idx_outside.specs.Files.{HasStep as HasCommitted, LiesIn};
+ghost use Rattle.idx_outside.specs.Counts.{EachMeetsOnce};
 ghost use Rattle.idx_outside.specs.Objects.{SameContents, contents_at};
 ghost use Rattle.idx_header.specs.Header.{at_revision};
 ghost use Rattle.idx_header.specs.Names.{step_folder};
 ghost use Rattle.idx_layout.specs.Shape.{shape_of};
 ghost use Rattle.idx_pieces.specs.Ranks.{rank_count};
+ghost use Rattle.idx_seal.specs.Rows.{MeetsOnceOrRow};
 ghost use Rattle.idx_gather.specs.Gather.{HasFolder, HaveSame, LacksVolume, NoneFalls};
 ghost use Rattle.idx_ingest.specs.Ingested.{EndsFailed, IsIngested, known};
 
@@ -82,6 +84,10 @@ where
     ensures raw_count { NoneFalls (map V.faults raws.old.items) (map V.faults raws.new.items) }
     ensures header { B.header bay.new ≡ B.header bay.old }
     ensures count { NeverFalls (B.faults bay.old) (B.faults bay.new) }
+
+    // A fault is met once: no raw volume counts two, and the bay no more than one row of files does, one file for each rank.
+    ensures raw_once { EachMeetsOnce (map V.faults raws.old.items) (map V.faults raws.new.items) }
+    ensures once { MeetsOnceOrRow (B.failed bay.new) (vec_len raws.old) (B.faults bay.old) (B.faults bay.new) }
 {
     let Ok(header) = site.header.at_revision(alloc, revision) else {
         return (seat, IngestEnd::NoMemory);

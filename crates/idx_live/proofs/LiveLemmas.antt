@@ -15,6 +15,7 @@ use Rattle.idx_extract.specs.Extract.{Under}
 use Rattle.idx_serve.specs.declared.site.Site.{Site}
 use Rattle.idx_workers.specs.Workers.{Tells}
 use Rattle.idx_convert.specs.Known.{known_of}
+use Rattle.idx_query.specs.Capacity.{capacity_for}
 use Rattle.idx_host.specs.Host.{AreServedOut, site_of}
 use Rattle.idx_ingest.specs.Ingested.{EndsFailed, IsIngested, known}
 use Rattle.idx_ingest.specs.declared.ingest_end.IngestEnd.{IngestEnd}
@@ -46,19 +47,19 @@ module _ {V B L D R T : Type 0} (tell : Tells L D R) (contents : V → Option (L
     (header : B → Option (List ℕ)) (files : B → Option (List MemFile)) (begun : B → Option (List ℕ)) (changes : B → ℕ)
     (failed : B → Option BayCall) (faults_of : B → ℕ) where
   -- what was served beside a step, out of what was opened
-  pub live_of : (name : List ℕ) (time workers : ℕ) (raws_old raws_mid raws_new : List V) (bay_old bay_mid bay_new : B)
+  pub live_of : (name : List ℕ) (time cache workers : ℕ) (raws_old raws_mid raws_new : List V) (bay_old bay_mid bay_new : B)
       (doors_old doors_new : List D) (readers_old readers_mid readers_new : List R) (site : Site) (revision : ℕ) (lock : LockId) (writer back : SeatValue) (value : T) (live : Live) →
-      IsOpened tell.reader_faults tell.reads name time
+      IsOpened tell.reader_faults tell.reads name cache time
       (known_of contents asked raw_faults raws_old raws_mid header files begun changes failed faults_of bay_old bay_mid) readers_old readers_mid site revision lock writer →
       OnlyMeasures contents asked raw_faults raws_old raws_mid (Ok value) →
       files bay_mid ≡ files bay_old → failed bay_mid ≡ failed bay_old → faults_of bay_mid ≡ faults_of bay_old →
       1 ≤ rank_count site.header.box (length raws_old) →
-      AreServedOut tell site workers doors_old doors_new readers_mid readers_new writer.seen.posts back.seen.posts live.summary →
+      AreServedOut tell site writer.seen.capacity workers doors_old doors_new readers_mid readers_new writer.seen.posts back.seen.posts live.summary →
       IsWritten contents raw_faults header files begun failed faults_of site time revision writer.seen.posts back.seen.posts raws_mid raws_new bay_mid bay_new live.ingested →
       Under (header bay_old) (λ h. IsLive tell h name time
       (known_of contents asked raw_faults raws_old raws_new header files begun changes failed faults_of bay_old bay_new)
-      workers raws_old raws_new doors_old doors_new readers_old readers_new live)
-  live_of name time workers raws_old raws_mid raws_new bay_old bay_mid bay_new doors_old doors_new readers_old readers_mid readers_new site revision lock writer back value live
+      cache workers raws_old raws_new doors_old doors_new readers_old readers_new live)
+  live_of name time cache workers raws_old raws_mid raws_new bay_old bay_mid bay_new doors_old doors_new readers_old readers_mid readers_new site revision lock writer back value live
       opened measured files_same failed_same faults_same some served wrote =
       let h : HeaderValue = site.header in
       let none : ◌≢◌ {A = Result T LiveFault} (Ok value) (Err faults.RawFault) = λ e. cc in (
@@ -78,7 +79,8 @@ module _ {V B L D R T : Type 0} (tell : Tells L D R) (contents : V → Option (L
               standing = opened.standing;
               loaded = readers_mid;
               load = opened.loaded;
-              served = subst (λ (n : List ℕ). AreServedOut tell (site_of h n) workers doors_old doors_new readers_mid readers_new writer.seen.posts back.seen.posts live.summary) opened.named served;
+              served = subst (λ (n : List ℕ). AreServedOut tell (site_of h n) (capacity_for h cache) workers doors_old doors_new readers_mid readers_new writer.seen.posts back.seen.posts live.summary) opened.named
+                  (subst (λ (room : ℕ). AreServedOut tell site room workers doors_old doors_new readers_mid readers_new writer.seen.posts back.seen.posts live.summary) opened.capacity served);
             };
             ingested = ingested_still (at_revision revision h) time (contents_at contents raws_old 0) (contents_at contents raws_mid 0)
                 (map raw_faults raws_old) (map raw_faults raws_mid) (map raw_faults raws_new) (files bay_old) (files bay_mid) (files bay_new)

@@ -20,11 +20,11 @@ module _ {L D R : Type 0} (tell : Tells L D R) (site : Site) (workers : ℕ) (do
   pub served_out : (lock : LockId) (seen : Stand) (seat back : SeatValue) (last : List Post) (doors doors' : List D) → seat ≡ seat_value lock seen false → doors ≡ doors_old → doors' ≡ doors_new →
       seen.shape ≡ shape_of site.header →
       AreServed tell site workers seat back doors doors' readers_old readers_new summary ⊎ NoneBegan seat back doors doors' readers_old readers_new summary →
-      Begins back.seen.posts last → AreServedOut tell site workers doors_old doors_new readers_old readers_new seen.posts last summary
+      Begins back.seen.posts last → AreServedOut tell site seen.capacity workers doors_old doors_new readers_old readers_new seen.posts last summary
   served_out lock seen seat back last doors doors' split was is shape served begins = record {
     lock = lock;
     back = back;
-    served = subst (λ (s : Shape). AreDone (seat_value lock (stand s seen.posts) false) back doors_old doors_new) shape
+    served = subst (λ (s : Shape). AreDone (seat_value lock (stand s seen.capacity seen.posts) false) back doors_old doors_new) shape
         (subst (λ (s : SeatValue). AreDone s back doors_old doors_new) split
         (subst (λ (d : List D). AreDone seat back d doors_new) was (subst (λ (d : List D). AreDone seat back doors d) is served)));
     seen = begins;

@@ -37,6 +37,7 @@ module _ {B : Type 0} (header : B → Option (List ℕ)) (files : B → Option (
         unfailed = λ other. two.unfailed other ∙ one.unfailed none;
         quiet = λ other. two.quiet other ∙ one.quiet none;
         count = let a = one.count in let b = two.count in omega arith;
+        once = let a = one.quiet none in let b = two.once in omega arith;
       }
 
 -- what is ready is so still where as much is known of the committed files and of the raw volume

@@ -1,7 +1,8 @@
 -- What serving a dataset while a step of it is gathered promises: by what is known of the header text, the committed files and the
 -- raw volumes, by the counts of the bay, the raw volumes and the first reader, and by what the doors tell.
 use Rattle.std.specs.Prelude.{◌≡◌, ◌≢◌, ◌⊎◌, ℕ, ◌≤◌, List, drop, length, map, slice_index, Option, Some, None, IfSome, IsSome, Result, Err}
-use Rattle.idx_outside.specs.Cause.{NeverFalls, Rose}
+use Rattle.idx_outside.specs.Cause.{MeetsOnce, NeverFalls, Rose}
+use Rattle.idx_outside.specs.Counts.{EachMeetsOnce}
 use Rattle.idx_outside.specs.Files.{StillAdmits}
 use Rattle.idx_outside.specs.Objects.{OthersUntouched, SameContents, faults_at}
 use Rattle.idx_outside.specs.declared.bay_call.BayCall.{BayCall}
@@ -46,7 +47,7 @@ abbrev pub IsSound : HeaderValue → Option (List MemFile) → Type 0
 IsSound h files = IfSome files (λ files. first_bad_row h files ≡ None)
 
 -- The dataset was served, and the step was gathered and published beside those who served, or not.
-pub record IsLive {V L D R : Type 0} (tell : Tells L D R) (h : HeaderValue) (name : List ℕ) (time : ℕ) (k : Known) (workers : ℕ)
+pub record IsLive {V L D R : Type 0} (tell : Tells L D R) (h : HeaderValue) (name : List ℕ) (time : ℕ) (k : Known) (cache workers : ℕ)
     (raws_old raws_new : List V) (doors_old doors_new : List D) (readers_old readers_new : List R) (live : Live) : Type 0 where
   pub ready : IsReady h time k
   -- the header at the revision of the step that was written: the next one
@@ -57,7 +58,7 @@ pub record IsLive {V L D R : Type 0} (tell : Tells L D R) (h : HeaderValue) (nam
   -- the posts that stood before the first link, and those at the end: what ingesting says of them is what all posts are
   pub posts : List Post
   pub last : List Post
-  pub hosted : IsHosted tell h name k.files workers doors_old doors_new readers_old readers_new posts last live.summary
+  pub hosted : IsHosted tell h name k.files cache workers doors_old doors_new readers_old readers_new posts last live.summary
   pub ingested : IsIngested written time (known k.raw k.raw_before k.raw_after k.files k.files_after k.bay_before k.bay_after)
       posts last live.ingested
   -- which call of the bay counted the last fault; and the raw volumes for which the box has no part were not touched
@@ -120,6 +121,7 @@ pub record OnlyLooks {S T : Type 0} (header : S → Option (List ℕ)) (files : 
   pub unfailed : result ≢ Err faults.StoreFault → failed new ≡ failed old
   pub quiet : result ≢ Err faults.StoreFault → counts new ≡ counts old
   pub count : NeverFalls (counts old) (counts new)
+  pub once : MeetsOnce (counts old) (counts new)
 
 -- What a call that asks the first raw volume for its length alone leaves of the raw volumes: their bytes, what was asked of them, and
 -- all behind the first. Their faults are as before, unless a fault of theirs is answered. The first three are the ghost members
@@ -132,6 +134,7 @@ pub record OnlyMeasures {V T : Type 0} (contents : V → Option (List ℕ)) (ask
   pub number : length new ≡ length old
   pub quiet : result ≢ Err faults.RawFault → map faults_of new ≡ map faults_of old
   pub count : NoneFalls (map faults_of old) (map faults_of new)
+  pub once : EachMeetsOnce (map faults_of old) (map faults_of new)
 
 -- What a call that loads with the first reader alone leaves of the readers: all but that one. Its faults are as before, unless a fault
 -- of the store is answered.
@@ -140,3 +143,4 @@ pub record OnlyLoads {R T : Type 0} (faults_of : R → ℕ) (old new : List R) (
   pub number : length new ≡ length old
   pub quiet : result ≢ Err faults.StoreFault → faults_at faults_of new 0 ≡ faults_at faults_of old 0
   pub count : NeverFalls (faults_at faults_of old 0) (faults_at faults_of new 0)
+  pub once : MeetsOnce (faults_at faults_of old 0) (faults_at faults_of new 0)

@@ -1,10 +1,12 @@
 -- The two sides, those who serve and the one who writes: what each is handed, and what comes of it.
 use Rattle.std.specs.Prelude.{◌≡◌, ◌⊎◌, ℕ, ◌<◌, ◌≤◌, true, false, List, drop, length, map, vec_len, Option, Some}
 use Rattle.idx_outside.specs.Cause.{NeverFalls}
+use Rattle.idx_outside.specs.Counts.{EachMeetsOnce}
 use Rattle.idx_outside.specs.Objects.{SameContents, contents_at}
 use Rattle.idx_outside.specs.Shape.{Shape}
 use Rattle.idx_outside.specs.declared.bay_call.BayCall.{BayCall}
 use Rattle.idx_outside.specs.declared.mem_file.MemFile.{MemFile}
+use Rattle.idx_seal.specs.Rows.{MeetsOnceOrRow}
 use Rattle.idx_header.specs.Header.{at_revision}
 use Rattle.idx_layout.specs.Shape.{shape_of}
 use Rattle.idx_pieces.specs.Ranks.{rank_count}
@@ -58,9 +60,11 @@ pub record IsWritten {V B : Type 0} (contents : V → Option (List ℕ)) (raw_fa
   pub header_same : header bay_new ≡ header bay_old
   pub begun_same : begun bay_new ≡ begun bay_old
   pub count : NeverFalls (faults bay_old) (faults bay_new)
+  pub once : MeetsOnceOrRow (failed bay_new) (length raws_old) (faults bay_old) (faults bay_new)
   pub same : SameContents contents raws_old raws_new
   pub idle : drop (rank_count site.header.box (length raws_old)) raws_new ≡ drop (rank_count site.header.box (length raws_old)) raws_old
   pub raw_count : NoneFalls (map raw_faults raws_old) (map raw_faults raws_new)
+  pub raws_once : EachMeetsOnce (map raw_faults raws_old) (map raw_faults raws_new)
 
 module _ {S V B : Type 0} where
   -- the one who writes has the writer's seat, and what ingesting asks

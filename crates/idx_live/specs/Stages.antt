@@ -12,6 +12,7 @@ use Rattle.idx_layout.specs.Shape.{shape_of}
 use Rattle.idx_turn.specs.LockId.{LockId}
 use Rattle.idx_lock.specs.Seats.{SeatValue}
 use Rattle.idx_serve.specs.declared.site.Site.{Site}
+use Rattle.idx_query.specs.Capacity.{capacity_for}
 use Rattle.idx_board.specs.Standing.{standing_posts}
 use Rattle.idx_convert.specs.Convert.{BeginsAt, IsNext}
 use Rattle.idx_convert.specs.Known.{Known}
@@ -63,7 +64,7 @@ measured contents faults old new k =
 
 -- What was opened before the first link: the site, the revision of the step that is written next and was begun, and the lock with the
 -- seat of its writer, which has seen the steps that stand and nothing else.
-pub record IsOpened {R : Type 0} (faults reads : R → ℕ) (name : List ℕ) (time : ℕ) (k : Known) (readers_old readers_new : List R)
+pub record IsOpened {R : Type 0} (faults reads : R → ℕ) (name : List ℕ) (cache time : ℕ) (k : Known) (readers_old readers_new : List R)
     (site : Site) (revision : ℕ) (lock : LockId) (writer : SeatValue) : Type 0 where
   pub named : site.name ≡ name
   pub gives : Gives k.header site.header
@@ -74,17 +75,19 @@ pub record IsOpened {R : Type 0} (faults reads : R → ℕ) (name : List ℕ) (t
   pub sound : IsSound site.header k.files
   pub standing : IfSome k.files (λ files. writer.seen.posts ≡ standing_posts site.header files)
   pub shape : writer.seen.shape ≡ shape_of site.header
+  pub capacity : writer.seen.capacity ≡ capacity_for site.header cache
   pub of : writer.lock ≡ lock
   pub writes : writer.writer ≡ true
   pub loaded : IsLoaded faults reads site.header k.files readers_old readers_new
 
 -- What stands behind a lock before the first link: the steps that stand, and nothing else, which the seat of its writer has seen. The
 -- first reader loaded them, and no row of their files is faulty.
-pub record IsLocked {R : Type 0} (faults reads : R → ℕ) (h : HeaderValue) (files : Option (List MemFile)) (readers_old readers_new : List R)
+pub record IsLocked {R : Type 0} (faults reads : R → ℕ) (h : HeaderValue) (cache : ℕ) (files : Option (List MemFile)) (readers_old readers_new : List R)
     (lock : LockId) (writer : SeatValue) : Type 0 where
   pub sound : IsSound h files
   pub standing : IfSome files (λ files. writer.seen.posts ≡ standing_posts h files)
   pub shape : writer.seen.shape ≡ shape_of h
+  pub capacity : writer.seen.capacity ≡ capacity_for h cache
   pub of : writer.lock ≡ lock
   pub writes : writer.writer ≡ true
   pub loaded : IsLoaded faults reads h files readers_old readers_new

@@ -5,6 +5,7 @@ ghost use Rattle.idx_serve.specs.Visits.{link_tells};
 ghost use Rattle.idx_workers.specs.Workers.{tells};
 ghost use Rattle.idx_gather.specs.Gather.{HasFolder, HaveSame};
 ghost use Rattle.idx_host.specs.Host.{AreServedOut};
+ghost use Rattle.idx_live.specs.Pair.{MayRun, Runs};
 ghost use Rattle.idx_live.specs.Sides.{CanServe, CanWrite, HasServed, HasWritten, IsWritten};
 ghost use Rattle.idx_live.specs.Stages.{IsNew};
 
@@ -15,7 +16,7 @@ use idx_edition::Edition;
 use idx_hall::Hall;
 use idx_ingest::IngestEnd;
 use idx_lock::{Seat, TurnLock};
-use idx_outside::{Bay, Door, Gate, Reader, Source};
+use idx_outside::{Bay, Door, Gate, Leaf, Reader, Source};
 use idx_serve::{Site, Summary};
 use std::alloc::Global;
 use std::sync::Wait;
@@ -65,7 +66,7 @@ where
     ensures served { AreServedOut
         (tells (link_tells D.Link.incoming D.Link.written D.Link.readings D.Link.faults)
         D.told D.faults R.faults R.reads)
-        site.now workers doors.old.items doors.new.items readers.old.items readers.new.items
+        site.now writer.seen.capacity workers doors.old.items doors.new.items readers.old.items readers.new.items
         writer.seen.posts result.0.seen.posts result.1.summary }
     ensures written { IsWritten V.contents V.faults B.header B.files B.begun B.failed B.faults site.now time revision
         writer.seen.posts result.0.seen.posts raws.old.items raws.new.items bay.old bay.new result.1.ingested }
@@ -125,18 +126,12 @@ where
     ensures writer { HasWritten V.contents V.faults B.header B.files B.begun B.failed B.faults
         site.now writing.old writing.new bay.old bay.new result.1 }
 {
-    call_both(
+    serve_with(
         rt,
-        &|side: &mut Serving<Hall<Edition<B::Leaf>>, D>, readers: &mut Vec<R>| -> (
-            Seat<Hall<Edition<B::Leaf>>>,
-            Summary,
-        )
-            requires { CanServe lock.now (shape_of site.now.header) (vec_len readers.old) side.old }
-            ensures { HasServed
-                (tells (link_tells D.Link.incoming D.Link.written D.Link.readings D.Link.faults)
-                D.told D.faults R.faults R.reads)
-                site.entry.now side.old side.new readers.old.items readers.new.items result }
-        { side.run(rt, alloc, site, lock, gate, readers) },
+        alloc,
+        site,
+        lock,
+        gate,
         serving,
         readers,
         &|side: &mut Writing<Hall<Edition<B::Leaf>>, V>, bay: &mut B| -> (
@@ -149,5 +144,58 @@ where
         { side.run(rt, alloc, site, lock, gate, bay) },
         writing,
         bay,
+    )
+}
+
+/// Runs the servers in a thread of their own, or last where none can be had, and the other call in this one.
+fn serve_with<
+    L: Leaf + Send + Sync,
+    R: Reader<L> + Send,
+    D: Door + Send,
+    G: Gate,
+    X: Send,
+    Y: Send,
+    A: Send,
+    F: Fn(&mut X, &mut Y) -> A + Sync,
+    H: Threads + Wait + Sync,
+>(
+    rt: &H,
+    alloc: Global,
+    site: &Site,
+    lock: &TurnLock<Hall<Edition<L>>>,
+    gate: &G,
+    serving: &mut Serving<Hall<Edition<L>>, D>,
+    readers: &mut Vec<R>,
+    other: &F,
+    x: &mut X,
+    y: &mut Y,
+) -> ((Seat<Hall<Edition<L>>>, Summary), A)
+where
+    D::Link: Send,
+    requires servers { CanServe lock.now (shape_of site.now.header) (vec_len readers.old) serving.old }
+    requires other { MayRun F.Fn other.now x.old y.old }
+    ensures servers { HasServed
+        (tells (link_tells D.Link.incoming D.Link.written D.Link.readings D.Link.faults)
+        D.told D.faults R.faults R.reads)
+        site.now serving.old serving.new readers.old.items readers.new.items result.0 }
+    ensures other { Runs F.Fn other.now x.old x.new y.old y.new result.1 }
+{
+    call_both(
+        rt,
+        &|side: &mut Serving<Hall<Edition<L>>, D>, readers: &mut Vec<R>| -> (
+            Seat<Hall<Edition<L>>>,
+            Summary,
+        )
+            requires { CanServe lock.now (shape_of site.now.header) (vec_len readers.old) side.old }
+            ensures { HasServed
+                (tells (link_tells D.Link.incoming D.Link.written D.Link.readings D.Link.faults)
+                D.told D.faults R.faults R.reads)
+                site.entry.now side.old side.new readers.old.items readers.new.items result }
+        { side.run(rt, alloc, site, lock, gate, readers) },
+        serving,
+        readers,
+        other,
+        x,
+        y,
     )
 }

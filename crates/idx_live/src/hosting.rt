@@ -1,6 +1,8 @@
 ghost use Rattle.std.specs.Prelude.{◌≡◌, ◌<◌, ◌≤◌, IfErr, IfOk, OnErr, map, vec_len};
-ghost use Rattle.idx_outside.specs.Cause.{NeverFalls};
+ghost use Rattle.idx_outside.specs.Cause.{MeetsOnce, NeverFalls};
+ghost use Rattle.idx_outside.specs.Counts.{EachMeetsOnce};
 ghost use Rattle.idx_outside.specs.Objects.{SameContents, faults_at};
+ghost use Rattle.idx_seal.specs.Rows.{MeetsOnceOrRow};
 ghost use Rattle.idx_serve.specs.Visits.{link_tells};
 ghost use Rattle.idx_workers.specs.Workers.{tells};
 ghost use Rattle.idx_gather.specs.Gather.{HaveSame, NoneFalls};
@@ -65,7 +67,7 @@ where
         (tells (link_tells D.Link.incoming D.Link.written D.Link.readings D.Link.faults)
         D.told D.faults R.faults R.reads)
         h name.now time (known_of V.contents V.asked V.faults raws.old.items raws.new.items
-        B.header B.files B.begun B.changes B.failed B.faults bay.old bay.new) workers
+        B.header B.files B.begun B.changes B.failed B.faults bay.old bay.new) cache workers
         raws.old.items raws.new.items doors.old.items doors.new.items readers.old.items readers.new.items live)) }
 
     // Each refusal has its cause, and comes before a door is used, a reader but the first, or a raw volume but the
@@ -82,8 +84,10 @@ where
     // What is known of the raw volumes and the header text stay, and no count falls.
     ensures same { SameContents V.contents raws.old.items raws.new.items }
     ensures raw_count { NoneFalls (map V.faults raws.old.items) (map V.faults raws.new.items) }
+    ensures raws_once { EachMeetsOnce (map V.faults raws.old.items) (map V.faults raws.new.items) }
     ensures header { B.header bay.new ≡ B.header bay.old }
     ensures bay_count { NeverFalls (B.faults bay.old) (B.faults bay.new) }
+    ensures bay_once { MeetsOnceOrRow (B.failed bay.new) (vec_len raws.old) (B.faults bay.old) (B.faults bay.new) }
 {
     let Opened {
         site,

@@ -1,8 +1,9 @@
 ghost use Rattle.std.specs.Prelude.{◌≡◌, ◌≢◌, ◌<◌, ◌≤◌, ℕ, Err, IfErr, IfOk, IfSome, OnOk, vec_len};
-ghost use Rattle.idx_outside.specs.Cause.{MadeReads, NeverFalls};
+ghost use Rattle.idx_outside.specs.Cause.{MadeReads, MeetsOnce, NeverFalls};
 ghost use Rattle.idx_outside.specs.Objects.{faults_at};
 ghost use Rattle.idx_header.specs.OfBay.{Gives};
 ghost use Rattle.idx_layout.specs.Shape.{shape_of};
+ghost use Rattle.idx_query.specs.Capacity.{capacity_for};
 ghost use Rattle.idx_board.specs.Standing.{reads_of, standing_posts, step_numbers};
 ghost use Rattle.idx_convert.specs.Known.{Known};
 ghost use Rattle.idx_host.specs.Host.{IsLoaded};
@@ -34,6 +35,7 @@ fn load<B: Bay, R: Reader<B::Leaf>>(
     ensures board { IfOk result (λ hall. IfSome (B.files bay.old)
         (λ files. hall.board ≡ standing_posts header.now files)) }
     ensures shape { IfOk result (λ hall. hall.shape ≡ shape_of header.now) }
+    ensures capacity { IfOk result (λ hall. hall.cache.cap ≡ capacity_for header.now cache) }
     ensures sound { OnOk result (IsSound header.now (B.files bay.old)) }
     ensures loaded { OnOk result (IsLoaded R.faults R.reads header.now (B.files bay.old)
         readers.old.items readers.new.items) }
@@ -64,7 +66,7 @@ pub(crate) fn load_locked<B: Bay, R: Reader<B::Leaf>>(
     requires some { 1 ≤ cache }
     requires few { cache ≤ 65536 }
     requires reader { 0 < vec_len readers.old }
-    ensures locked { IfOk result (λ made. IsLocked R.faults R.reads header.now (B.files bay.old)
+    ensures locked { IfOk result (λ made. IsLocked R.faults R.reads header.now cache (B.files bay.old)
         readers.old.items readers.new.items made.0 made.1) }
     ensures cause { (time : ℕ) (k : Known) → Gives (B.header bay.old) header.now →
         IsReady header.now time (seen_by B.header B.files B.failed B.faults bay.old bay.new k) →
@@ -93,6 +95,7 @@ fn load_with<B: Bay, R: Reader<B::Leaf>>(
     ensures board { IfOk result (λ hall. IfSome (B.files bay.old)
         (λ files. hall.board ≡ standing_posts header.now files)) }
     ensures shape { IfOk result (λ hall. hall.shape ≡ shape_of header.now) }
+    ensures capacity { IfOk result (λ hall. hall.cache.cap ≡ capacity_for header.now cache) }
     ensures sound { OnOk result (IsSound header.now (B.files bay.old)) }
     ensures reads { OnOk result (IfSome (B.files bay.old) (λ files.
         MadeReads (R.reads reader.old) (R.reads reader.new) (reads_of header.now files (step_numbers header.now)))) }
@@ -103,6 +106,7 @@ fn load_with<B: Bay, R: Reader<B::Leaf>>(
     ensures looks { OnlyLooks B.header B.files B.begun B.changes B.failed B.admits B.faults bay.old bay.new result }
     ensures reader_quiet { result ≢ Err LiveFault.StoreFault → R.faults reader.new ≡ R.faults reader.old }
     ensures reader_count { NeverFalls (R.faults reader.old) (R.faults reader.new) }
+    ensures reader_once { MeetsOnce (R.faults reader.old) (R.faults reader.new) }
 {
     let capacity = capacity_of(header, cache);
     match hall_of(alloc, header, capacity, bay, reader) {

@@ -41,7 +41,7 @@ pub(crate) fn open<V: Source, B: Bay, R: Reader<B::Leaf>>(
     requires few_blocks { cache ≤ 65536 }
     requires a_reader { 0 < vec_len readers.old }
     requires some_raws { 0 < vec_len raws.old }
-    ensures opened { IfOk result (λ opened. IsOpened R.faults R.reads name.now time
+    ensures opened { IfOk result (λ opened. IsOpened R.faults R.reads name.now cache time
         (known_of V.contents V.asked V.faults raws.old.items raws.new.items
         B.header B.files B.begun B.changes B.failed B.faults bay.old bay.new) readers.old.items readers.new.items
         opened.site opened.revision opened.lock opened.writer) }

@@ -21,20 +21,20 @@ begins_begins {A} {a} {b} {g} h k le = both_begin a b h.rest k.rest (sym h.is �
 
 pub precedes_itself : (a : Option Stand) → Precedes a a
 precedes_itself None = tt
-precedes_itself (Some a) = (refl, begins_whole a.posts)
+precedes_itself (Some a) = (refl, refl, begins_whole a.posts)
 
 pub precedes_more : (a b c : Option Stand) → Precedes a b → Precedes b c → Precedes a c
 precedes_more None b c h k = tt
 precedes_more (Some a) None c h k = absurd h
 precedes_more (Some a) (Some b) None h k = absurd k
-precedes_more (Some a) (Some b) (Some c) h k = (h.0 ∙ k.0, begins_more h.1 k.1)
+precedes_more (Some a) (Some b) (Some c) h k = (h.0 ∙ k.0, h.1 ∙ k.1, begins_more h.2 k.2)
 
 pick_ordered : (a b g : Stand) (t : Bool) → leb (length a.posts) (length b.posts) ≡ t → Precedes (Some a) (Some g) → Precedes (Some b) (Some g)
     → Precedes (cond t (Some a) (Some b)) (cond t (Some b) (Some a)) × Precedes (cond t (Some b) (Some a)) (Some g)
-pick_ordered a b g true e h k = ((h.0 ∙ sym k.0, begins_begins h.1 k.1 (leb-true (length a.posts) (length b.posts) e)), k)
+pick_ordered a b g true e h k = ((h.0 ∙ sym k.0, h.1 ∙ sym k.1, begins_begins h.2 k.2 (leb-true (length a.posts) (length b.posts) e)), k)
 pick_ordered a b g false e h k =
     let lt : length b.posts < length a.posts = leb-false (length a.posts) (length b.posts) e in
-    ((k.0 ∙ sym h.0, begins_begins k.1 h.1 (omega arith)), h)
+    ((k.0 ∙ sym h.0, k.1 ∙ sym h.1, begins_begins k.2 h.2 (omega arith)), h)
 
 -- of two prefixes of one list the shorter is a prefix of the longer, which is a prefix of that list
 pub longer_is : (a b g : Option Stand) → Precedes a g → Precedes b g → Precedes (shorter a b) (longer a b) × Precedes (longer a b) g

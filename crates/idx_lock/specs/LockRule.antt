@@ -8,8 +8,8 @@ use Rattle.idx_turn.specs.Stands.{Begins, Stand, stand}
 use Rattle.idx_lock.specs.declared.seat_view.SeatView.{SeatView}
 
 -- what a value stands for
-abbrev pub stands : {S : Type 0} → (S → Shape) → (S → List Post) → S → Stand
-stands shape posts value = stand (shape value) (posts value)
+abbrev pub stands : {S : Type 0} → (S → Shape) → (S → ℕ) → (S → List Post) → S → Stand
+stands shape capacity posts value = stand (shape value) (capacity value) (posts value)
 
 -- what a seat knows: what it has seen, the lesser of the two lists that it last joined, whether it is the writer, and
 -- whether it holds the value
@@ -24,11 +24,12 @@ opening = seat_view None None true true
 abbrev pub spent : SeatView
 spent = seat_view None None false false
 
--- The first list begins the second, and the shapes are the same. What has no shape begins everything.
+-- The first list begins the second, and the shapes are the same, and so is how many blocks are kept. What has no shape begins
+-- everything.
 abbrev pub Precedes : Option Stand → Option Stand → Type 0
 Precedes None g = Unit {0}
 Precedes (Some a) None = ⊥
-Precedes (Some a) (Some b) = (a.shape ≡ b.shape) × Begins a.posts b.posts
+Precedes (Some a) (Some b) = (a.shape ≡ b.shape) × (a.capacity ≡ b.capacity) × Begins a.posts b.posts
 
 -- of two, the one with more posts
 abbrev pub longer : Option Stand → Option Stand → Option Stand

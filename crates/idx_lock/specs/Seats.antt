@@ -42,6 +42,8 @@ pub record Joined (seat other both : SeatValue) : Type 0 where
   pub lock : both.lock ≡ seat.lock
   pub shape : both.seen.shape ≡ seat.seen.shape
   pub other_shape : both.seen.shape ≡ other.seen.shape
+  pub capacity : both.seen.capacity ≡ seat.seen.capacity
+  pub other_capacity : both.seen.capacity ≡ other.seen.capacity
   pub begins : Begins seat.seen.posts both.seen.posts
   pub other_begins : Begins other.seen.posts both.seen.posts
   pub one : (both.seen ≡ seat.seen) ⊎ (both.seen ≡ other.seen)
@@ -54,6 +56,7 @@ pub record Joined (seat other both : SeatValue) : Type 0 where
 pub record IsLater (seat later : SeatValue) : Type 0 where
   pub lock : later.lock ≡ seat.lock
   pub shape : later.seen.shape ≡ seat.seen.shape
+  pub capacity : later.seen.capacity ≡ seat.seen.capacity
   pub begins : Begins seat.seen.posts later.seen.posts
   pub writer : later.writer ≡ seat.writer
   pub same : seat.writer ≡ true → later.seen.posts ≡ seat.seen.posts
@@ -66,7 +69,7 @@ lock_of id =
 -- what was seen, or nothing yet
 abbrev pub seen_or_none : Option Stand → Stand
 seen_or_none (Some seen) = seen
-seen_or_none None = stand (record { blocks = 0; lengths = [] }) []
+seen_or_none None = stand (record { blocks = 0; lengths = [] }) 0 []
 
 module _ {S : Type 0} where
   -- the seat of a queue's pass

@@ -31,7 +31,7 @@ impl<'a, S: Standing, R: Wait> Model for Chair<'a, S, R> {
 
     ghost view = { λ c. chair_value (seat_of c.pass) (is_out_of c.pass) c.holds };
 
-    ghost invariant = { λ c. Sits (stands S.shape S.posts) c.lock.now c.pass c.owner };
+    ghost invariant = { λ c. Sits (stands S.shape S.capacity S.posts) c.lock.now c.pass c.owner };
 }
 
 impl<'a, S: Standing + Drop, R: Wait> Chair<'a, S, R> {
@@ -73,6 +73,8 @@ impl<'a, S: Standing + Drop, R: Wait> Turn<S> for Chair<'a, S, R> {
 
     ghost shape = { λ c. c.seat.seen.shape };
 
+    ghost capacity = { λ c. c.seat.seen.capacity };
+
     ghost seen = { λ c. c.seat.seen.posts };
 
     ghost may_add = { λ c. c.seat.writer };
@@ -94,11 +96,13 @@ impl<'a, S: Standing + Drop, R: Wait> Turn<S> for Chair<'a, S, R> {
 
     // It tells no value, so that `kept` says nothing.
     fn give(&mut self, held: Held<S>)
-        requires { MayGive (given_by self.old) self.old.seat.writer (stand (S.shape held) (S.posts held)) }
+        requires { MayGive (given_by self.old) self.old.seat.writer
+            (stand (S.shape held) (S.capacity held) (S.posts held)) }
         ensures kept { false ≡ true → None ≡ Some held }
         ensures shape { self.new.seat.seen.shape ≡ self.old.seat.seen.shape }
-        ensures given { self.new ≡ chair_value (seat_value self.old.seat.lock (stand (S.shape held) (S.posts held))
-            self.old.seat.writer) false self.old.holds }
+        ensures capacity { self.new.seat.seen.capacity ≡ self.old.seat.seen.capacity }
+        ensures given { self.new ≡ chair_value (seat_value self.old.seat.lock
+            (stand (S.shape held) (S.capacity held) (S.posts held)) self.old.seat.writer) false self.old.holds }
     {
         match self.owner.take() {
             Some(mut owner) => {

@@ -10,7 +10,7 @@ use idx_hall::Standing;
 pub struct OneWriter;
 
 impl<S: Standing> Protocol<S, SeatView> for OneWriter {
-    ghost holds = { LockRule (stands S.shape S.posts) };
+    ghost holds = { LockRule (stands S.shape S.capacity S.posts) };
 
     ghost first = { opening };
 }
@@ -19,7 +19,7 @@ impl<S: Standing> Protocol<S, SeatView> for OneWriter {
 pub struct Taking;
 
 impl<S: Standing> Outcome<S, SeatView> for Taking {
-    ghost then = { Took (stands S.shape S.posts) };
+    ghost then = { Took (stands S.shape S.capacity S.posts) };
 }
 
 impl<S: Standing> Lesson<S, SeatView> for Taking {
@@ -30,7 +30,7 @@ impl<S: Standing> Lesson<S, SeatView> for Taking {
 pub struct Giving;
 
 impl<S: Standing> Outcome<S, SeatView> for Giving {
-    ghost then = { λ v value w. w ≡ gave (stands S.shape S.posts) v value };
+    ghost then = { λ v value w. w ≡ gave (stands S.shape S.capacity S.posts) v value };
 }
 
 impl<S: Standing> Lesson<S, SeatView> for Giving {

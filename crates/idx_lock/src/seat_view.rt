@@ -9,7 +9,7 @@ impl Model for Standpoint {
 
     ghost Value = { Stand };
 
-    ghost view = { λ _. stand (record { blocks = 0; lengths = [] }) [] };
+    ghost view = { λ _. stand (record { blocks = 0; lengths = [] }) 0 [] };
 }
 
 /// What a seat knows: what it has seen, the lesser of the two lists that it last joined, whether it is the writer, and

@@ -41,7 +41,8 @@ impl<S: Standing + Drop> TurnLock<S> {
     /// A lock round this value, and the seat of its writer, which has seen all of it. The value comes back where there is
     /// no memory.
     pub fn new(alloc: Global, state: S) -> Result<(TurnLock<S>, Seat<S>), (S, NoMemory)>
-        ensures opened { IfOk result (λ made. made.1 ≡ seat_value made.0 (stands S.shape S.posts state) true) }
+        ensures opened { IfOk result (λ made.
+            made.1 ≡ seat_value made.0 (stands S.shape S.capacity S.posts state) true) }
         ensures refused { IfErr result (λ refused. refused.0 ≡ state) }
     {
         match RuledArrayQueue::ruled(alloc, 1) {
@@ -91,7 +92,7 @@ impl<S: Standing + Drop> TurnLock<S> {
     pub(crate) fn get<R: Wait>(&self, rt: &R, pass: &mut Pass<S, SeatView>) -> S
         requires { IsPass self.now pass.old }
         ensures pass { IsPass self.now pass.new }
-        ensures took { Took (stands S.shape S.posts) (view pass.old) result (view pass.new) }
+        ensures took { Took (stands S.shape S.capacity S.posts) (view pass.old) result (view pass.new) }
     {
         let mut tries = 0;
         for _ in rt.forever() {
@@ -106,9 +107,9 @@ impl<S: Standing + Drop> TurnLock<S> {
     // Puts the value into the queue, which is empty, since the seat holds the value.
     pub(crate) fn put<R: Wait>(&self, rt: &R, pass: &mut Pass<S, SeatView>, value: S)
         requires pass { IsPass self.now pass.old }
-        requires may { MayPush (stands S.shape S.posts) (view pass.old) value }
+        requires may { MayPush (stands S.shape S.capacity S.posts) (view pass.old) value }
         ensures pass { IsPass self.now pass.new }
-        ensures gave { view pass.new ≡ gave (stands S.shape S.posts) (view pass.old) value }
+        ensures gave { view pass.new ≡ gave (stands S.shape S.capacity S.posts) (view pass.old) value }
     {
         match self.queue.push_as::<Giving, R>(rt, pass, value) {
             Ok(()) => {}

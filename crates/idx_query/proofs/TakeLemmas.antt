@@ -13,10 +13,11 @@ use Rattle.idx_turn.proofs.BeginsLemmas.{begins_whole}
 use Rattle.idx_query.specs.Steps.{IsEditionOf, held_for}
 
 -- what went out may come back
-pub given-back : (given : Option Stand) (may_add : Bool) (shape now_shape : Shape) (posts now : List Post) → given ≡ Some (stand shape posts) → now_shape ≡ shape → now ≡ posts → MayGive given may_add (stand now_shape now)
-given-back given may_add shape now_shape posts now out same_shape same =
-    subst (λ (g : Option Stand). MayGive g may_add (stand now_shape now)) (sym out)
-    (record { shape = same_shape; begins = subst (λ (l : List Post). Begins posts l) (sym same) (begins_whole posts); same = λ no. same })
+pub given-back : (given : Option Stand) (may_add : Bool) (was now : HallValue) → given ≡ Some (stand was.shape was.cache.cap was.board) → now.shape ≡ was.shape →
+    now.cache.cap ≡ was.cache.cap → now.board ≡ was.board → MayGive given may_add (stand now.shape now.cache.cap now.board)
+given-back given may_add was now out same_shape same_cap same =
+    subst (λ (g : Option Stand). MayGive g may_add (stand now.shape now.cache.cap now.board)) (sym out)
+    (record { shape = same_shape; capacity = same_cap; begins = subst (λ (l : List Post). Begins was.board l) (sym same) (begins_whole was.board); same = λ no. same })
 
 -- the step of a post's number is that post
 pub edition-of : {E : Type 0} (time : E → ℕ) (shape : E → Shape) (has : E → ℕ → ℕ → Bool) (stored : E → Option (ℕ → ℕ → List ℕ)) (h : HallValue) (number : ℕ) (post : Post) (e : E) →
@@ -28,9 +29,15 @@ edition-of time shape has stored h number post e at step_is =
 pub holding : {A : Type 0} (P : A → Type 0) (o : Option A) (x : A) → IfSome o P → o ≡ Some x → P x
 holding P o x known is = subst (λ p. IfSome p P) is known
 
--- a fill leaves the shape and the posts
+-- a fill leaves the shape, the capacity and the posts
 pub filled-shape : (number : ℕ) (pairs : List (Key × List ℕ)) (h : HallValue) → (after_fill number pairs h).shape ≡ h.shape
 filled-shape number pairs h = elim (is_newest h.board number) as (λ b. (cond b (with_pairs h (put_all name_eq h.cache.cap (named_pairs number pairs) h.cache.pairs)) h).shape ≡ h.shape) [
+  | true ↦ refl
+  | false ↦ refl
+]
+
+pub filled-cap : (number : ℕ) (pairs : List (Key × List ℕ)) (h : HallValue) → (after_fill number pairs h).cache.cap ≡ h.cache.cap
+filled-cap number pairs h = elim (is_newest h.board number) as (λ b. (cond b (with_pairs h (put_all name_eq h.cache.cap (named_pairs number pairs) h.cache.pairs)) h).cache.cap ≡ h.cache.cap) [
   | true ↦ refl
   | false ↦ refl
 ]

@@ -1,5 +1,5 @@
 ghost use Rattle.std.specs.Prelude.{◌≡◌, ℕ, ◌+◌, ◌*◌, ◌^◌, ◌<◌, ◌⊎◌, ◌≤◌, [], Err, IfErr, IfOk, IfSome, None, OnErr, OnOk, Some, length, true};
-ghost use Rattle.idx_outside.specs.Cause.{MadeReads, NeverFalls};
+ghost use Rattle.idx_outside.specs.Cause.{MadeReads, MeetsOnce, NeverFalls};
 ghost use Rattle.idx_layout.specs.Shape.{shape_of};
 ghost use Rattle.idx_hall.specs.Posts.{Lacks};
 ghost use Rattle.idx_turn.specs.Stands.{Begins};
@@ -65,6 +65,7 @@ pub fn answer<E: Blocks + Drop, T: Turn<Hall<E>>, R: Reader<E::Leaf>>(
     ensures unread { IfErr result (λ fault. IsUnread fault → reader.new ≡ reader.old) }
     ensures kept { OnErr result (out.new ≡ out.old) }
     ensures count { NeverFalls (R.faults reader.old) (R.faults reader.new) }
+    ensures once { MeetsOnce (R.faults reader.old) (R.faults reader.new) }
     ensures quiet { OnOk result (R.faults reader.new ≡ R.faults reader.old) }
 
     // The hall afterwards, where the turn tells it.
@@ -119,6 +120,7 @@ fn append_answer<E: Blocks + Drop, T: Turn<Hall<E>>, R: Reader<E::Leaf>>(
     ensures unread { IfErr result (λ fault. IsUnread fault → reader.new ≡ reader.old) }
     ensures kept { OnErr result (out.new.items ≡ out.old.items) }
     ensures count { NeverFalls (R.faults reader.old) (R.faults reader.new) }
+    ensures once { MeetsOnce (R.faults reader.old) (R.faults reader.new) }
     ensures quiet { OnOk result (R.faults reader.new ≡ R.faults reader.old) }
     ensures done { IfOk result (λ report. T.tells ≡ true → IfSome (T.kept turn.old) (λ hall.
         IsDone header.now ask.now hall (T.kept turn.new) (T.holds turn.old) (T.holds turn.new) report)) }
@@ -174,6 +176,7 @@ fn answer_rounds<E: Blocks + Drop, T: Turn<Hall<E>>, R: Reader<E::Leaf>>(
         (result ≡ Err (QueryFault.NotPublished (length (T.seen turn.old)))) ⊎ (result ≡ Err QueryFault.NoMemory) }
     ensures unread { IfErr result (λ fault. IsUnread fault → reader.new ≡ reader.old) }
     ensures count { NeverFalls (R.faults reader.old) (R.faults reader.new) }
+    ensures once { MeetsOnce (R.faults reader.old) (R.faults reader.new) }
     ensures quiet { OnOk result (R.faults reader.new ≡ R.faults reader.old) }
     ensures done { IfOk result (λ report. T.tells ≡ true → IfSome (T.kept turn.old) (λ hall.
         IsDone header.now ask.now hall (T.kept turn.new) (T.holds turn.old) (T.holds turn.new) report)) }

@@ -1,5 +1,5 @@
 ghost use Rattle.std.specs.Prelude.{◌≡◌, ◌↔◌, ◌+◌, ◌*◌, ◌^◌, ◌<◌, All, IfErr, IfOk, OnErr, OnOk, Some, false, length, slice_get, slice_index};
-ghost use Rattle.idx_outside.specs.Cause.{MadeReads, NeverFalls};
+ghost use Rattle.idx_outside.specs.Cause.{MadeReads, MeetsOnce, NeverFalls};
 ghost use Rattle.idx_scatter.specs.Scatter.{IsScattered};
 ghost use Rattle.idx_query.specs.Reads.{ReadsAtMost, ReadsOnce};
 ghost use Rattle.idx_query.specs.Steps.{AreDone, AreFound, IsBlock, IsCameBy, IsStoreFault, with_block};
@@ -35,6 +35,7 @@ pub(crate) fn copy_blocks<E: Blocks + Drop, R: Reader<E::Leaf>>(
     ensures post { IfOk result (λ report. report.post ≡ post) }
     ensures room { OnOk result (length out.new ≡ part.now.bytes) }
     ensures count { NeverFalls (R.faults reader.old) (R.faults reader.new) }
+    ensures once { MeetsOnce (R.faults reader.old) (R.faults reader.new) }
     ensures quiet { OnOk result (R.faults reader.new ≡ R.faults reader.old) }
     ensures cause { IfErr result (IsStoreFault (R.faults reader.old) (R.faults reader.new)) }
     ensures few_reads { OnErr result
@@ -76,6 +77,7 @@ fn copy_key<E: Blocks + Drop, R: Reader<E::Leaf>>(
         looked.now.found i (R.reads reader.old) (R.reads reader.new) loading.old loading.new
         report new out.old out.new) }
     ensures count { NeverFalls (R.faults reader.old) (R.faults reader.new) }
+    ensures once { MeetsOnce (R.faults reader.old) (R.faults reader.new) }
     ensures quiet { OnOk result (R.faults reader.new ≡ R.faults reader.old) }
     ensures cause { IfErr result (IsStoreFault (R.faults reader.old) (R.faults reader.new)) }
     ensures few_reads { OnErr result (ReadsOnce (R.reads reader.old) (R.reads reader.new)) }
@@ -114,6 +116,7 @@ fn load_block<E: Blocks, R: Reader<E::Leaf>>(
     ensures one_read { IfOk result (λ fetched. fetched ≡ Fetched.Read →
         MadeReads (R.reads reader.old) (R.reads reader.new) 1) }
     ensures count { NeverFalls (R.faults reader.old) (R.faults reader.new) }
+    ensures once { MeetsOnce (R.faults reader.old) (R.faults reader.new) }
     ensures quiet { OnOk result (R.faults reader.new ≡ R.faults reader.old) }
     ensures cause { IfErr result (IsStoreFault (R.faults reader.old) (R.faults reader.new)) }
     ensures few_reads { OnErr result (ReadsOnce (R.reads reader.old) (R.reads reader.new)) }

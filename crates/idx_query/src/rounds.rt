@@ -1,6 +1,6 @@
 //! The rounds of an answer: in each a look, the blocks, and a fill.
 ghost use Rattle.std.specs.Prelude.{◌≡◌, ◌+◌, ◌<◌, ◌≤◌, ◌⊎◌, [], Err, IfErr, IfOk, IfSome, None, OnErr, OnOk, Some, List, length, take, drop, slice_get, true};
-ghost use Rattle.idx_outside.specs.Cause.{NeverFalls};
+ghost use Rattle.idx_outside.specs.Cause.{MeetsOnce, NeverFalls};
 ghost use Rattle.idx_header.specs.Header.{block_bytes};
 ghost use Rattle.idx_layout.specs.Shape.{shape_of};
 ghost use Rattle.idx_hall.specs.declared.key.Key.{Key};
@@ -62,6 +62,7 @@ pub(crate) fn first_round<E: Blocks + Drop, T: Turn<Hall<E>>, R: Reader<E::Leaf>
     ensures unpublished { T.may_add turn.old ≡ true → Lacks ask.now.time (T.seen turn.old) →
         (result ≡ Err (QueryFault.NotPublished (length (T.seen turn.old)))) ⊎ (result ≡ Err QueryFault.NoMemory) }
     ensures count { NeverFalls (R.faults reader.old) (R.faults reader.new) }
+    ensures once { MeetsOnce (R.faults reader.old) (R.faults reader.new) }
     ensures quiet { OnOk result (R.faults reader.new ≡ R.faults reader.old) }
     ensures begins { Begins (T.seen turn.old) (T.seen turn.new) }
     ensures same { T.may_add turn.old ≡ true → T.seen turn.new ≡ T.seen turn.old }
@@ -114,6 +115,7 @@ pub(crate) fn next_round<E: Blocks + Drop, T: Turn<Hall<E>>, R: Reader<E::Leaf>>
     ensures cause { IfErr result (IsStoreFault (R.faults reader.old) (R.faults reader.new)) }
     ensures few_reads { OnErr result (ReadsAtMost (R.reads reader.old) (R.reads reader.new) many) }
     ensures count { NeverFalls (R.faults reader.old) (R.faults reader.new) }
+    ensures once { MeetsOnce (R.faults reader.old) (R.faults reader.new) }
     ensures quiet { OnOk result (R.faults reader.new ≡ R.faults reader.old) }
     ensures begins { Begins (T.seen turn.old) (T.seen turn.new) }
     ensures same { T.may_add turn.old ≡ true → T.seen turn.new ≡ T.seen turn.old }
@@ -182,6 +184,7 @@ fn make_round<E: Blocks + Drop, T: Turn<Hall<E>>, R: Reader<E::Leaf>>(
     ensures few_reads { OnErr result
         (ReadsAtMost (R.reads reader.old) (R.reads reader.new) (length part.now.keys)) }
     ensures count { NeverFalls (R.faults reader.old) (R.faults reader.new) }
+    ensures once { MeetsOnce (R.faults reader.old) (R.faults reader.new) }
     ensures quiet { OnOk result (R.faults reader.new ≡ R.faults reader.old) }
     ensures begins { Begins (T.seen turn.old) (T.seen turn.new) }
     ensures same { T.may_add turn.old ≡ true → T.seen turn.new ≡ T.seen turn.old }
@@ -220,6 +223,7 @@ fn copy_round<E: Blocks + Drop, R: Reader<E::Leaf>>(
     ensures post { IfOk result (λ report. report.post ≡ seen.post) }
     ensures room { OnOk result (length out.new ≡ part.now.bytes) }
     ensures count { NeverFalls (R.faults reader.old) (R.faults reader.new) }
+    ensures once { MeetsOnce (R.faults reader.old) (R.faults reader.new) }
     ensures quiet { OnOk result (R.faults reader.new ≡ R.faults reader.old) }
     ensures cause { IfErr result (IsStoreFault (R.faults reader.old) (R.faults reader.new)) }
     ensures few_reads { OnErr result

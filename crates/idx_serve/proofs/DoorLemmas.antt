@@ -5,13 +5,13 @@ use Rattle.std.specs.List.{list_any}
 use Rattle.std.specs.Option.{ForSome}
 use Rattle.std.proofs.lemmas.List.{map-append}
 use Rattle.std.proofs.lemmas.List.Sums.{sum_by-append}
-use Rattle.idx_outside.specs.Cause.{NeverFalls, Rose}
+use Rattle.idx_outside.specs.Cause.{MeetsOnce, NeverFalls, Rose}
 use Rattle.idx_outside.specs.Doors.{Accepts, DoorTold, door_told, finishing}
 use Rattle.idx_outside.specs.declared.served.Served.{Served}
 use Rattle.idx_session.specs.Entry.{State}
 use Rattle.idx_session.specs.Session.{EndCounts}
 use Rattle.idx_serve.specs.Links.{IsServed}
-use Rattle.idx_serve.specs.Visits.{AreVisits, AtDoor, CameBack, IsEnd, IsVisit, LinkTells, Visit, capped, finished, is_starved}
+use Rattle.idx_serve.specs.Visits.{AreVisits, AtDoor, CameBack, IsEnd, IsVisit, LinkTells, Visit, capped, finished, heads_of, is_starved}
 use Rattle.idx_serve.specs.declared.door.ServeEnd.TheVariants as S
 use Rattle.idx_serve.specs.declared.site.Site.{Site}
 
@@ -71,10 +71,11 @@ module _ {L : Type 0} where
   -- a link was served, with no entry before
   pub visit_of : {tell : LinkTells L} {tells : Bool} {site : Site} {before after : State} (v : Visit L) (old : List Served) → old ≡ []
       → IsServed tells site before after (tell.incoming v.link) (tell.written v.link) (tell.written v.back) (tell.readings v.link) (tell.readings v.back) old v.served v.end
-      → NeverFalls (tell.faults v.link) (tell.faults v.back) → EndCounts (tell.faults v.link) (tell.faults v.back) v.end → IsVisit tell tells site before after v
-  visit_of {tell} {tells} {site} {before} {after} v old none served count counts = record {
+      → NeverFalls (tell.faults v.link) (tell.faults v.back) → MeetsOnce (tell.faults v.link) (tell.faults v.back) → EndCounts (tell.faults v.link) (tell.faults v.back) v.end → IsVisit tell tells site before after v
+  visit_of {tell} {tells} {site} {before} {after} v old none served count once counts = record {
     served = subst (λ l. IsServed tells site before after (tell.incoming v.link) (tell.written v.link) (tell.written v.back) (tell.readings v.link) (tell.readings v.back) l v.served v.end) none served;
     count = count;
+    once = once;
     counts = counts;
   }
 
@@ -87,6 +88,7 @@ module _ {L : Type 0} where
     links_are = refl;
     replies_are = refl;
     starved_is = refl;
+    once = omega arith;
   }
 
   -- one more link
@@ -101,6 +103,7 @@ module _ {L : Type 0} where
     links_are = omega (arith, h.links_are, length-append h.visits (v ∷ []));
     replies_are = omega (arith, counted, h.replies_are, sum_by-append (λ (w : Visit L). length w.served) h.visits (v ∷ []));
     starved_is = is ∙ ap (λ b. b || is_starved v) h.starved_is ∙ ap (λ b. list_any is_starved h.visits || b) (sym (or-false (is_starved v))) ∙ sym (any-append is_starved h.visits (v ∷ []));
+    once = omega (arith, h.once, visit.served.once, sum_by-append heads_of h.visits (v ∷ []));
   }
 
   -- the door hands out no more

@@ -3,6 +3,7 @@ use Rattle.std.specs.Prelude.{Result, Ok, Err}
 use Rattle.std.proofs.Common.{inl, inr, ◌≡◌, ℕ, ◌+◌, ◌*◌, ◌%◌, ◌^◌, ◌≤◌, Bool, List, [], ◌∷◌, ◌++◌, length, drop, refl, sym, ap, ◌∙◌, arith, append-nil, Some, None, Option, IfSome}
 use Rattle.std.specs.Prelude.{sum_by}
 use Rattle.std.proofs.lemmas.List.{length-drop}
+use Rattle.idx_outside.specs.Cause.{MeetsOnce}
 use Rattle.idx_header.specs.Header.{HeaderValue}
 use Rattle.idx_hall.specs.Hall.{HallValue}
 use Rattle.idx_hall.specs.Posts.{Post, bytes_at}
@@ -51,6 +52,7 @@ answered_behind h ask seen_before seen_after front after room report long a = re
 -- what is known of a question without an answer
 pub record Known (tells : Bool) (h : HeaderValue) (ask : Ask) (before after : State) (fault : QueryFault) : Type 0 where
   pub caused : IsCaused h ask after.posts before.faults after.faults fault
+  pub once : MeetsOnce before.faults after.faults
   pub grew : Grew before after
   pub few : ReadsAtMost before.reads after.reads (length (needed h ask))
   pub unread : IsUnread fault → after.reads ≡ before.reads
@@ -99,6 +101,7 @@ refused_by tells h ask before after (Q.StoreFault faults) k = record {
   grew = k.grew;
   post = k.caused.1;
   faults = k.caused.3;
+  once = k.once;
   reads = k.few;
   held = few_holds h ask before.holds after.holds k.held;
   hall = k.left;

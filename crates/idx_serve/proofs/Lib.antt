@@ -4,3 +4,4 @@ pub mod AskLemmas
 pub mod TextLemmas
 pub mod DoorLemmas
 pub mod BoardLemmas
+mod OnceLemmas

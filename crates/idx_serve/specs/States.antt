@@ -1,7 +1,7 @@
 -- What a head does to the turn and to the reader, by what these tell before and afterwards. `tells` says whether the turn tells its
 -- hall.
 use Rattle.std.specs.Prelude.{◌≡◌, ◌≢◌, ◌⊎◌, ℕ, ◌-◌, ◌*◌, ◌/◌, ◌≤◌, Bool, true, false, List, [], length, Option, Some, None, IfSome, Err}
-use Rattle.idx_outside.specs.Cause.{MadeReads, Rose}
+use Rattle.idx_outside.specs.Cause.{MadeReads, MeetsOnce, Rose}
 use Rattle.idx_header.specs.Header.{HeaderValue}
 use Rattle.idx_hall.specs.Hall.{HallValue, after_evict}
 use Rattle.idx_hall.specs.Posts.{Lacks}
@@ -57,12 +57,13 @@ pub record IsUnpublished (tells : Bool) (h : HeaderValue) (many : ℕ) (before a
   pub held : MadeHolds before.holds after.holds 1
   pub hall : OnHall tells before (λ hall. after.hall ≡ Some hall)
 
--- a read of a block failed
+-- a read of a block failed, and the reader counted that fault alone
 pub record IsStoreFault (tells : Bool) (h : HeaderValue) (before after : State) (ask : Ask) : Type 0 where
   pub plan : plan_fault h ask ≡ None
   pub grew : Grew before after
   pub post : HasPost after.posts ask.time
   pub faults : Rose before.faults after.faults
+  pub once : MeetsOnce before.faults after.faults
   pub reads : ReadsAtMost before.reads after.reads (length (needed h ask))
   pub held : HeldAtMost h ask before.holds after.holds
   pub hall : OnHall tells before (λ hall. IsLookedAt h ask hall after.hall before.holds after.holds)

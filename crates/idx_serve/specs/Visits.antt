@@ -1,8 +1,8 @@
 -- What is answered on the links of a door, one after another.
-use Rattle.std.specs.Prelude.{◌≡◌, ◌⊎◌, ℕ, ◌-◌, ◌^◌, Bool, true, false, List, [], ◌∷◌, ◌++◌, length, map, min, sum_by, Option, Some, None}
+use Rattle.std.specs.Prelude.{◌≡◌, ◌⊎◌, ℕ, ◌+◌, ◌-◌, ◌^◌, ◌≤◌, Bool, true, false, List, [], ◌∷◌, ◌++◌, length, map, min, sum_by, Option, Some, None}
 use Rattle.std.specs.List.{list_any}
 use Rattle.std.specs.Option.{ForSome}
-use Rattle.idx_outside.specs.Cause.{NeverFalls, Rose}
+use Rattle.idx_outside.specs.Cause.{MeetsOnce, NeverFalls, Rose}
 use Rattle.idx_outside.specs.Doors.{DoorTold, door_told}
 use Rattle.idx_outside.specs.Input.{Reading}
 use Rattle.idx_outside.specs.declared.served.Served.{Served}
@@ -10,7 +10,7 @@ use Rattle.idx_session.specs.Entry.{State}
 use Rattle.idx_session.specs.Session.{EndCounts}
 use Rattle.idx_session.specs.declared.link_end.LinkEnd.{LinkEnd}
 use Rattle.idx_session.specs.declared.link_end.LinkEnd.TheVariants as E
-use Rattle.idx_serve.specs.Links.{IsServed}
+use Rattle.idx_serve.specs.Links.{IsServed, lost_heads}
 use Rattle.idx_serve.specs.declared.door.ServeEnd.{ServeEnd}
 use Rattle.idx_serve.specs.declared.door.ServeEnd.TheVariants as S
 use Rattle.idx_serve.specs.declared.site.Site.{Site}
@@ -42,6 +42,7 @@ finished v = (v.back, v.served)
 pub record IsVisit {L : Type 0} (tell : LinkTells L) (tells : Bool) (site : Site) (before after : State) (v : Visit L) : Type 0 where
   pub served : IsServed tells site before after (tell.incoming v.link) (tell.written v.link) (tell.written v.back) (tell.readings v.link) (tell.readings v.back) [] v.served v.end
   pub count : NeverFalls (tell.faults v.link) (tell.faults v.back)
+  pub once : MeetsOnce (tell.faults v.link) (tell.faults v.back)
   pub counts : EndCounts (tell.faults v.link) (tell.faults v.back) v.end
 
 -- The links were served one after another, each from the state that the one before it left.
@@ -69,7 +70,12 @@ CameBack visits (Some old) new =
 abbrev pub capped : ℕ → ℕ
 capped n = min n (2 ^ 64 - 1)
 
--- What came of a door: the visits of its links, how many there were, and how many entries they have.
+-- how many heads of a link were taken up: those that have entries, and the one that got no reply for want of memory
+abbrev pub heads_of : {L : Type 0} → Visit L → ℕ
+heads_of v = length v.served + lost_heads v.end
+
+-- What came of a door: the visits of its links, how many there were, and how many entries they have. The reader counted one fault at
+-- most for each head that was taken up.
 pub record AtDoor {L : Type 0} (tell : LinkTells L) (tells : Bool) (site : Site) (before after : State) (old new : Option (DoorTold L)) (links replies : ℕ) (starved : Bool) : Type 0 where
   pub visits : List (Visit L)
   pub served : AreVisits tell tells site before visits after
@@ -77,6 +83,7 @@ pub record AtDoor {L : Type 0} (tell : LinkTells L) (tells : Bool) (site : Site)
   pub links_are : links ≡ length visits
   pub replies_are : replies ≡ capped (sum_by (λ v. length v.served) visits)
   pub starved_is : starved ≡ list_any is_starved visits
+  pub once : after.faults ≤ before.faults + sum_by heads_of visits
 
 -- The door is through: no link is left and no fault was counted, or it failed.
 abbrev pub IsThrough : {L : Type 0} → Option (DoorTold L) → ℕ → ℕ → Type 0

@@ -1,4 +1,5 @@
 ghost use Rattle.std.specs.Prelude.{◌≡◌, Bool, None, [], if◌then◌else◌};
+ghost use Rattle.idx_outside.specs.Cause.{MeetsOnce};
 ghost use Rattle.idx_layout.specs.Shape.{shape_of};
 ghost use Rattle.idx_session.specs.Entry.{state_of};
 ghost use Rattle.idx_serve.specs.Later.{IsLater};
@@ -56,6 +57,7 @@ pub fn serve_door<E: Blocks + Drop, T: Turn<Hall<E>>, R: Reader<E::Leaf>, D: Doo
         (T.kept turn.new) (T.holds turn.new))
         (D.told door.old) (D.told door.new) result.links result.replies starved
         × IsEnd (D.told door.new) (D.faults door.old) (D.faults door.new) result.links starved result.end }
+    ensures once { MeetsOnce (D.faults door.old) (D.faults door.new) }
     ensures later { IsLater
         (state_of (T.seen turn.old) (T.may_add turn.old) (R.faults reader.old) (R.reads reader.old)
         (T.kept turn.old) (T.holds turn.old))

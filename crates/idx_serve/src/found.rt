@@ -1,6 +1,6 @@
 //! An answer out of the hall.
 ghost use Rattle.std.specs.Prelude.{◌≡◌, ◌+◌, ◌<◌, IfErr, IfOk, None, drop, length, replicate, true};
-ghost use Rattle.idx_outside.specs.Cause.{NeverFalls};
+ghost use Rattle.idx_outside.specs.Cause.{MeetsOnce, NeverFalls};
 ghost use Rattle.idx_layout.specs.Shape.{shape_of};
 ghost use Rattle.idx_plan.specs.Needed.{answer_bytes};
 ghost use Rattle.idx_session.specs.Entry.{state_of};
@@ -56,6 +56,7 @@ pub(crate) fn find<E: Blocks + Drop, T: Turn<Hall<E>>, R: Reader<E::Leaf>>(
     ensures lock { T.lock turn.new ≡ T.lock turn.old }
     ensures given { T.given turn.new ≡ None }
     ensures count { NeverFalls (R.faults reader.old) (R.faults reader.new) }
+    ensures once { MeetsOnce (R.faults reader.old) (R.faults reader.new) }
 {
     let Ok(mut samples) = head_room(alloc) else {
         return Err(Refusal::NoMemory);

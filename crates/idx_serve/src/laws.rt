@@ -1,5 +1,6 @@
 //! Laws of the definitions, each the contract of a function that does nothing.
 ghost use Rattle.std.specs.Prelude.{◌≡◌, ◌<◌, ◌≤◌, ℕ, All, Bool, List, Option, Some, length, take};
+ghost use Rattle.idx_outside.specs.Cause.{MeetsOnce};
 ghost use Rattle.idx_outside.specs.Input.{Reading};
 ghost use Rattle.idx_outside.specs.declared.served.Served.{Served};
 ghost use Rattle.idx_hall.specs.Posts.{Post, newest};
@@ -9,7 +10,7 @@ ghost use Rattle.idx_session.specs.declared.asked.Asked.{Asked};
 ghost use Rattle.idx_session.specs.declared.link_end.LinkEnd.{LinkEnd};
 ghost use Rattle.idx_serve.specs.Boards.{HoldsOf};
 ghost use Rattle.idx_serve.specs.Links.{IsServed};
-ghost use Rattle.idx_serve.specs.Replies.{Gives};
+ghost use Rattle.idx_serve.specs.Replies.{Gives, IsLost, IsReply};
 ghost use Rattle.idx_serve.specs.declared.site.Site.{Site};
 
 /// Where the board that was named is no longer than the posts that were seen, this holds behind a reply with samples too,
@@ -39,4 +40,12 @@ pub fn entries_hold_of_longer_boards()
         (link : IsServed tells site before after input written_old written_new readings_old readings_new
         served_old served_new end) (posts : List Post) → Begins after.posts posts →
         All (HoldsOf site posts) link.session.entries }
+{}
+
+/// With each reply the reader counts one fault at most, and so it does with a head that gets no reply for want of memory.
+pub fn a_head_meets_one_fault()
+    ensures replied { (tells : Bool) (site : Site) (before : Mark) (asked : Asked) (last : Bool) (reply : Reply) →
+        IsReply tells site before asked last reply → MeetsOnce before.state.faults reply.mark.state.faults }
+    ensures lost { (tells : Bool) (site : Site) (before after : Mark) → IsLost tells site before after →
+        MeetsOnce before.state.faults after.state.faults }
 {}

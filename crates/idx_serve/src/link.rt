@@ -1,5 +1,5 @@
 ghost use Rattle.std.specs.Prelude.{◌≡◌, None};
-ghost use Rattle.idx_outside.specs.Cause.{NeverFalls};
+ghost use Rattle.idx_outside.specs.Cause.{MeetsOnce, NeverFalls};
 ghost use Rattle.idx_layout.specs.Shape.{shape_of};
 ghost use Rattle.idx_session.specs.Entry.{mark_of, state_of};
 ghost use Rattle.idx_session.specs.Session.{EndCounts};
@@ -42,6 +42,7 @@ pub fn serve_link<E: Blocks + Drop, T: Turn<Hall<E>>, R: Reader<E::Leaf>, L: Lin
         (T.shape turn.old) (T.shape turn.new) (T.lock turn.old) (T.lock turn.new) }
     ensures given { T.given turn.new ≡ None }
     ensures count { NeverFalls (L.faults link.old) (L.faults link.new) }
+    ensures once { MeetsOnce (L.faults link.old) (L.faults link.new) }
     ensures counts { EndCounts (L.faults link.old) (L.faults link.new) result }
 {
     let mut answering = Answering::new();

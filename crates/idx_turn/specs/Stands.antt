@@ -9,19 +9,21 @@ pub record Begins {A : Type 0} (front whole : List A) : Type 0 where
   pub rest : List A
   pub is : whole ≡ front ++ rest
 
--- a shape and a list of posts
+-- a shape, how many blocks are kept at most, and a list of posts
 pub record Stand : Type 0 where
   pub shape : Shape
+  pub capacity : ℕ
   pub posts : List Post
 
--- the two together
-abbrev pub stand : Shape → List Post → Stand
-stand shape posts = record { shape = shape; posts = posts }
+-- the three together
+abbrev pub stand : Shape → ℕ → List Post → Stand
+stand shape capacity posts = record { shape = shape; capacity = capacity; posts = posts }
 
--- what comes back has the shape that went out, and its list begins with the one that went out; it is that list where
--- nothing may be added
+-- what comes back has the shape that went out, keeps as many blocks, and its list begins with the one that went out; it is
+-- that list where nothing may be added
 pub record MayReturn (was : Stand) (may_add : Bool) (back : Stand) : Type 0 where
   pub shape : back.shape ≡ was.shape
+  pub capacity : back.capacity ≡ was.capacity
   pub begins : Begins was.posts back.posts
   pub same : may_add ≡ false → back.posts ≡ was.posts
 

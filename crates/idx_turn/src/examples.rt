@@ -14,6 +14,7 @@ pub fn take_and_give<S: Standing, T: Turn<S>>(turn: &mut T)
     ensures same { T.may_add turn.old ≡ true → T.seen turn.new ≡ T.seen turn.old }
     ensures begins { Begins (T.seen turn.old) (T.seen turn.new) }
     ensures shape { T.shape turn.new ≡ T.shape turn.old }
+    ensures capacity { T.capacity turn.new ≡ T.capacity turn.old }
     ensures may_add { T.may_add turn.new ≡ T.may_add turn.old }
     ensures lock { T.lock turn.new ≡ T.lock turn.old }
     ensures holds { MadeHolds (T.holds turn.old) (T.holds turn.new) 1 }
@@ -47,6 +48,7 @@ pub fn publish<T: Turn<Steps>>(turn: &mut T, time: u64) -> bool
     ensures seen { MatchBool result (T.seen turn.new ≡ T.seen turn.old ++ bare_post time ∷ [])
         (T.seen turn.new ≡ T.seen turn.old) }
     ensures shape { T.shape turn.new ≡ T.shape turn.old }
+    ensures capacity { T.capacity turn.new ≡ T.capacity turn.old }
     ensures may_add { T.may_add turn.new ≡ T.may_add turn.old }
     ensures lock { T.lock turn.new ≡ T.lock turn.old }
     ensures holds { MadeHolds (T.holds turn.old) (T.holds turn.new) 1 }
@@ -84,6 +86,7 @@ pub fn count<T: Turn<Steps>>(turn: &mut T) -> usize
     ensures kept { T.tells ≡ true → T.kept turn.new ≡ T.kept turn.old }
     ensures same { T.may_add turn.old ≡ true → T.seen turn.new ≡ T.seen turn.old }
     ensures shape { T.shape turn.new ≡ T.shape turn.old }
+    ensures capacity { T.capacity turn.new ≡ T.capacity turn.old }
     ensures may_add { T.may_add turn.new ≡ T.may_add turn.old }
     ensures lock { T.lock turn.new ≡ T.lock turn.old }
     ensures holds { MadeHolds (T.holds turn.old) (T.holds turn.new) 1 }

@@ -57,11 +57,13 @@ impl<S: Standing + Drop> Turn<S> for Solo<S> {
 
     ghost shape = { λ s. S.shape (latest s.kept s.taken) };
 
+    ghost capacity = { λ s. S.capacity (latest s.kept s.taken) };
+
     ghost seen = { λ s. S.posts (latest s.kept s.taken) };
 
     ghost may_add = { λ _. true };
 
-    ghost given = { λ s. given_unless s.kept (stand (S.shape s.taken) (S.posts s.taken)) };
+    ghost given = { λ s. given_unless s.kept (stand (S.shape s.taken) (S.capacity s.taken) (S.posts s.taken)) };
 
     ghost lock = { λ _. None };
 
@@ -79,8 +81,9 @@ impl<S: Standing + Drop> Turn<S> for Solo<S> {
     }
 
     fn give(&mut self, held: Held<S>)
-        requires { MayGive (given_unless self.old.kept (stand (S.shape self.old.taken) (S.posts self.old.taken))) true
-            (stand (S.shape held) (S.posts held)) }
+        requires { MayGive (given_unless self.old.kept
+            (stand (S.shape self.old.taken) (S.capacity self.old.taken) (S.posts self.old.taken))) true
+            (stand (S.shape held) (S.capacity held) (S.posts held)) }
         ensures kept { self.new.kept ≡ Some held }
         ensures holds { self.new.holds ≡ self.old.holds }
     {

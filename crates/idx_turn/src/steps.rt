@@ -50,5 +50,7 @@ impl Standing for Steps {
 
     ghost shape = { λ s. record { blocks = s.blocks; lengths = [] } };
 
+    ghost capacity = { λ _. 0 };
+
     ghost posts = { λ s. s.steps.items };
 }

@@ -18,6 +18,9 @@ pub trait Turn<S: Standing> {
     /// The shape of the value, which stays.
     ghost shape: { Self → Shape };
 
+    /// How many blocks the value keeps at most, which stays.
+    ghost capacity: { Self → ℕ };
+
     /// The published steps that it has seen.
     ghost seen: { Self → List Post };
 
@@ -39,19 +42,22 @@ pub trait Turn<S: Standing> {
         ensures kept { tells ≡ true → kept self.old ≡ Some result }
         ensures value_shape { S.shape result ≡ shape self.old }
         ensures shape { shape self.new ≡ shape self.old }
+        ensures value_capacity { S.capacity result ≡ capacity self.old }
+        ensures capacity { capacity self.new ≡ capacity self.old }
         ensures begins { Begins (seen self.old) (S.posts result) }
         ensures same { may_add self.old ≡ true → S.posts result ≡ seen self.old }
         ensures seen { seen self.new ≡ S.posts result }
         ensures may_add { may_add self.new ≡ may_add self.old }
         ensures lock { lock self.new ≡ lock self.old }
         ensures held { MadeHolds (holds self.old) (holds self.new) 1 }
-        ensures given { given self.new ≡ Some (stand (S.shape result) (S.posts result)) };
+        ensures given { given self.new ≡ Some (stand (S.shape result) (S.capacity result) (S.posts result)) };
 
     /// Takes the value back.
     fn give(&mut self, held: Held<S>)
-        requires { MayGive (given self.old) (may_add self.old) (stand (S.shape held) (S.posts held)) }
+        requires { MayGive (given self.old) (may_add self.old) (stand (S.shape held) (S.capacity held) (S.posts held)) }
         ensures kept { tells ≡ true → kept self.new ≡ Some held }
         ensures shape { shape self.new ≡ shape self.old }
+        ensures capacity { capacity self.new ≡ capacity self.old }
         ensures seen { seen self.new ≡ S.posts held }
         ensures may_add { may_add self.new ≡ may_add self.old }
         ensures lock { lock self.new ≡ lock self.old }

@@ -3,8 +3,9 @@ use Rattle.std.proofs.Common.{◌≡◌, ◌⊎◌, ℕ, zero, suc, ◌+◌, ◌
 use Rattle.std.specs.Prelude.{if◌then◌else◌}
 use Rattle.std.specs.List.{list_any}
 use Rattle.std.proofs.lemmas.Bool.{cases_lt}
-use Rattle.std.proofs.lemmas.List.{get_or-drop, get_or-map, length-map}
-use Rattle.idx_outside.specs.Cause.{NeverFalls, Rose}
+use Rattle.std.proofs.lemmas.List.{get_or-drop, get_or-map, get_or_past, length-map}
+use Rattle.idx_outside.specs.Cause.{MeetsOnce, NeverFalls, Rose}
+use Rattle.idx_outside.specs.Counts.{EachMeetsOnce}
 use Rattle.idx_outside.specs.Doors.{DoorTold}
 use Rattle.idx_lock.specs.Seats.{SeatValue}
 use Rattle.idx_serve.specs.Visits.{IsEnd}
@@ -139,6 +140,19 @@ module _ {L D R : Type 0} (tell : Tells L D R) (site : Site) (workers : ℕ) (se
           let k = end_at works made i d (some_work i within) within _ refl in
           end_count _ _ _ k.0 k.1 _ k.2),
     )
+
+    -- each door counts one fault at most
+    pub doors_once : EachMeetsOnce (map tell.door_faults doors_old) (map tell.door_faults doors_new)
+    doors_once i = by_place (cases_lt i (length (map tell.door_faults doors_old)))
+      where
+        by_place : (i < length (map tell.door_faults doors_old)) ⊎ (length (map tell.door_faults doors_old) ≤ i) →
+            MeetsOnce (slice_index (map tell.door_faults doors_old) i) (slice_index (map tell.door_faults doors_new) i)
+        by_place (inl within) =
+            of_all tell.door_faults MeetsOnce workers doors_old doors_new made.doors (λ n. omega arith)
+            (λ i d front lt. (work_at works made i d (some_work i front) front).1.once) i within
+        by_place (inr past) =
+            let past_new : length (map tell.door_faults doors_new) ≤ i = omega (arith, past, as_many tell.door_faults workers doors_old doors_new made.doors) in
+            omega (arith, get_or_past (map tell.door_faults doors_new) i 0 past_new)
 
     -- no reader's count falls
     pub readers_fall : (length (map tell.reader_faults readers_new) ≡ length (map tell.reader_faults readers_old)) × ((i : ℕ) → i < length (map tell.reader_faults readers_old) →

@@ -12,7 +12,7 @@ use Rattle.idx_workers.specs.declared.job.Job.{Job}
 -- the seat in its place, or a seat of no lock while it is out
 abbrev pub seat_in : Option SeatValue → SeatValue
 seat_in (Some seat) = seat
-seat_in None = seat_value (record { marks = [] }) (stand (record { blocks = 0; lengths = [] }) []) false
+seat_in None = seat_value (record { marks = [] }) (stand (record { blocks = 0; lengths = [] }) 0 []) false
 
 module _ {S D R : Type 0} where
   -- what a job came to

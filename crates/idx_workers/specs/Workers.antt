@@ -1,6 +1,7 @@
 -- What comes of serving by many workers: worker i serves at door i with reader i.
 use Rattle.std.specs.Prelude.{◌≡◌, ℕ, ◌<◌, Bool, true, false, if◌then◌else◌, List, [], ◌∷◌, All, drop, length, map, slice_index_or, sum_by, Option, Some, None}
 use Rattle.std.specs.List.{list_any}
+use Rattle.idx_outside.specs.Cause.{MeetsOnce}
 use Rattle.idx_outside.specs.Doors.{DoorTold}
 use Rattle.idx_lock.specs.Seats.{SeatValue}
 use Rattle.idx_serve.specs.Later.{IsLater}
@@ -86,13 +87,14 @@ module _ {L D R : Type 0} (tell : Tells L D R) where
 
   module _ (site : Site) where
     -- What a worker came to that began on this seat: what is promised of one who serves a door alone, by what its own seat
-    -- had seen when it began and when it ended.
+    -- had seen when it began and when it ended. Its door counted one fault at most.
     pub record IsWork (seat : SeatValue) (door_old door_new : D) (reader_old reader_new : R) (w : Work) : Type 0 where
       pub holds : ℕ
       pub starved : Bool
       pub served : AtDoor tell.links false site (state_at seat reader_old 0) (state_at w.seat reader_new holds)
           (tell.told door_old) (tell.told door_new) w.summary.links w.summary.replies starved
       pub end : IsEnd (tell.told door_new) (tell.door_faults door_old) (tell.door_faults door_new) w.summary.links starved w.summary.end
+      pub once : MeetsOnce (tell.door_faults door_old) (tell.door_faults door_new)
       pub later : IsLater (state_at seat reader_old 0) (state_at w.seat reader_new holds) seat.seen.shape w.seat.seen.shape
           (Some seat.lock) (Some w.seat.lock)
 

@@ -14,5 +14,5 @@ returns-clause-served g c =
     c.args.lock.now c.args.writer.seen (seat_in made.place) c.run_sides-seat.result.0.0 c.join.new.seat.seen.posts made.doors.items c.run_sides-seat.new.serving.doors.items
     (ap seat_in c.new-serving.ensures.place ∙ c.split-seat.ensures.new) (λ i. (c.new-serving.ensures.doors i).items) (sym c.give_back.ensures) c.requires.shape c.run_sides-seat.ensures.servers.served
     c.join.ensures.other_begins in
-    subst (λ (n : ℕ). AreServedOut tell c.args.site.now n c.args.doors.now.items c.give_back.new.doors.items c.args.readers.now.items c.run_sides-seat.new.readers.items
+    subst (λ (n : ℕ). AreServedOut tell c.args.site.now c.args.writer.seen.capacity n c.args.doors.now.items c.give_back.new.doors.items c.args.readers.now.items c.run_sides-seat.new.readers.items
     c.args.writer.seen.posts c.join.new.seat.seen.posts c.run_sides-seat.result.0.1) c.new-serving.ensures.workers served

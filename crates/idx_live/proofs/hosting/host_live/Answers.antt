@@ -11,7 +11,7 @@ returns-clause-live g c =
     let bay = g.B.Bay in
     let raw = g.V.Source in
     let tell = tells (link_tells g.D.Link.Link.incoming g.D.Link.Link.written g.D.Link.Link.readings g.D.Link.Link.faults) g.D.Door.told g.D.Door.faults g.R.Reader.faults g.R.Reader.reads in
-    live_of tell raw.contents raw.asked raw.faults bay.header bay.files bay.begun bay.changes bay.failed bay.faults c.args.name.now c.args.time c.args.workers
+    live_of tell raw.contents raw.asked raw.faults bay.header bay.files bay.begun bay.changes bay.failed bay.faults c.args.name.now c.args.time c.args.cache c.args.workers
     c.args.raws.now.items c.open.new.raws.items c.serve_beside-writer.new.raws.items c.args.bay.now c.open.new.bay c.serve_beside-writer.new.bay
     c.args.doors.now.items c.serve_beside-writer.new.doors.items c.args.readers.now.items c.open.new.readers.items c.serve_beside-writer.new.readers.items
     c.in_ok-site.field-0.site c.in_ok-site.field-0.revision c.in_ok-site.field-0.lock c.in_ok-site.field-0.writer c.serve_beside-writer.result.0 _ c.serve_beside-writer.result.1

@@ -14,6 +14,7 @@ returns-clause-locked g c =
       standing = subst (λ (posts : List Post). IfSome (g.B.Bay.files c.args.bay.now) (λ files. posts ≡ standing_posts c.args.header.now files))
           (sym (ap (λ (seat : SeatValue). seat.seen.posts) writer)) loaded.board;
       shape = ap (λ (seat : SeatValue). seat.seen.shape) writer ∙ loaded.shape;
+      capacity = ap (λ (seat : SeatValue). seat.seen.capacity) writer ∙ loaded.capacity;
       of = ap (λ (seat : SeatValue). seat.lock) writer;
       writes = ap (λ (seat : SeatValue). seat.writer) writer;
       loaded = loaded.loaded;

@@ -101,6 +101,7 @@ returns-clause-opened g c =
       sound = subst (λ (files : Option (List MemFile)). IsSound h files) first locked.sound;
       standing = subst (λ (files : Option (List MemFile)). IfSome files (λ files. c.in_ok-lock.writer.seen.posts ≡ standing_posts h files)) first locked.standing;
       shape = locked.shape;
+      capacity = locked.capacity;
       of = locked.of;
       writes = locked.writes;
       loaded = subst (λ (files : Option (List MemFile)). IsLoaded g.R.Reader.faults g.R.Reader.reads h files c.args.readers.now.items c.load_locked.new.readers.items) first locked.loaded;

@@ -106,6 +106,9 @@ returns-in_err-round-clause-left g c =
 pub returns-in_err-round-clause-count : goal.returns-in_err-round-clause-count
 returns-in_err-round-clause-count g c = omega (arith, c.in_err-round.ensures.count, c.loop-number.invariant.quiet)
 
+pub returns-in_err-round-clause-once : goal.returns-in_err-round-clause-once
+returns-in_err-round-clause-once g c = omega (arith, c.in_err-round.ensures.once, c.loop-number.invariant.quiet)
+
 pub returns-in_err-round-clause-begins : goal.returns-in_err-round-clause-begins
 returns-in_err-round-clause-begins g c = begins_more c.loop-number.invariant.so_far.since (begins_more c.loop-number.invariant.so_far.until c.in_err-round.ensures.begins)
 
@@ -182,6 +185,9 @@ returns-clause-held g c =
 
 pub returns-clause-count : goal.returns-clause-count
 returns-clause-count g c = omega (arith, c.loop-number.invariant.quiet)
+
+pub returns-clause-once : goal.returns-clause-once
+returns-clause-once g c = omega (arith, c.loop-number.invariant.quiet)
 
 pub returns-clause-quiet : goal.returns-clause-quiet
 returns-clause-quiet g c = c.loop-number.invariant.quiet

@@ -8,7 +8,7 @@ use Rattle.idx_hall.specs.Calls.{pairs_of}
 use Rattle.idx_turn.specs.Stands.{MadeHolds}
 use Rattle.idx_turn.proofs.BeginsLemmas.{begins_at}
 use Rattle.idx_query.specs.Steps.{held_for}
-use Rattle.idx_query.proofs.TakeLemmas.{filled-board, filled-shape, given-back, held-some}
+use Rattle.idx_query.proofs.TakeLemmas.{filled-board, filled-cap, filled-shape, given-back, held-some}
 use Rattle.idx_query.proofs.taking.fill_cache.Goals as goal
 
 pub fill-stale-requires : goal.fill-stale-requires
@@ -28,8 +28,9 @@ fill-stale-requires g c =
 pub give-requires : goal.give-requires
 give-requires g c =
     let pairs = pairs_of c.args.loaded.items in
-    given-back _ _ c.take-held.result.shape c.fill-stale.new.self.shape c.take-held.result.board c.fill-stale.new.self.board c.take-held.ensures.given
+    given-back _ _ c.take-held.result c.fill-stale.new.self c.take-held.ensures.given
     (ap (λ (h : HallValue). h.shape) c.fill-stale.ensures.filled ∙ filled-shape c.args.post pairs c.get_mut.result.now ∙ ap (λ (h : HallValue). h.shape) c.get_mut.ensures.value)
+    (ap (λ (h : HallValue). h.cache.cap) c.fill-stale.ensures.filled ∙ filled-cap c.args.post pairs c.get_mut.result.now ∙ ap (λ (h : HallValue). h.cache.cap) c.get_mut.ensures.value)
     (ap (λ (h : HallValue). h.board) c.fill-stale.ensures.filled ∙ filled-board c.args.post pairs c.get_mut.result.now ∙ ap (λ (h : HallValue). h.board) c.get_mut.ensures.value)
 
 pub returns-clause-held : goal.returns-clause-held

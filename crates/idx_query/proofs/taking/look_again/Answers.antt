@@ -22,8 +22,9 @@ look_at-found-requires-clause-post g c =
 
 pub give-requires : goal.give-requires
 give-requires g c =
-    given-back _ _ c.take-held.result.shape c.look_at-found.new.self.shape c.take-held.result.board c.look_at-found.new.self.board c.take-held.ensures.given
+    given-back _ _ c.take-held.result c.look_at-found.new.self c.take-held.ensures.given
     (c.look_at-found.ensures.shape ∙ ap (λ (h : HallValue). h.shape) c.get_mut.ensures.value)
+    (c.look_at-found.ensures.capacity ∙ ap (λ (h : HallValue). h.cache.cap) c.get_mut.ensures.value)
     (c.look_at-found.ensures.board ∙ ap (λ (h : HallValue). h.board) c.get_mut.ensures.value)
 
 pub returns-clause-looked : goal.returns-clause-looked

@@ -12,8 +12,9 @@ use Rattle.idx_query.proofs.taking.look_up.Goals as goal
 
 pub give-requires : goal.give-requires
 give-requires g c =
-    given-back _ _ c.take-held.result.shape c.look-found.new.self.shape c.take-held.result.board c.look-found.new.self.board c.take-held.ensures.given
+    given-back _ _ c.take-held.result c.look-found.new.self c.take-held.ensures.given
     (c.look-found.ensures.shape ∙ ap (λ (h : HallValue). h.shape) c.get_mut.ensures.value)
+    (c.look-found.ensures.capacity ∙ ap (λ (h : HallValue). h.cache.cap) c.get_mut.ensures.value)
     (c.look-found.ensures.board ∙ ap (λ (h : HallValue). h.board) c.get_mut.ensures.value)
 
 pub returns-in-Some-clause-newest : goal.returns-in-Some-clause-newest

@@ -20,7 +20,7 @@ loop-links-preserved g c =
     let v : Visit _ = record { link = c.in-Ok-Some.link; back = c.serve_link-end.new.link; served = c.serve_link-end.new.served.items; end = c.serve_link-end.result } in
     record {
       served = at_door_next l.invariant.served (g.D.Door.told c.accept.new.self) v accepts
-          (visit_of v c.no_entries-served.result.items c.no_entries-served.ensures c.serve_link-end.ensures.session c.serve_link-end.ensures.count c.serve_link-end.ensures.counts)
+          (visit_of v c.no_entries-served.result.items c.no_entries-served.ensures c.serve_link-end.ensures.session c.serve_link-end.ensures.count c.serve_link-end.ensures.once c.serve_link-end.ensures.counts)
           c.finish.ensures.told c.saturating_add-replies.result _ (grind (arith, common_steps)) (ap (λ b. l.starved || b) c.is_starving-starved.ensures);
       later = later_on l.invariant.later c.serve_link-end.ensures.later;
       given = c.serve_link-end.ensures.given;

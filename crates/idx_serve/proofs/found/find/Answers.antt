@@ -29,6 +29,7 @@ returns-in-Err-clause-refused g c =
     subst (λ r. IsAnswerRefused g.T.Turn.tells c.args.header.now before after r c.args.ask.now) (sym c.from.ensures)
     (refused_by g.T.Turn.tells c.args.header.now c.args.ask.now before after c.in-Err.fault (record {
       caused = said.cause;
+      once = said.once;
       grew = record { may_add = said.may_add; begins = said.begins; same = said.same };
       few = said.few_reads;
       unread = λ u. ap g.R.Reader.reads (said.unread u);
