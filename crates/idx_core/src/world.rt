@@ -1,6 +1,8 @@
-ghost use Rattle.std.specs.Prelude.{◌≡◌, ◌≤◌, None, option_copied, slice_get};
+ghost use Rattle.std.specs.Prelude.{◌≡◌, ◌≤◌, IfOk, None, [], option_copied, slice_get};
 ghost use Rattle.std.specs.Option.{IsSome, option_map_or};
 ghost use Rattle.idx_events.specs.Events.{effect};
+ghost use Rattle.idx_events.specs.Volumes.{sealed_files};
+ghost use Rattle.idx_events.specs.WorldOk.{WorldOk};
 ghost use Rattle.idx_events.specs.declared.event.Event.TheVariants.{Give, Ship, Write, Publish, Abandon, Look, Read, Fill, Evict, Answer};
 ghost use Rattle.idx_core_layers.specs.Division.{layers_of};
 ghost use Rattle.idx_core_model.specs.Headline.{HeadlineHolds};
@@ -19,7 +21,7 @@ use idx_events::Event;
 use idx_gather::gather_room;
 use idx_hall::Hall;
 use idx_header::Header;
-use idx_outside::Bytes;
+use idx_outside::{Bytes, NoMemory};
 use idx_pieces::piece_digits;
 use idx_plan::Ask;
 use std::alloc::Global;
@@ -82,6 +84,18 @@ impl World {
             hall,
             asked,
         })
+    }
+
+    /// The written files of the volume of a place, from 0, by rising number, each with its path and bytes; none where there
+    /// is no such volume.
+    pub fn files_of(&self, alloc: Global, volume: u64) -> Result<Vec<(Bytes, HeldLeaf)>, NoMemory>
+        ensures { IfOk result (λ files. files.items ≡
+            option_map_or (λ v. sealed_files v.slots) (slice_get self.now.world.volumes volume) []) }
+    {
+        match self.steps.get(volume as usize) {
+            Some(step) => step.written_files(alloc),
+            None => Ok(Vec::new(alloc)),
+        }
     }
 
     /// The answer to the question of a number, from 0: the samples that it asks for, of the published volume of its post.
@@ -260,9 +274,10 @@ impl World {
 }
 
 /// What holds of every world: published files are byte for byte those that one rank writes, each cached entry is its
-/// published block, and each answer is exactly what was asked for.
+/// published block, and each answer is exactly what was asked for. What every event keeps holds too.
 pub fn holds_headline(world: &World)
-    ensures { HeadlineHolds world.now.layers.header world.now.world }
+    ensures headline { HeadlineHolds world.now.layers.header world.now.world }
+    ensures kept { WorldOk (layers_of world.now.layers) world.now.world }
 {
     let _ = &world.below;
 }

@@ -239,7 +239,7 @@ impl Step {
     }
 
     /// The files that were written, rising, with their names.
-    pub(crate) fn written_files(&self, alloc: Global) -> Result<Vec<(Bytes, HeldLeaf)>, NoMemory>
+    pub fn written_files(&self, alloc: Global) -> Result<Vec<(Bytes, HeldLeaf)>, NoMemory>
         ensures { IfOk result (λ files. files.items ≡ sealed_files (volume_of self.now).slots) }
     {
         let files = files_of(alloc, &self.slots)?;

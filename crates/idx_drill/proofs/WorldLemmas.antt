@@ -1,7 +1,9 @@
 -- The world of a drill is made and its events are done in it: what is refused cannot be, and what is answered is right.
-use Rattle.std.proofs.Common.{◌≡◌, ℕ, zero, suc, ◌+◌, ◌<◌, ◌≤◌, Bool, true, false, get_or, take, List, [], ◌∷◌, ◌++◌, length, map, Some, refl, sym, ap, ◌∙◌, subst, arith}
+use Rattle.std.proofs.Common.{◌≡◌, ℕ, zero, suc, ◌+◌, ◌<◌, ◌≤◌, Bool, true, false, get_or, take, List, [], ◌∷◌, ◌++◌, length, map, Some, None, slice_get, refl, sym, ap, ◌∙◌, subst, arith}
 use Rattle.std.specs.Prelude.{◌↔◌, Err, IsTrue, Ok, Option, sum}
+use Rattle.std.specs.Option.{option_map_or}
 use Rattle.std.proofs.lemmas.Bool.{false≢true}
+use Rattle.std.proofs.lemmas.List.FromFn.{get_or-map-range_with_len, length-map-range_with_len}
 use Rattle.idx_header.specs.Header.{HasTime, HeaderValue, volume_bytes}
 use Rattle.idx_plan.specs.declared.ask.Ask.{Ask}
 use Rattle.idx_events.specs.Events.{all_enabled, enabled, run}
@@ -19,8 +21,8 @@ use Rattle.idx_core.specs.World.{CoreValue, IsReplay}
 use Rattle.idx_drill_model.specs.Drill.{drill_asks, drill_box, drill_depth, drill_header, drill_volume}
 use Rattle.idx_drill_model.proofs.RoundLemmas.{sum-all}
 use Rattle.idx_drill_model.proofs.TakenLemmas.{drill-taken}
-use Rattle.idx_drill.specs.Drilled.{DrillValue, drill_answer, drill_division, drill_events, drill_files, drill_layers, drill_level, drill_levels, drill_value, drill_world}
-use Rattle.idx_drill.specs.Runs.{HasAnswers, reads_below}
+use Rattle.idx_drill.specs.Drilled.{DrillValue, drill_answer, drill_division, drill_events, drill_files, drill_layers, drill_level, drill_levels, drill_ranks, drill_value, drill_world, drilled_world}
+use Rattle.idx_drill.specs.Runs.{AreAnswered, HasAnswers, reads_below}
 use Rattle.idx_drill.proofs.ReplayLemmas.{may-at, replayed}
 
 -- ---- the world is made
@@ -89,6 +91,14 @@ done_right n s w new es some few same_layers same_world same_events is =
     ∙ (λ i. map (λ (x : Query). x.answer) (run (same_layers i) (same_world i) (same_events i)).queries)
     ∙ (replayed n some few).answers
 
+-- and the world is that of the drill
+pub world_is : (n : ℕ) (made new : CoreValue) (es : List Event) → made.layers ≡ drill_division n → made.world ≡ drill_world n → es ≡ drill_events n → new.layers ≡ made.layers →
+    IsReplay (layers_of made.layers) made.world es (Ok tt) new.world → new ≡ drilled_world n
+world_is n made new es layers world events kept is =
+    let after : new.world ≡ run (drill_layers n) (drill_world n) (drill_events n) = is.1 ∙ (λ i. run (layers_of (layers i)) (world i) (events i)) in
+    let dataset : new.layers ≡ drill_division n = kept ∙ layers in
+    (λ i. record { layers = dataset i; world = after i })
+
 -- ---- answers one by one
 
 each_has : (queries : List Query) (answers : List (List ℕ)) → map (λ (x : Query). x.answer) queries ≡ map (λ a. Some a) answers → HasAnswers queries answers
@@ -110,19 +120,37 @@ pub has_all : (n : ℕ) (queries : List Query) (answers : List (List ℕ)) → m
 has_all n queries answers given same =
     each_has queries answers (given ∙ some_answers n (drill_levels n) ∙ ap (λ l. map (λ a. Some a) l) (sym same))
 
+-- the answer of a level
+pub answered_at : (n level : ℕ) (queries : List Query) → AreAnswered n queries → level ≤ drill_depth n →
+    option_map_or (λ (x : Query). x.answer) (slice_get queries level) None ≡ Some (drill_answer n level)
+answered_at n level queries given within =
+    let less : level < drill_depth n + 1 = omega (arith, within) in
+    let many : length (map (drill_answer n) (drill_levels n)) ≡ drill_depth n + 1 = length-map-range_with_len (drill_answer n) 0 (drill_depth n + 1) in
+    has_all n queries (map (drill_answer n) (drill_levels n)) given refl level (omega (arith, less, many))
+    ∙ ap Some (get_or-map-range_with_len (drill_answer n) 0 (drill_depth n + 1) level level [] less (omega arith))
+
+-- a question that has the answer of a level answers it
+pub answer_is : (n level : ℕ) (given : Option (List ℕ)) (samples : List ℕ) (queries : List Query) → AreAnswered n queries → level ≤ drill_depth n →
+    given ≡ option_map_or (λ (x : Query). x.answer) (slice_get queries level) None → given ≡ Some samples → samples ≡ drill_answer n level
+answer_is n level given samples queries all within told is =
+    let same : Some samples ≡ Some (drill_answer n level) = sym is ∙ told ∙ answered_at n level queries all within in
+    cc
+
 -- they are found to have them
 pub never_others : (n : ℕ) (queries : List Query) (answers : List (List ℕ)) (same : Bool) → (IsTrue same ↔ HasAnswers queries answers) → same ≡ false →
     map (λ (x : Query). x.answer) queries ≡ map (λ level. Some (drill_answer n level)) (drill_levels n) → answers ≡ map (drill_answer n) (drill_levels n) → ⊥
 never_others n queries answers same tells others given run = absurd (false≢true (sym others ∙ tells.1 (has_all n queries answers given run)))
 
 -- what a drill says, part by part
-pub value_is : (n : ℕ) (d : DrillValue) → d.box ≡ drill_box n → d.levels ≡ map (drill_level n) (drill_levels n) → d.files ≡ length (drill_files n) →
-    d.bytes ≡ sum (map (λ (file : List ℕ × List ℕ). length file.1) (drill_files n)) → d.reads ≡ reads_below n (drill_depth n + 1) → d.events ≡ length (drill_events n) → d ≡ drill_value n
-value_is n d box levels files bytes reads events = (λ i. record {
+pub value_is : (n : ℕ) (d : DrillValue) → d.box ≡ drill_box n → d.levels ≡ map (drill_level n) (drill_levels n) → d.ranks ≡ drill_ranks → d.files ≡ length (drill_files n) →
+    d.bytes ≡ sum (map (λ (file : List ℕ × List ℕ). length file.1) (drill_files n)) → d.reads ≡ reads_below n (drill_depth n + 1) → d.events ≡ length (drill_events n) → d.world ≡ drilled_world n → d ≡ drill_value n
+value_is n d box levels ranks files bytes reads events world = (λ i. record {
   box = box i;
   levels = levels i;
+  ranks = ranks i;
   files = files i;
   bytes = bytes i;
   reads = (reads ∙ sum-all n) i;
   events = events i;
+  world = world i;
 })

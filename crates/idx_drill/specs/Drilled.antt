@@ -13,6 +13,7 @@ use Rattle.idx_events.specs.Start.{new_world}
 use Rattle.idx_events.specs.declared.event.Event.{Event}
 use Rattle.idx_core_model.specs.Layers.{answer_of_raw}
 use Rattle.idx_core_layers.specs.Division.{DivisionValue, layers_of}
+use Rattle.idx_core.specs.World.{CoreValue}
 use Rattle.idx_drill_events.specs.Lists.{Asking, all_asked, written}
 use Rattle.idx_drill_model.specs.Blocks.{blocks_at, new_blocks}
 use Rattle.idx_drill.specs.declared.level.Level.{Level}
@@ -61,21 +62,27 @@ drill_answer n level = answer_of_raw (drill_header n) (drill_volume n) (drill_as
 abbrev pub drill_files : ℕ → List (List ℕ × List ℕ)
 drill_files n = step_files Hz (drill_header n) (volume_of_raw (drill_header n) (drill_volume n)) 0
 
+-- the world after all of them
+abbrev pub drilled_world : ℕ → CoreValue
+drilled_world n = record { layers = drill_division n; world = run (drill_layers n) (drill_world n) (drill_events n) }
+
 -- All events of the drill may happen, and the answers afterwards are those of the volume.
 pub record IsReplayed (n : ℕ) : Type 0 where
   pub may : all_enabled (drill_layers n) (drill_world n) (drill_events n) ≡ true
   pub answers : map (λ x. x.answer) (run (drill_layers n) (drill_world n) (drill_events n)).queries ≡
       map (λ level. Some (drill_answer n level)) (drill_levels n)
 
--- What a drill says: its box; of each level how many samples it has and the sum of their bytes; how many files were written, and how many
--- bytes these have; how many blocks were read; and how many events there were.
+-- What a drill says: its box; of each level how many samples it has and the sum of their bytes; by how many ranks how many files were written, and how many
+-- bytes these have; how many blocks were read; how many events there were; and the world in which these were done.
 pub record DrillValue : Type 0 where
   pub box : List (ℕ × ℕ)
   pub levels : List Level
+  pub ranks : ℕ
   pub files : ℕ
   pub bytes : ℕ
   pub reads : ℕ
   pub events : ℕ
+  pub world : CoreValue
 
 -- what is said of a level, by its answer of one-byte samples
 abbrev pub level_of : ℕ → List ℕ → Level
@@ -88,8 +95,10 @@ abbrev pub drill_value : ℕ → DrillValue
 drill_value n = record {
   box = drill_box n;
   levels = map (drill_level n) (drill_levels n);
+  ranks = drill_ranks;
   files = length (drill_files n);
   bytes = sum (map (λ file. length file.1) (drill_files n));
   reads = block_count (drill_header n);
   events = length (drill_events n);
+  world = drilled_world n;
 }

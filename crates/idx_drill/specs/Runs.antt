@@ -14,7 +14,7 @@ use Rattle.idx_plan.specs.declared.ask.Ask.{Ask}
 use Rattle.idx_drill_model.specs.Blocks.{new_blocks}
 use Rattle.idx_drill_model.specs.Cache.{CacheAt}
 use Rattle.idx_drill_model.specs.Drill.{drill_header, drill_volume}
-use Rattle.idx_drill.specs.Drilled.{drill_answer}
+use Rattle.idx_drill.specs.Drilled.{drill_answer, drill_levels}
 
 -- a post that has each block of the drill's dataset, and whose blocks answer each question as the volume does
 pub record IsDrillPost (n : ℕ) (p : Post) : Type 0 where
@@ -44,3 +44,7 @@ answers_below n level = map (drill_answer n) (range_with_len 0 level)
 abbrev pub HasAnswers : List Query → List (List ℕ) → Type 0
 HasAnswers queries answers =
     (k : ℕ) → k < length answers → option_map_or (λ (x : Query). x.answer) (slice_get queries k) None ≡ Some (get_or answers k [])
+
+-- the question of each level has the answer of the level
+abbrev pub AreAnswered : ℕ → List Query → Type 0
+AreAnswered n queries = map (λ (x : Query). x.answer) queries ≡ map (λ level. Some (drill_answer n level)) (drill_levels n)

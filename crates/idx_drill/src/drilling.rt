@@ -8,6 +8,7 @@ use crate::level::{Level, levels_of};
 use crate::questions::{ask_all, drill_asks};
 use crate::replaying::{has_answers, replayed};
 use crate::writing::write_step;
+use idx_core::World;
 use idx_geom::Region;
 use idx_outside::{Bytes, NoMemory};
 use std::alloc::Global;
@@ -19,10 +20,12 @@ use std::thread::Threads;
 pub struct Drilled {
     extent: Region,
     levels: Vec<Level>,
+    ranks: u64,
     files: u64,
     bytes: u64,
     reads: u64,
     events: u64,
+    world: World,
 }
 
 impl Model for Drilled {
@@ -30,7 +33,7 @@ impl Model for Drilled {
 
     ghost Value = { DrillValue };
 
-    ghost view = { λ d. record { box = d.extent; levels = d.levels.items; files = d.files; bytes = d.bytes; reads = d.reads; events = d.events } };
+    ghost view = { λ d. record { box = d.extent; levels = d.levels.items; ranks = d.ranks; files = d.files; bytes = d.bytes; reads = d.reads; events = d.events; world = d.world } };
 }
 
 impl Drilled {
@@ -46,6 +49,13 @@ impl Drilled {
         ensures { result.now ≡ self.now.levels }
     {
         self.levels.as_slice()
+    }
+
+    /// How many ranks wrote the step.
+    pub fn ranks(&self) -> u64
+        ensures { result ≡ self.now.ranks }
+    {
+        self.ranks
     }
 
     /// How many files the step has.
@@ -75,11 +85,19 @@ impl Drilled {
     {
         self.events
     }
+
+    /// The world in which the events were done.
+    pub fn world(&self) -> &World
+        ensures { result.now ≡ self.now.world }
+    {
+        &self.world
+    }
 }
 
 /// The drill of a number, 1 to 8: a volume of 2 to that number points along each of three axes is made, written by four ranks,
 /// each in a thread of its own, into a store in memory, published, and asked for each of its levels, coarsest first. The same
-/// is done again event by event (`replay`), and the answers are compared: they are the same.
+/// is done again event by event (`replay`), and the answers are compared: they are the same. What is said of the levels is
+/// counted in the answers of that world, which is kept.
 pub fn drill<T: Threads + Sync>(rt: &T, alloc: Global, number: u32) -> Result<Drilled, NoMemory>
     requires some { 1 ≤ number }
     requires few { number ≤ 8 }
@@ -98,10 +116,12 @@ pub fn drill<T: Threads + Sync>(rt: &T, alloc: Global, number: u32) -> Result<Dr
     }
     Ok(Drilled {
         extent: header.region(),
-        levels: levels_of(alloc, number, &run.answers)?,
+        levels: levels_of(alloc, number, &header, &world)?,
+        ranks: step.ranks,
         files: step.files,
         bytes: step.bytes,
         reads: run.reads,
         events: events.len() as u64,
+        world,
     })
 }

@@ -1,9 +1,9 @@
 //! The events of a drill are done one after another in a world.
-ghost use Rattle.std.specs.Prelude.{◌≡◌, ◌↔◌, ◌≤◌, IfOk, IsTrue, None, Some, map, slice_get};
+ghost use Rattle.std.specs.Prelude.{◌≡◌, ◌↔◌, ◌≤◌, IfOk, IsTrue, None, Some, slice_get};
 ghost use Rattle.std.specs.Option.{option_map_or};
 ghost use Rattle.idx_drill_model.specs.Drill.{drill_asks, drill_header, drill_volume};
-ghost use Rattle.idx_drill.specs.Drilled.{drill_answer, drill_events, drill_levels};
-ghost use Rattle.idx_drill.specs.Runs.{HasAnswers};
+ghost use Rattle.idx_drill.specs.Drilled.{drill_events, drilled_world};
+ghost use Rattle.idx_drill.specs.Runs.{AreAnswered, HasAnswers};
 
 use crate::writing::{CAPACITY, RANKS};
 use idx_core::{StepRefusal, World, WorldRefusal, replay};
@@ -28,8 +28,8 @@ pub(crate) fn replayed(
     requires volume { volume ≡ drill_volume number }
     requires asks { asks.now.items ≡ drill_asks number }
     requires events { events.now.items ≡ drill_events number }
-    ensures { IfOk result (λ world. map (λ x. x.answer) world.world.queries ≡
-        map (λ level. Some (drill_answer number level)) (drill_levels number)) }
+    ensures world { IfOk result (λ world. world ≡ drilled_world number) }
+    ensures answers { IfOk result (λ world. AreAnswered number world.world.queries) }
 {
     let mut volumes = Vec::new(alloc);
     volumes.push((0, volume))?;

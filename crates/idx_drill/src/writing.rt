@@ -24,13 +24,21 @@ pub(crate) const RANKS: u32 = 4;
 /// So many blocks are cached at most.
 pub(crate) const CAPACITY: u32 = 64;
 
-/// A step that was written and published: how many files it has, how many bytes these have together, and the hall in which
-/// it stands.
+/// A step that was written and published: how many ranks gathered it, how many files it has, how many bytes these have
+/// together, and the hall in which it stands.
 #[derive(Drop)]
 pub(crate) struct Published {
+    pub(crate) ranks: u64,
     pub(crate) files: u64,
     pub(crate) bytes: u64,
     pub(crate) hall: Hall<Edition<MemLeaf>>,
+}
+
+/// A step that was gathered: the number of raw volumes that gave it, one for each rank, and its blocks.
+#[derive(Drop)]
+struct Written {
+    ranks: u64,
+    edition: Edition<MemLeaf>,
 }
 
 /// Writes the step of a drill out of its volume, by four ranks, and publishes it in a new hall. A store in memory that finds
@@ -46,16 +54,18 @@ pub(crate) fn write_step<T: Threads + Sync>(
     requires few { number ≤ 8 }
     requires header { header.now ≡ drill_header number }
     requires volume { volume.now ≡ drill_volume number }
+    ensures ranks { IfOk result (λ step. step.ranks ≡ drill_ranks) }
     ensures files { IfOk result (λ step. step.files ≡ length (drill_files number)) }
     ensures bytes { IfOk result (λ step. step.bytes ≡ sum (map (λ file. length file.1) (drill_files number))) }
     ensures hall { IfOk result (λ step. IsAskedBelow number 0 step.hall) }
 {
     let mut bay = begun_bay(alloc, number, header)?;
-    let edition = gathered(rt, alloc, number, header, volume, &mut bay)?;
+    let written = gathered(rt, alloc, number, header, volume, &mut bay)?;
     Ok(Published {
+        ranks: written.ranks,
         files: bay.committed().len() as u64,
         bytes: bytes_of(bay.committed()),
-        hall: publish(alloc, number, header, edition)?,
+        hall: publish(alloc, number, header, written.edition)?,
     })
 }
 
@@ -80,7 +90,7 @@ fn begun_bay(alloc: Global, number: u32, header: &Header) -> Result<MemBay, NoMe
     }
 }
 
-/// Writes the step into an empty store in which it is begun, and answers it as blocks.
+/// Writes the step into an empty store in which it is begun, and answers it as blocks, with the number of its ranks.
 fn gathered<T: Threads + Sync>(
     rt: &T,
     alloc: Global,
@@ -88,22 +98,26 @@ fn gathered<T: Threads + Sync>(
     header: &Header,
     volume: &Bytes,
     bay: &mut MemBay,
-) -> Result<Edition<MemLeaf>, NoMemory>
+) -> Result<Written, NoMemory>
     requires some { 1 ≤ number }
     requires few { number ≤ 8 }
     requires header { header.now ≡ drill_header number }
     requires volume { volume.now ≡ drill_volume number }
     requires begun { bay.old.begun ≡ step_folder header.now 0 }
     requires files { bay.old.files ≡ [] }
+    ensures ranks { IfOk result (λ step. step.ranks ≡ drill_ranks) }
     ensures files { OnOk result ((folder : List ℕ) × (bay.new.files ≡ files_of folder (drill_files number))) }
-    ensures time { IfOk result (λ edition. ⟦<Edition<MemLeaf> as Blocks>⟧.time edition ≡ 0) }
-    ensures shape { IfOk result (λ edition. ⟦<Edition<MemLeaf> as Blocks>⟧.shape edition ≡ shape_of header.now) }
-    ensures post { IfOk result (λ edition. IsDrillPost number (post_of (shape_of header.now) 0
-        (⟦<Edition<MemLeaf> as Blocks>⟧.has edition) (⟦<Edition<MemLeaf> as Blocks>⟧.stored edition))) }
+    ensures time { IfOk result (λ step. ⟦<Edition<MemLeaf> as Blocks>⟧.time step.edition ≡ 0) }
+    ensures shape { IfOk result (λ step. ⟦<Edition<MemLeaf> as Blocks>⟧.shape step.edition ≡ shape_of header.now) }
+    ensures post { IfOk result (λ step. IsDrillPost number (post_of (shape_of header.now) 0
+        (⟦<Edition<MemLeaf> as Blocks>⟧.has step.edition) (⟦<Edition<MemLeaf> as Blocks>⟧.stored step.edition))) }
 {
     let mut raws = copies(alloc, volume)?;
     match gather(rt, alloc, header, 0, &mut raws, bay, &FreeGate) {
-        Ok(edition) => Ok(edition),
+        Ok(edition) => Ok(Written {
+            ranks: raws.len() as u64,
+            edition,
+        }),
         Err(GatherFault::RawWrongSize { .. }) => unreachable!(),
         Err(GatherFault::RawFault { .. }) => unreachable!(),
         Err(GatherFault::NoMemory | GatherFault::StoreFault { .. }) => Err(NoMemory),

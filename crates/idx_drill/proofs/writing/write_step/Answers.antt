@@ -7,7 +7,7 @@ use Rattle.idx_drill.proofs.writing.write_step.Goals as goal
 
 pub bytes_of-requires : goal.bytes_of-requires
 bytes_of-requires g c =
-    let written = c.in_ok-edition.ensures.files in
+    let written = c.in_ok-written.ensures.files in
     omega (
       arith,
       ap (λ (files : List MemFile). sum_by (λ (file : MemFile). length file.bytes) files) (c.committed-2.ensures ∙ written.1)
