@@ -49,13 +49,14 @@ def is_small(header: Header) -> bool:
 def draw_setting(random: Random, is_wide: bool) -> Setting:
     """What a world is made of; seldom it has a wrong volume or question."""
     text = reference.header_words(WIDE if is_wide else draw_texts(random)).decode().replace("\n", "|")
-    setting = Setting(text, random.choice([1, 2, 3, 4, 9]), random.choice([1, 2, 3, 4, 5, 64]))
+    setting = Setting(text, random.choice([1, 2, 3, 4, 9, 12]), random.choice([1, 2, 3, 4, 5, 64]))
     header = setting.header()
     times = [random.randint(header.time.first, header.time.last) for _ in range(2)]
     size = reference.volume_size(header)
     for _ in range(3 if is_wide else draw_count(random, header, setting.ranks)):
         setting.volumes.append((random.choice(times), random.randbytes(size)))
     setting.asks = [draw_ask(random, header, times) for _ in range(random.randint(10, 25))]
+    setting.files = not is_wide
     if chance(random, 5):
         spoil_volumes(random, setting, header)
     if chance(random, 5):

@@ -21,6 +21,8 @@ class Setting:
     volumes: list[tuple[int, bytes]] = field(default_factory=list)
     asks: list[Ask] = field(default_factory=list)
     events: list[Event] = field(default_factory=list)
+    files: bool = False
+    """Whether the written files are printed too."""
 
     def header(self) -> Header:
         """The dataset's header."""
@@ -49,7 +51,7 @@ def rows(name: str, setting: Setting, runs: Sequence[str]) -> list[str]:
     """The rows of a world, and how its events are done."""
     return [f"world {name}", f"header {setting.text}", f"ranks {setting.ranks}", f"cache {setting.cache}",
             *(f"bytes {time} {raw.hex()}" for time, raw in setting.volumes), *map(ask_row, setting.asks),
-            *map(event_row, setting.events), *runs]
+            *map(event_row, setting.events), *(["files"] if setting.files else []), *runs]
 
 
 # What a table says
@@ -85,6 +87,8 @@ def change(setting: Setting, word: str, rest: str) -> None:
         setting.volumes.append((int(time), bytes.fromhex(digits)))
     elif word == "again":
         setting.volumes += setting.volumes[-1:] * int(rest)
+    elif word == "files":
+        setting.files = True
     elif word == "ask":
         setting.asks.append(read_ask(rest))
     else:
@@ -98,6 +102,13 @@ def answers(world: World) -> list[str]:
     """How each question is answered."""
     said = ["none" if each.answer is None else each.answer.hex() or "empty" for each in world.queries]
     return [f"query {number} {answer}" for number, answer in enumerate(said)]
+
+
+def files(world: World) -> list[str]:
+    """The written files of each volume, rising."""
+    layers = world.layers
+    return [f"file {place} {reference.file_path(layers.header, each.time, file, each.revision).decode()} {each.sealed[file].hex()}"
+            for place, each in enumerate(world.volumes.values()) for file in layers.files if file in each.sealed]
 
 
 def replayed(world: World, events: Sequence[Event]) -> list[str]:
@@ -129,7 +140,8 @@ def run(setting: Setting, word: str) -> list[str]:
         world = setting.world()
     except NoWorld as refusal:
         return [f"no world {refusal.kind} {{ at: {refusal.place} }}"]
-    return RUNS[word](world, setting.events) + answers(world)
+    said = RUNS[word](world, setting.events) + answers(world)
+    return said + (files(world) if setting.files else [])
 
 
 def printed(table: str) -> str:

@@ -11,7 +11,7 @@ pub fn replayed(alloc: Global, setting: &Setting) -> Result<String> {
     match new_world(alloc, setting)? {
         Ok(world) => {
             let world = replay_all(alloc, world, &setting.events, &mut report)?;
-            push_answers(&mut report, &world, setting.asks.len())?;
+            push_world(alloc, &mut report, &world, setting)?;
         }
         Err(refusal) => writeln!(report, "no world {refusal:?}")?,
     }
@@ -24,7 +24,7 @@ pub fn stepped(alloc: Global, setting: &Setting) -> Result<String> {
     match new_world(alloc, setting)? {
         Ok(mut world) => {
             step_all(alloc, &mut world, &setting.events, &mut report)?;
-            push_answers(&mut report, &world, setting.asks.len())?;
+            push_world(alloc, &mut report, &world, setting)?;
         }
         Err(refusal) => writeln!(report, "no world {refusal:?}")?,
     }
@@ -80,6 +80,32 @@ fn step_all(
         }
     }
     writeln!(report, "stepped {}", events.len())
+}
+
+/// Appends how the questions of a world are answered, and, where they are wanted, the files of its volumes.
+fn push_world(alloc: Global, report: &mut String, world: &World, setting: &Setting) -> Result<()> {
+    push_answers(report, world, setting.asks.len())?;
+    if setting.files {
+        for volume in 0..setting.volumes.len() {
+            push_files(alloc, report, world, volume as u64)?;
+        }
+    }
+    Ok(())
+}
+
+/// Appends a line for each written file of the volume of a place.
+fn push_files(alloc: Global, report: &mut String, world: &World, volume: u64) -> Result<()> {
+    let files = world.files_of(alloc, volume)?;
+    for file in &files {
+        write!(report, "file {volume} ")?;
+        for letter in file.0.as_slice() {
+            report.push(char::from(*letter))?;
+        }
+        report.push(' ')?;
+        push_bytes(report, file.1.bytes().as_slice())?;
+        report.push('\n')?;
+    }
+    Ok(())
 }
 
 /// Appends a line for each of so many questions.

@@ -39,6 +39,10 @@ fn change(alloc: Global, setting: &mut Setting, word: &str, rest: &str) -> Resul
             setting.cache = number_of(rest)?;
             Ok(())
         }
+        "files" => {
+            setting.files = true;
+            Ok(())
+        }
         "volume" => add_volume(alloc, setting, rest),
         "bytes" => add_bytes(alloc, setting, rest),
         "again" => add_again(alloc, setting, rest),

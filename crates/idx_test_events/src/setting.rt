@@ -5,7 +5,8 @@ use idx_outside::Bytes;
 use idx_plan::Ask;
 use std::alloc::Global;
 
-/// A dataset, how it is divided, its volumes with their timesteps, the questions and the events.
+/// A dataset, how it is divided, its volumes with their timesteps, the questions and the events, and whether the written files
+/// are printed too.
 #[derive(Drop)]
 pub struct Setting {
     pub header: Option<Header>,
@@ -14,6 +15,7 @@ pub struct Setting {
     pub volumes: Vec<(u64, Bytes)>,
     pub asks: Vec<Ask>,
     pub events: Vec<Event>,
+    pub files: bool,
 }
 
 impl Setting {
@@ -26,6 +28,7 @@ impl Setting {
             volumes: Vec::new(alloc),
             asks: Vec::new(alloc),
             events: Vec::new(alloc),
+            files: false,
         }
     }
 }
