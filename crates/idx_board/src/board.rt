@@ -1,5 +1,5 @@
 ghost use Rattle.std.specs.Prelude.{◌≡◌, ◌≤◌, [], IfErr, IfOk, IfSome, None, OnOk};
-ghost use Rattle.idx_outside.specs.Cause.{MadeReads, NeverFalls};
+ghost use Rattle.idx_outside.specs.Cause.{MadeReads, MeetsOnce, NeverFalls};
 ghost use Rattle.idx_outside.specs.Files.{StillAdmits};
 ghost use Rattle.idx_layout.specs.Shape.{shape_of};
 ghost use Rattle.idx_cache.specs.Cached.{cached};
@@ -29,6 +29,7 @@ pub fn hall_of<B: Bay, R: Reader<B::Leaf>>(
         (λ files. hall.board ≡ standing_posts header.now files)) }
     ensures hall_shape { IfOk result (λ hall. hall.shape ≡ shape_of header.now) }
     ensures cache { IfOk result (λ hall. hall.cache ≡ cached [] capacity) }
+    ensures capacity { IfOk result (λ hall. hall.cache.cap ≡ capacity) }
     ensures sound { OnOk result (IfSome (B.files bay.old) (λ files. first_bad_row header.now files ≡ None)) }
     ensures reads { OnOk result (IfSome (B.files bay.old) (λ files.
         MadeReads (R.reads reader.old) (R.reads reader.new) (reads_of header.now files (step_numbers header.now)))) }
@@ -38,7 +39,9 @@ pub fn hall_of<B: Bay, R: Reader<B::Leaf>>(
     ensures failed { OnOk result (B.failed bay.new ≡ B.failed bay.old) }
     ensures reader_quiet { OnOk result (R.faults reader.new ≡ R.faults reader.old) }
     ensures count { NeverFalls (B.faults bay.old) (B.faults bay.new) }
+    ensures once { MeetsOnce (B.faults bay.old) (B.faults bay.new) }
     ensures reader_count { NeverFalls (R.faults reader.old) (R.faults reader.new) }
+    ensures reader_once { MeetsOnce (R.faults reader.old) (R.faults reader.new) }
     ensures header { B.header bay.new ≡ B.header bay.old }
     ensures files { B.files bay.new ≡ B.files bay.old }
     ensures admits { StillAdmits B.admits bay.old bay.new }

@@ -1,7 +1,7 @@
 -- What a run of `check` comes to where what it meets is known.
 use Rattle.std.proofs.Common.{◌≡◌, ◌≢◌, ◌⊎◌, ℕ, ◌<◌, List, length, Option, Some, None, IsSome, IsSomeAnd, IfSome, inl, inr, refl, sym, ◌∙◌, ap, subst}
 use Rattle.std.proofs.lemmas.Bool.{false≢true}
-use Rattle.idx_outside.specs.Cause.{NeverFalls, Rose}
+use Rattle.idx_outside.specs.Cause.{MeetsOnce, NeverFalls, Rose}
 use Rattle.idx_outside.specs.Contents.{appended, AppendsPrefix}
 use Rattle.idx_outside.specs.Objects.{OthersUntouched}
 use Rattle.idx_outside.specs.declared.bay_call.BayCall.TheVariants as calls
@@ -20,11 +20,11 @@ use Rattle.idx_check.specs.declared.verdict.WrongKind.{WrongKind}
 use Rattle.idx_commands.specs.declared.causes.Cause.{Cause}
 use Rattle.idx_commands.specs.declared.causes.Cause.TheVariants as causes
 use Rattle.idx_commands.specs.Cause.{status_of}
-use Rattle.idx_commands.specs.CheckRun.{AreSame, CheckEnds, CheckMeans, HasCause, HasVerdict, IsSaid, LacksStanding, LacksTime, cause_of_refused, known_of}
+use Rattle.idx_commands.specs.CheckRun.{AreSame, CheckEnds, CheckMeans, HasCause, HasVerdict, IsSaid, LacksStanding, LacksTime, LooksOnce, LooksOnceAtSame, cause_of_refused, known_of}
 use Rattle.idx_commands.specs.InfoRun.{HasBadHeader}
 use Rattle.idx_commands.specs.QueryRun.{IsBayOutage, IsReaderOutage, IsUnreadCause}
 use Rattle.idx_commands.specs.SameLine.{same_line}
-use Rattle.idx_commands.specs.Seen.{BaySeen, ReaderCounts, ReadersSeen, SinkSeen, bay_after, bay_before, reader_after, reader_before, reader_counts, sink_after, sink_before}
+use Rattle.idx_commands.specs.Seen.{BaySeen, FirstReads, ReaderCounts, ReadersSeen, SinkSeen, bay_after, bay_before, first_reads, reader_after, reader_before, reader_counts, sink_after, sink_before}
 use Rattle.idx_commands.proofs.CauseLemmas.{store_fault_is}
 use Rattle.idx_commands.proofs.KnownLemmas.{both_hold}
 use Rattle.idx_commands.proofs.QueryLemmas.{both_of, not_bad, not_read, some_not_none}
@@ -245,17 +245,26 @@ module _ {B R K : Type 0} (step : ℕ) (bay : BaySeen B) (readers : ReadersSeen 
   pub check_means_first : (counts : ReaderCounts) (cause : Cause) → counts ≡ reader_counts readers → CheckMeans step bay counts sink cause → Ends cause
   check_means_first counts cause same = subst (λ k. CheckMeans step bay k sink cause) same
 
+  -- what was read by the counts of the one reader that is used
+  pub same_first : (r : FirstReads) → r ≡ first_reads readers → LooksOnceAtSame step bay r → LooksOnceAtSame step bay (first_reads readers)
+  same_first r same = subst (LooksOnceAtSame step bay) same
+
+  pub wrong_first : (r : FirstReads) (verdict : Verdict) → r ≡ first_reads readers → LooksOnce bay r verdict → LooksOnce bay (first_reads readers) verdict
+  wrong_first r verdict same = subst (λ x. LooksOnce bay x verdict) same
+
   pub check_ends : (cause : Cause) → Ends cause →
+      ((status_of cause ≡ 0) ⊎ (status_of cause ≡ 9) → LooksOnceAtSame step bay (first_reads readers)) →
+      ((file at : ℕ) (why : WrongKind) → cause ≡ causes.NotSame file at why → LooksOnce bay (first_reads readers) (Wrong file at why)) →
       (bay_before bay < bay_after bay → cause ≡ causes.StoreFault) →
       (reader_before readers < reader_after readers → cause ≡ causes.StoreFault) →
       (sink_before sink < sink_after sink → cause ≡ causes.SinkFault) → (IsUnreadCause cause → readers.new ≡ readers.old) →
       (status_of cause ≢ 5 → bay.failed bay.new ≡ bay.failed bay.old) →
       bay.header bay.new ≡ bay.header bay.old → bay.files bay.new ≡ bay.files bay.old →
       bay.begun bay.new ≡ bay.begun bay.old → bay.changes bay.new ≡ bay.changes bay.old →
-      NeverFalls (bay_before bay) (bay_after bay) → OthersUntouched readers.old readers.new 0 →
-      length readers.new ≡ length readers.old → NeverFalls (reader_before readers) (reader_after readers) →
-      NeverFalls (sink_before sink) (sink_after sink) → CheckEnds step bay readers sink cause
-  check_ends cause m store_answered reader_answered sink_answered unread unfailed header_same files_same begun changes bay_count others list reader_count sink_count =
+      NeverFalls (bay_before bay) (bay_after bay) → MeetsOnce (bay_before bay) (bay_after bay) → OthersUntouched readers.old readers.new 0 →
+      length readers.new ≡ length readers.old → NeverFalls (reader_before readers) (reader_after readers) → MeetsOnce (reader_before readers) (reader_after readers) →
+      NeverFalls (sink_before sink) (sink_after sink) → MeetsOnce (sink_before sink) (sink_after sink) → CheckEnds step bay readers sink cause
+  check_ends cause m pieces_same pieces_wrong store_answered reader_answered sink_answered unread unfailed header_same files_same begun changes bay_count bay_once others list reader_count reader_once sink_count sink_once =
       record {
         means = m;
         bad_header = λ bad. bad_ends bad cause m;
@@ -264,6 +273,8 @@ module _ {B R K : Type 0} (step : ℕ) (bay : BaySeen B) (readers : ReadersSeen 
         bad_header_store = λ bad five. bad_store bad (store_cause cause m five);
         lacks_store = λ lacks five. lacks_first lacks (store_cause cause m five);
         complete = λ count bytes due bay_quiet quiet taken. same_ends count bytes due bay_quiet quiet taken cause m;
+        pieces_same = pieces_same;
+        pieces_wrong = pieces_wrong;
         store_answered = store_answered;
         reader_answered = reader_answered;
         sink_answered = sink_answered;
@@ -272,8 +283,11 @@ module _ {B R K : Type 0} (step : ℕ) (bay : BaySeen B) (readers : ReadersSeen 
         unread = unread;
         unchanged = record { header = header_same; files = files_same; begun = begun; changes = changes };
         bay_count = bay_count;
+        bay_once = bay_once;
         others = others;
         reader_list = list;
         reader_count = reader_count;
+        reader_once = reader_once;
         sink_count = sink_count;
+        sink_once = sink_once;
       }

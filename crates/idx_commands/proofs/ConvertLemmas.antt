@@ -7,6 +7,8 @@ use Rattle.idx_outside.specs.Objects.{SameContents}
 use Rattle.idx_outside.specs.declared.bay_call.BayCall.{BayCall}
 use Rattle.idx_outside.specs.declared.bay_call.BayCall.TheVariants as calls
 use Rattle.idx_outside.specs.declared.mem_file.MemFile.{MemFile}
+use Rattle.idx_outside.specs.Counts.{EachMeetsOnce}
+use Rattle.idx_seal.specs.Rows.{MeetsOnceOrRow}
 use Rattle.idx_header.specs.declared.header_kind.HeaderKind.{HeaderKind}
 use Rattle.idx_header.specs.Header.{HeaderValue, Agree, volume_bytes}
 use Rattle.idx_header.specs.HeaderOf.{header_of}
@@ -467,11 +469,13 @@ module _ {V B : Type 0} (c : ConvertValue) (raws : RawsSeen V) (bay : BaySeen B)
   abbrev k : Known
   k = known raws bay
 
-  -- what stays of the raw volumes
+  -- what stays of the raw volumes, and how often they and the bay met a fault
   pub record RawsKept : Type 0 where
     pub same : SameContents raws.contents raws.old raws.new
     pub idle : drop (min c.ranks (length raws.old)) raws.new ≡ drop (min c.ranks (length raws.old)) raws.old
     pub counts : NoneFalls (raws_before raws) (raws_after raws)
+    pub once : EachMeetsOnce (raws_before raws) (raws_after raws)
+    pub bay_once : MeetsOnceOrRow (bay.failed bay.new) c.ranks (bay_before bay) (bay_after bay)
 
   ends_by : (cause : Cause) → ConvertMeans c k cause →
       (SomeHigher (raws_before raws) (raws_after raws) → cause ≡ causes.RawFault) → (bay_before bay < bay_after bay → cause ≡ causes.StoreFault) →
@@ -503,6 +507,8 @@ module _ {V B : Type 0} (c : ConvertValue) (raws : RawsSeen V) (bay : BaySeen B)
         raws_idle = kept.idle;
         raw_counts = kept.counts;
         bay_count = count;
+        raws_once = kept.once;
+        bay_once = kept.bay_once;
       }
 
   ended : (text : List ℕ) (result : Result (Unit {0}) ConvertFault) → IsBuilt c text → Ends {T = Unit {0}} c.layout text c.step k result →

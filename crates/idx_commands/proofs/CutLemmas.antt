@@ -1,6 +1,6 @@
 -- What a run of `cut` comes to, by what its cause says.
 use Rattle.std.proofs.Common.{◌≡◌, ◌≢◌, ◌⊎◌, ℕ, ◌<◌, List, length, inl, inr, refl, sym, ◌∙◌}
-use Rattle.idx_outside.specs.Cause.{NeverFalls, Rose}
+use Rattle.idx_outside.specs.Cause.{MeetsOnce, NeverFalls, Rose}
 use Rattle.idx_outside.specs.Objects.{UsesOnly}
 use Rattle.idx_words.specs.declared.cut_words.CutWords.{CutWords}
 use Rattle.idx_words.specs.CutGrammar.{IsSound}
@@ -74,8 +74,8 @@ module _ {V K : Type 0} (c : CutWords) (raws : RawsSeen V) (sink : SinkSeen K) w
       ((status_of cause ≡ 3) ⊎ HasOtherSize c (raw_bytes raws) → raw_asked_after raws ≡ raw_asked_before raws) →
       (raw_before raws < raw_after raws → cause ≡ causes.RawFault) →
       (sink_before sink < sink_after sink → cause ≡ causes.SinkFault) → UsesOnly raws.contents raws.faults 0 raws.old raws.new →
-      NeverFalls (sink_before sink) (sink_after sink) → CutEnds c raws sink cause
-  cut_ends cause m unread raw_answered sink_answered kept count =
+      MeetsOnce (raw_before raws) (raw_after raws) → NeverFalls (sink_before sink) (sink_after sink) → MeetsOnce (sink_before sink) (sink_after sink) → CutEnds c raws sink cause
+  cut_ends cause m unread raw_answered sink_answered kept raw_once count sink_once =
       record {
         means = m;
         other_size = other_size cause m;
@@ -84,5 +84,7 @@ module _ {V K : Type 0} (c : CutWords) (raws : RawsSeen V) (sink : SinkSeen K) w
         raw_answered = raw_answered;
         sink_answered = sink_answered;
         raws_kept = kept;
+        raw_once = raw_once;
         sink_count = count;
+        sink_once = sink_once;
       }

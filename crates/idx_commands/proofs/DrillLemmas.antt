@@ -1,6 +1,6 @@
 -- What a run of `drill` comes to, by what its cause says.
 use Rattle.std.proofs.Common.{◌≡◌, ◌≢◌, ◌⊎◌, ℕ, ◌<◌, inl, inr, refl}
-use Rattle.idx_outside.specs.Cause.{NeverFalls, Rose}
+use Rattle.idx_outside.specs.Cause.{MeetsOnce, NeverFalls, Rose}
 use Rattle.idx_drill.specs.Drilled.{IsReplayed}
 use Rattle.idx_commands.specs.declared.causes.Cause.{Cause}
 use Rattle.idx_commands.specs.declared.causes.Cause.TheVariants as causes
@@ -23,12 +23,13 @@ module _ {K : Type 0} (n : ℕ) (sink : SinkSeen K) where
   drill_silent _ m zero nine = absurd m
 
   pub drill_ends : (cause : Cause) → DrillMeans n sink cause → ((status_of cause ≡ 0) ⊎ (status_of cause ≡ 9) → IsReplayed n) →
-      (sink_before sink < sink_after sink → cause ≡ causes.SinkFault) → NeverFalls (sink_before sink) (sink_after sink) → DrillEnds n sink cause
-  drill_ends cause m replayed sink_answered sink_count =
+      (sink_before sink < sink_after sink → cause ≡ causes.SinkFault) → NeverFalls (sink_before sink) (sink_after sink) → MeetsOnce (sink_before sink) (sink_after sink) → DrillEnds n sink cause
+  drill_ends cause m replayed sink_answered sink_count sink_once =
       record {
         means = m;
         replayed = replayed;
         complete = complete cause m;
         sink_answered = sink_answered;
         sink_count = sink_count;
+        sink_once = sink_once;
       }

@@ -2,6 +2,7 @@
 use Rattle.std.proofs.Common.{◌≡◌, ◌≢◌, ◌⊎◌, ℕ, zero, suc, ◌+◌, ◌<◌, ◌≤◌, List, [], ◌∷◌, length, map, take, drop, slice_index, Option, inl, inr, refl, sym, ◌∙◌, ap, subst, arith}
 use Rattle.std.proofs.lemmas.List.{drop-drop, length-map}
 use Rattle.idx_outside.specs.Cause.{NeverFalls}
+use Rattle.idx_outside.specs.Counts.{EachMeetsOnce}
 use Rattle.idx_outside.specs.Objects.{OthersUntouched, faults_at}
 use Rattle.idx_outside.specs.declared.mem_file.MemFile.{MemFile}
 use Rattle.idx_header.specs.Header.{HeaderValue}
@@ -13,11 +14,13 @@ use Rattle.idx_serve.specs.declared.door.ServeEnd.{ServeEnd}
 use Rattle.idx_serve.specs.declared.door.ServeEnd.TheVariants as ends
 use Rattle.idx_serve.specs.declared.door.Summary.{Summary}
 use Rattle.idx_workers.specs.Workers.{AreServed, AreWorks, KeepsBehind, NoneBegan, Work, end_of, ends_of}
-use Rattle.idx_workers.proofs.CountLemmas.{door_rose, doors_fall, doors_quiet, readers_fall}
+use Rattle.idx_workers.proofs.CountLemmas.{door_rose, doors_fall, doors_once, doors_quiet, readers_fall}
+use Rattle.idx_query.specs.Capacity.{capacity_for}
 use Rattle.idx_host.specs.Host.{IsHosted, serving_seat, site_of}
 use Rattle.idx_words.specs.ServeValue.{ServeValue}
 use Rattle.idx_commands.specs.Seen.{DoorsSeen, ReadersSeen, SinkSeen, doors_after, doors_before, reader_after, reader_before, readers_after, readers_before}
 use Rattle.idx_commands.specs.ServeRun.{IsBefore, tells_of, workers_in}
+use Rattle.idx_commands.proofs.OnceLemmas.{none_met}
 
 -- ---- the counts of some objects
 
@@ -88,6 +91,7 @@ module _ {R D L : Type 0} (v : ServeValue) (readers : ReadersSeen R) (doors : Do
     pub reader_counts : NoneFalls (readers_before readers) (readers_after readers)
     pub idle_doors : KeepsBehind (workers_in v readers doors) doors.old doors.new
     pub door_counts : NoneFalls (doors_before doors) (doors_after doors)
+    pub doors_once : EachMeetsOnce (doors_before doors) (doors_after doors)
 
   -- where the doors are as they were, none is higher
   pub not_opened : doors.new ≡ doors.old → SomeHigher (doors_before doors) (doors_after doors) → ⊥
@@ -118,15 +122,16 @@ module _ {R D L : Type 0} (v : ServeValue) (readers : ReadersSeen R) (doors : Do
       reader_counts = first_counts_fall readers.faults readers.old readers.new m.reader_list m.others m.reader_count;
       idle_doors = keeps_all workers doors.old doors.new m.unopened;
       door_counts = same_falls doors.faults doors.old doors.new m.unopened;
+      doors_once = none_met doors.faults doors.old doors.new m.unopened;
     }
 
     module _ (h : HeaderValue) (name : List ℕ) (files : Option (List MemFile)) (posts last : List Post) (s : Summary)
-        (hosted : IsHosted (tells_of readers doors) h name files workers doors.old doors.new readers.old readers.new posts last s) where
+        (hosted : IsHosted (tells_of readers doors) h name files v.cache workers doors.old doors.new readers.old readers.new posts last s) where
       abbrev Loaded : List R
       Loaded = hosted.loaded
 
       abbrev Seat : SeatValue
-      Seat = serving_seat hosted.served.lock h posts
+      Seat = serving_seat hosted.served.lock h (capacity_for h v.cache) posts
 
       abbrev Served : Type 0
       Served = AreServed (tells_of readers doors) (site_of h name) workers Seat hosted.served.back doors.old doors.new Loaded readers.new s
@@ -154,6 +159,12 @@ module _ {R D L : Type 0} (v : ServeValue) (readers : ReadersSeen R) (doors : Do
         keeps_all workers Loaded readers.new none.same_readers,
       )
 
+      -- each door met one fault at most
+      met : Served ⊎ Unbegun → EachMeetsOnce (doors_before doors) (doors_after doors)
+      met (inl served) =
+          doors_once (tells_of readers doors) (site_of h name) workers Seat doors.old doors.new Loaded readers.new door_each (reader_each Loaded hosted.load.number) served.works served.made
+      met (inr none) = none_met doors.faults doors.old doors.new none.same_doors
+
       pub left_hosted : Left
       left_hosted =
           let load = hosted.load in
@@ -165,6 +176,7 @@ module _ {R D L : Type 0} (v : ServeValue) (readers : ReadersSeen R) (doors : Do
                 (first_counts_fall readers.faults readers.old Loaded load.number load.others (omega (arith, load.quiet))) end.1;
             idle_doors = end.2;
             door_counts = end.0;
+            doors_once = met hosted.served.served;
           }
 
       -- how the workers ended, where that was not for want of memory

@@ -1,7 +1,7 @@
 -- What a run of `info` comes to, by what its cause says.
 use Rattle.std.proofs.Common.{◌≡◌, ◌≢◌, ◌⊎◌, ℕ, ◌<◌, List, Option, Some, None, Err, IsErr, IsOk, IfSome, inl, inr, refl, subst}
 use Rattle.std.proofs.lemmas.Bool.{false≢true}
-use Rattle.idx_outside.specs.Cause.{NeverFalls, Rose}
+use Rattle.idx_outside.specs.Cause.{MeetsOnce, NeverFalls, Rose}
 use Rattle.idx_outside.specs.declared.bay_call.BayCall.TheVariants as calls
 use Rattle.idx_header.specs.declared.header_fault.HeaderFault.{HeaderFault}
 use Rattle.idx_header.specs.Header.{HeaderValue}
@@ -54,8 +54,9 @@ module _ {B K : Type 0} (bay : BaySeen B) (sink : SinkSeen K) where
       (status_of cause ≡ 5 → bay.failed bay.new ≡ Some calls.Header) → (status_of cause ≢ 5 → bay.failed bay.new ≡ bay.failed bay.old) →
       bay.header bay.new ≡ bay.header bay.old → bay.files bay.new ≡ bay.files bay.old →
       bay.begun bay.new ≡ bay.begun bay.old → bay.changes bay.new ≡ bay.changes bay.old →
-      NeverFalls (bay_before bay) (bay_after bay) → NeverFalls (sink_before sink) (sink_after sink) → InfoEnds bay sink cause
-  info_ends cause m store_answered sink_answered failed none_failed header files begun changes bay_count sink_count =
+      NeverFalls (bay_before bay) (bay_after bay) → MeetsOnce (bay_before bay) (bay_after bay) →
+      NeverFalls (sink_before sink) (sink_after sink) → MeetsOnce (sink_before sink) (sink_after sink) → InfoEnds bay sink cause
+  info_ends cause m store_answered sink_answered failed none_failed header files begun changes bay_count bay_once sink_count sink_once =
       record {
         means = m;
         bad_header = bad_header cause m;
@@ -66,5 +67,7 @@ module _ {B K : Type 0} (bay : BaySeen B) (sink : SinkSeen K) where
         none_failed = none_failed;
         unchanged = record { header = header; files = files; begun = begun; changes = changes };
         bay_count = bay_count;
+        bay_once = bay_once;
         sink_count = sink_count;
+        sink_once = sink_once;
       }

@@ -9,6 +9,7 @@ pub mod CheckLemmas
 pub mod ServeLemmas
 pub mod DrillLemmas
 pub mod SiteNameLemmas
+pub mod OnceLemmas
 pub mod RunLemmas
 pub mod AnswerLemmas
 pub mod HostedLemmas

@@ -2,10 +2,12 @@
 use Rattle.std.proofs.Common.{◌≡◌, ◌≢◌, ◌⊎◌, ℕ, ◌<◌, ◌≤◌, List, ◌++◌, length, map, min, take, drop, slice_index, Option, Result, Err, Some, None, IfSome, IsSome, IsSomeAnd, inl, inr, refl, sym, ◌∙◌, ap, subst, arith}
 use Rattle.std.proofs.lemmas.Bool.{cases_lt, false≢true}
 use Rattle.std.proofs.lemmas.List.{get_or-append_right, get_or_append_left, length-append, length-map, length-take-le, map-append, take-append-drop}
-use Rattle.idx_outside.specs.Cause.{NeverFalls, Rose}
+use Rattle.idx_outside.specs.Cause.{MeetsOnce, NeverFalls, Rose}
+use Rattle.idx_outside.specs.Counts.{EachMeetsOnce}
 use Rattle.idx_outside.specs.Contents.{appended, AppendsPrefix}
 use Rattle.idx_outside.specs.Objects.{SameContents, faults_at}
 use Rattle.idx_outside.specs.declared.mem_file.MemFile.{MemFile}
+use Rattle.idx_seal.specs.Rows.{MeetsOnceOrRow}
 use Rattle.idx_header.specs.Header.{HeaderValue, volume_bytes}
 use Rattle.idx_header.specs.Revisions.{header_to_write}
 use Rattle.idx_table.specs.declared.table_fault.TableKind.{TableKind}
@@ -41,6 +43,7 @@ use Rattle.idx_commands.specs.Totals.{totals}
 use Rattle.idx_commands.specs.LiveRun.{Concludes, HasLive, IsLeftFor, IsThisOrMet, LiveEnds, LiveMeans, MayWriteAnd, Stops, Uses, cause_of_live, seen_of}
 use Rattle.idx_commands.proofs.CauseLemmas.{door_fault_is, raw_fault_is, sink_fault_is, store_fault_is}
 use Rattle.idx_commands.proofs.HostedLemmas.{Left, door_of_fault, doors_of_done, left_before, left_hosted, not_loaded, not_opened, others_same}
+use Rattle.idx_commands.proofs.OnceLemmas.{each_once_all, once_or_row_same}
 use Rattle.idx_commands.proofs.KnownLemmas.{both_hold}
 use Rattle.idx_commands.proofs.QueryLemmas.{both_of, not_bad, not_read, some_not_none}
 
@@ -70,8 +73,8 @@ other_part None P Q both = both
 other_part (Some x) P Q both = both.1
 
 -- want of memory is not a refusal of the step
-pub no_starved_refusal : {V L D R : Type 0} {tell : Tells L D R} {h : HeaderValue} {name : List ℕ} {time : ℕ} {k : Known} {workers : ℕ} {raws_old raws_new : List V} {doors_old doors_new : List D}
-    {readers_old readers_new : List R} {live : Live} → IsLive tell h name time k workers raws_old raws_new doors_old doors_new readers_old readers_new live → live.ingested ≢ ingests.Refused gathers.NoMemory
+pub no_starved_refusal : {V L D R : Type 0} {tell : Tells L D R} {h : HeaderValue} {name : List ℕ} {time : ℕ} {k : Known} {cache workers : ℕ} {raws_old raws_new : List V} {doors_old doors_new : List D}
+    {readers_old readers_new : List R} {live : Live} → IsLive tell h name time k cache workers raws_old raws_new doors_old doors_new readers_old readers_new live → live.ingested ≢ ingests.Refused gathers.NoMemory
 no_starved_refusal {time = time} {k = k} is refused =
     (subst (λ end. IsIngested is.written time (known_of_ingest k.raw k.raw_before k.raw_after k.files k.files_after k.bay_before k.bay_after) is.posts is.last end) refused is.ingested).3 refl
 
@@ -108,7 +111,7 @@ module _ {V B R K D L : Type 0} (v : ServeValue) (i : IngestValue) (raws : RawsS
       OnlyLooks bay.header bay.files bay.begun bay.changes bay.failed admits bay.faults bay.old bay.new result → sink.new ≡ sink.old → Stop fault
   stops_of admits result fault is cause unopened reads measures looks silent = record {
     cause = cause;
-    before = record { unopened = unopened; others = reads.others; reader_list = reads.number; reader_count = reads.count; silent = silent };
+    before = record { unopened = unopened; others = reads.others; reader_list = reads.number; reader_count = reads.count; reader_once = reads.once; silent = silent };
     files = looks.files_same;
     begun = looks.begun_same;
     unasked = measures.unasked;
@@ -619,9 +622,11 @@ module _ {V B R K D L : Type 0} (v : ServeValue) (i : IngestValue) (raws : RawsS
 
   pub live_ends : (cause : Cause) → LiveMeans v i used bay readers sink doors cause →
       (sink_before sink < sink_after sink → cause ≡ causes.SinkFault) → SameContents raws.contents first after → NoneFalls (raws_before used) (raws_after used) →
-      bay.header bay.new ≡ bay.header bay.old → NeverFalls (bay_before bay) (bay_after bay) → NeverFalls (sink_before sink) (sink_after sink) →
+      EachMeetsOnce (raws_before used) (raws_after used) → bay.header bay.new ≡ bay.header bay.old → NeverFalls (bay_before bay) (bay_after bay) →
+      MeetsOnceOrRow (bay.failed bay.new) 256 (bay_before bay) (bay_after bay) → NeverFalls (sink_before sink) (sink_after sink) →
+      MeetsOnce (sink_before sink) (sink_after sink) →
       LiveEnds v i raws bay readers sink doors cause
-  live_ends cause m sink_answered same raw_count header_same bay_count sink_count =
+  live_ends cause m sink_answered same raw_count raws_once header_same bay_count bay_once sink_count sink_once =
       let leaves = left v i used bay readers sink doors a_reader a_door some cause m in
       record {
         first = first;
@@ -653,13 +658,17 @@ module _ {V B R K D L : Type 0} (v : ServeValue) (i : IngestValue) (raws : RawsS
             ∙ sym (map-append raws.contents first rest) ∙ sym (ap (map raws.contents) uses.was);
         raws_idle = idle_all raws.old raws.new first after rest parted (min 256 (length raws.old)) (sym uses.many);
         raw_counts = none_falls_all raws.old raws.new first after rest parted raws.faults raw_count;
+        raws_once = each_once_all raws.faults raws.old raws.new first after rest uses.was uses.is uses.number raws_once;
         header = header_same;
         bay_count = bay_count;
+        bay_once = bay_once;
         idle_readers = leaves.idle_readers;
         reader_counts = leaves.reader_counts;
         sink_count = sink_count;
+        sink_once = sink_once;
         idle_doors = leaves.idle_doors;
         door_counts = leaves.door_counts;
+        doors_once = leaves.doors_once;
       }
 
 -- Before anything was asked of any object there was no memory.
@@ -689,6 +698,7 @@ none_began {V} v i raws bay readers sink doors a_raw a_reader a_door some raws_s
             others = others_same readers.old readers.new readers_same;
             reader_list = ap length readers_same;
             reader_count = omega (arith, ap (λ these. faults_at readers.faults these 0) readers_same);
+            reader_once = omega (arith, ap (λ these. faults_at readers.faults these 0) readers_same);
             silent = silent;
           };
           files = ap bay.files bay_same;
@@ -702,5 +712,6 @@ none_began {V} v i raws bay readers sink doors a_raw a_reader a_door some raws_s
         },
       ),
     ))
-    (λ more. absurd (omega (arith, more, ap sink.faults silent))) refl (refl, λ index within. omega arith) (ap bay.header bay_same)
-    (omega (arith, ap bay.faults bay_same)) (omega (arith, ap sink.faults silent))
+    (λ more. absurd (omega (arith, more, ap sink.faults silent))) refl (refl, λ index within. omega arith) (λ index. omega arith) (ap bay.header bay_same)
+    (omega (arith, ap bay.faults bay_same)) (once_or_row_same (bay.failed bay.new) 256 (bay_before bay) (bay_after bay) (ap bay.faults bay_same))
+    (omega (arith, ap sink.faults silent)) (omega (arith, ap sink.faults silent))

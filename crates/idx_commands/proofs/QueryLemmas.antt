@@ -1,7 +1,7 @@
 -- What a run of `query` comes to where what it meets is known.
 use Rattle.std.proofs.Common.{◌≡◌, ◌≢◌, ◌⊎◌, ℕ, ◌<◌, List, length, Option, Some, None, Err, IsErr, IfSome, IsSomeAnd, inl, inr, refl, sym, ◌∙◌, ap, subst}
 use Rattle.std.proofs.lemmas.Bool.{false≢true}
-use Rattle.idx_outside.specs.Cause.{NeverFalls, Rose}
+use Rattle.idx_outside.specs.Cause.{MeetsOnce, NeverFalls, Rose}
 use Rattle.idx_outside.specs.declared.bay_call.BayCall.TheVariants as calls
 use Rattle.idx_outside.specs.Objects.{OthersUntouched, faults_at}
 use Rattle.idx_outside.specs.declared.mem_file.MemFile.{MemFile}
@@ -390,6 +390,11 @@ module _ {B R K : Type 0} (q : QueryValue) (bay : BaySeen B) (readers : ReadersS
   count_of_first before after a b rises =
       subst (λ n. NeverFalls (reader_before readers) n) b (subst (λ n. NeverFalls n after) a rises)
 
+  pub once_of_first : (before after : ℕ) → before ≡ reader_before readers → after ≡ reader_after readers → MeetsOnce before after →
+      MeetsOnce (reader_before readers) (reader_after readers)
+  once_of_first before after a b once =
+      subst (λ n. MeetsOnce (reader_before readers) n) b (subst (λ n. MeetsOnce n after) a once)
+
   pub few_of_first : (counts : ReaderCounts) → counts.faults_before ≡ reader_before readers →
       counts.faults_after ≡ reader_after readers → counts.reads_before ≡ reads_before → counts.reads_after ≡ reads_after →
       ReadsFew (question_of q) (known_of bay counts) → ReadsFew (question_of q) (known_of bay (reader_counts readers))
@@ -405,10 +410,10 @@ module _ {B R K : Type 0} (q : QueryValue) (bay : BaySeen B) (readers : ReadersS
       (status_of cause ≢ 0 → status_of cause ≢ 9 → ReadsFew (question_of q) (known_of bay (reader_counts readers))) →
       bay.header bay.new ≡ bay.header bay.old → bay.files bay.new ≡ bay.files bay.old →
       bay.begun bay.new ≡ bay.begun bay.old → bay.changes bay.new ≡ bay.changes bay.old →
-      NeverFalls (bay_before bay) (bay_after bay) → OthersUntouched readers.old readers.new 0 →
-      length readers.new ≡ length readers.old → NeverFalls (reader_before readers) (reader_after readers) →
-      NeverFalls (sink_before sink) (sink_after sink) → QueryEnds q bay readers sink cause
-  query_ends cause m store_answered reader_answered sink_answered unread unfailed few header_same files_same begun changes bay_count others list reader_count sink_count =
+      NeverFalls (bay_before bay) (bay_after bay) → MeetsOnce (bay_before bay) (bay_after bay) → OthersUntouched readers.old readers.new 0 →
+      length readers.new ≡ length readers.old → NeverFalls (reader_before readers) (reader_after readers) → MeetsOnce (reader_before readers) (reader_after readers) →
+      NeverFalls (sink_before sink) (sink_after sink) → MeetsOnce (sink_before sink) (sink_after sink) → QueryEnds q bay readers sink cause
+  query_ends cause m store_answered reader_answered sink_answered unread unfailed few header_same files_same begun changes bay_count bay_once others list reader_count reader_once sink_count sink_once =
       record {
         means = m;
         bad_header = λ bad. bad_question bad cause m;
@@ -425,8 +430,11 @@ module _ {B R K : Type 0} (q : QueryValue) (bay : BaySeen B) (readers : ReadersS
         few_reads = few;
         unchanged = record { header = header_same; files = files_same; begun = begun; changes = changes };
         bay_count = bay_count;
+        bay_once = bay_once;
         others = others;
         reader_list = list;
         reader_count = reader_count;
+        reader_once = reader_once;
         sink_count = sink_count;
+        sink_once = sink_once;
       }

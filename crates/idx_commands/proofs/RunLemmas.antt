@@ -2,7 +2,7 @@
 use Rattle.std.proofs.Common.{◌≡◌, ◌≢◌, ◌⊎◌, ℕ, zero, suc, ◌<◌, ◌≤◌, List, [], ◌∷◌, Option, None, Some, IsSome, Result, Ok, inl, inr, refl, sym, ◌∙◌, ap, subst, length, map, slice_index, bytes_eq, codes, arith}
 use Rattle.std.proofs.lemmas.Bool.{false≢true}
 use Rattle.std.proofs.lemmas.List.{length-map}
-use Rattle.idx_outside.specs.Cause.{Rose}
+use Rattle.idx_outside.specs.Cause.{MeetsOnce, Rose}
 use Rattle.idx_outside.specs.Contents.{appended, AppendsPrefix}
 use Rattle.idx_outside.specs.Objects.{OthersUntouched, SameContents, UsesOnly, faults_at}
 use Rattle.idx_gather.specs.Gather.{NoneFalls}
@@ -30,7 +30,7 @@ use Rattle.idx_commands.specs.DrillRun.{DrillEnds, DrillMeans}
 use Rattle.idx_commands.specs.Totals.{totals}
 use Rattle.idx_commands.specs.Known.{Known, known}
 use Rattle.idx_commands.specs.Seen.{BaySeen, IsUnchanged, raw_after, raw_before, raw_bytes, reader_counts}
-use Rattle.idx_commands.specs.Run.{AreNamed, CommandEnds, CountsFaults, GiveIngest, GiveReading, LeavesRest, RunSeen, Writes, WroteAnswer, WrotePrefix}
+use Rattle.idx_commands.specs.Run.{AreNamed, CommandEnds, CountsFaults, GiveIngest, GiveReading, LeavesRest, MeetsFaultsOnce, RunSeen, Writes, WroteAnswer, WrotePrefix}
 use Rattle.idx_commands.proofs.CauseLemmas.{done_is, door_fault_is, raw_fault_is, sink_fault_is, store_fault_is, usage_is}
 use Rattle.idx_commands.proofs.CutLemmas.{cut_silent}
 use Rattle.idx_commands.proofs.InfoLemmas.{info_silent}
@@ -41,6 +41,7 @@ use Rattle.idx_commands.proofs.CheckLemmas.{check_silent}
 use Rattle.idx_commands.proofs.ServeLemmas.{serve_silent, totals_begun, totals_written}
 use Rattle.idx_commands.proofs.LiveLemmas.{live_begun, live_not_usage, live_silent, live_written}
 use Rattle.idx_commands.proofs.HostedLemmas.{first_counts_fall, others_same}
+use Rattle.idx_commands.proofs.OnceLemmas.{first_once, none_met, not_met}
 
 -- ---- the command that words give
 
@@ -735,4 +736,96 @@ module _ {V B R K D L : Type 0} (words : List (List ℕ)) (seen : RunSeen V B R 
         drill_reads = λ given. e.1;
         reads = λ never. e.3;
         serve_opens = λ other. e.4;
+      }
+
+  -- ---- a fault is met once
+
+  serving_once : (ingest : Option IngestValue) (v : ServeValue) → v.ingest ≡ ingest → Give words (Serve v) → Only (Serve v) → (cause : Cause) → Serving ingest v cause → MeetsFaultsOnce words seen
+  serving_once None v asked gives only cause e =
+      let no_ingest : GiveIngest words → ⊥ = λ other. false≢true (subst IsSome (ap ingest_in (only (Serve other.0) other.1.0) ∙ asked) other.1.1) in
+      record {
+        raws = none_met seen.raws.faults seen.raws.old seen.raws.new e.1;
+        bay = λ never none. e.0.bay_once;
+        bay_rows = λ c given. absurd (is_convert (Serve v) only (c, given));
+        bay_beside = λ other. absurd (no_ingest other);
+        reader = λ never. absurd (never (v, gives));
+        sink = e.0.sink_once;
+        doors = e.0.doors_once;
+      }
+  serving_once (Some i) v asked gives only cause e =
+      record {
+        raws = e.raws_once;
+        bay = λ never none. absurd (none (v, (gives, subst IsSome (sym asked) refl)));
+        bay_rows = λ c given. absurd (is_convert (Serve v) only (c, given));
+        bay_beside = λ other. e.bay_once;
+        reader = λ never. absurd (never (v, gives));
+        sink = e.sink_once;
+        doors = e.doors_once;
+      }
+
+  reader_same : seen.readers.new ≡ seen.readers.old → MeetsOnce (reader_count seen.readers.old) (reader_count seen.readers.new)
+  reader_same same = not_met reader_count seen.readers.old seen.readers.new same
+
+  pub meets_once : (command : Command) → Give words command → Only command → (cause : Cause) → E command cause → MeetsFaultsOnce words seen
+  meets_once (Cut c) gives only cause e =
+      record {
+        raws = first_once seen.raws.faults seen.raws.old seen.raws.new (as_many seen.raws.contents seen.raws.old seen.raws.new e.0.raws_kept.same)
+            e.0.raws_kept.others e.0.raw_once;
+        bay = λ never none. not_met seen.bay.faults seen.bay.old seen.bay.new e.1;
+        bay_rows = λ other given. absurd (is_convert (Cut c) only (other, given));
+        bay_beside = λ ingest. absurd (is_serve (Cut c) only (ingest.0, ingest.1.0));
+        reader = λ never. reader_same e.2;
+        sink = e.0.sink_once;
+        doors = none_met seen.doors.faults seen.doors.old seen.doors.new e.3;
+      }
+  meets_once Info gives only cause e =
+      record {
+        raws = none_met seen.raws.faults seen.raws.old seen.raws.new e.1;
+        bay = λ never none. e.0.bay_once;
+        bay_rows = λ other given. absurd (is_convert Info only (other, given));
+        bay_beside = λ ingest. absurd (is_serve Info only (ingest.0, ingest.1.0));
+        reader = λ never. reader_same e.2;
+        sink = e.0.sink_once;
+        doors = none_met seen.doors.faults seen.doors.old seen.doors.new e.3;
+      }
+  meets_once (Convert c) gives only cause e =
+      record {
+        raws = e.0.raws_once;
+        bay = λ never none. absurd (never (c, gives));
+        bay_rows = λ other given. (of_convert (Convert c) only cause e other given).bay_once;
+        bay_beside = λ ingest. absurd (is_serve (Convert c) only (ingest.0, ingest.1.0));
+        reader = λ never. reader_same e.1;
+        sink = not_met seen.sink.faults seen.sink.old seen.sink.new e.2;
+        doors = none_met seen.doors.faults seen.doors.old seen.doors.new e.3;
+      }
+  meets_once (Query q) gives only cause e =
+      record {
+        raws = none_met seen.raws.faults seen.raws.old seen.raws.new e.1;
+        bay = λ never none. e.0.bay_once;
+        bay_rows = λ other given. absurd (is_convert (Query q) only (other, given));
+        bay_beside = λ ingest. absurd (is_serve (Query q) only (ingest.0, ingest.1.0));
+        reader = λ never. e.0.reader_once;
+        sink = e.0.sink_once;
+        doors = none_met seen.doors.faults seen.doors.old seen.doors.new e.2;
+      }
+  meets_once (Check step) gives only cause e =
+      record {
+        raws = none_met seen.raws.faults seen.raws.old seen.raws.new e.1;
+        bay = λ never none. e.0.bay_once;
+        bay_rows = λ other given. absurd (is_convert (Check step) only (other, given));
+        bay_beside = λ ingest. absurd (is_serve (Check step) only (ingest.0, ingest.1.0));
+        reader = λ never. e.0.reader_once;
+        sink = e.0.sink_once;
+        doors = none_met seen.doors.faults seen.doors.old seen.doors.new e.2;
+      }
+  meets_once (Serve v) gives only cause e = serving_once v.ingest v refl gives only cause e
+  meets_once (Drill n) gives only cause e =
+      record {
+        raws = none_met seen.raws.faults seen.raws.old seen.raws.new e.1;
+        bay = λ never none. not_met seen.bay.faults seen.bay.old seen.bay.new e.2;
+        bay_rows = λ other given. absurd (is_convert (Drill n) only (other, given));
+        bay_beside = λ ingest. absurd (is_serve (Drill n) only (ingest.0, ingest.1.0));
+        reader = λ never. reader_same e.3;
+        sink = e.0.sink_once;
+        doors = none_met seen.doors.faults seen.doors.old seen.doors.new e.4;
       }

@@ -1,6 +1,6 @@
 -- What a run of `serve` comes to where what it meets is known.
 use Rattle.std.proofs.Common.{◌≡◌, ◌≢◌, ◌⊎◌, ℕ, ◌<◌, ◌≤◌, List, length, Option, Some, None, IfSome, inl, inr, refl, sym, ◌∙◌, ap, subst}
-use Rattle.idx_outside.specs.Cause.{NeverFalls, Rose}
+use Rattle.idx_outside.specs.Cause.{MeetsOnce, NeverFalls, Rose}
 use Rattle.idx_outside.specs.Contents.{appended, AppendsPrefix}
 use Rattle.idx_outside.specs.declared.bay_call.BayCall.TheVariants as calls
 use Rattle.idx_outside.specs.declared.mem_file.MemFile.{MemFile}
@@ -111,7 +111,7 @@ module _ {B R K D L : Type 0} (v : ServeValue) (bay : BaySeen B) (readers : Read
   asked_first bad (inr under) = absurd (not_bad header _ under bad)
 
   -- what came of serving, by how the line was written
-  pub means_of_end : (s : Summary) → Hosted (tells_of readers doors) (site_name v.dataset) header files (workers_in v readers doors) doors.old doors.new readers.old readers.new s →
+  pub means_of_end : (s : Summary) → Hosted (tells_of readers doors) (site_name v.dataset) header files v.cache (workers_in v readers doors) doors.old doors.new readers.old readers.new s →
       (cause : Cause) → (cause ≡ causes.Done → (s.end ≡ ends.Done) × (sink.contents sink.new ≡ appended (sink.contents sink.old) (totals s.links s.replies))) →
       (cause ≡ causes.SinkFault → Rose (sink_before sink) (sink_after sink) × (s.end ≡ ends.Done)
       × AppendsPrefix (sink.contents sink.old) (sink.contents sink.new) (totals s.links s.replies)) →
@@ -229,9 +229,9 @@ module _ {B R K D L : Type 0} (v : ServeValue) (bay : BaySeen B) (readers : Read
         (status_of cause ≢ 5 → bay.failed bay.new ≡ bay.failed bay.old) →
         bay.header bay.new ≡ bay.header bay.old → bay.files bay.new ≡ bay.files bay.old →
         bay.begun bay.new ≡ bay.begun bay.old → bay.changes bay.new ≡ bay.changes bay.old →
-        NeverFalls (bay_before bay) (bay_after bay) → NeverFalls (sink_before sink) (sink_after sink) →
+        NeverFalls (bay_before bay) (bay_after bay) → MeetsOnce (bay_before bay) (bay_after bay) → NeverFalls (sink_before sink) (sink_after sink) → MeetsOnce (sink_before sink) (sink_after sink) →
         ServeEnds v bay readers sink doors cause
-    serve_ends cause m store_answered sink_answered unfailed header_same files_same begun changes bay_count sink_count =
+    serve_ends cause m store_answered sink_answered unfailed header_same files_same begun changes bay_count bay_once sink_count sink_once =
         let leaves = left cause m in
         record {
           means = m;
@@ -248,9 +248,12 @@ module _ {B R K D L : Type 0} (v : ServeValue) (bay : BaySeen B) (readers : Read
           door_rose = door_rises cause m;
           unchanged = record { header = header_same; files = files_same; begun = begun; changes = changes };
           bay_count = bay_count;
+          bay_once = bay_once;
           idle_readers = leaves.idle_readers;
           reader_counts = leaves.reader_counts;
           sink_count = sink_count;
+          sink_once = sink_once;
           idle_doors = leaves.idle_doors;
           door_counts = leaves.door_counts;
+          doors_once = leaves.doors_once;
         }

@@ -1,13 +1,15 @@
 -- How a run of `check` ends, by what is seen of the bay, of the readers and of the sink.
 use Rattle.std.specs.Prelude.{◌≡◌, ◌≢◌, ◌⊎◌, ℕ, ◌<◌, List, Option, Some, None, IsSome, IsSomeAnd, length}
-use Rattle.idx_outside.specs.Cause.{NeverFalls, Rose}
+use Rattle.idx_outside.specs.Cause.{MeetsOnce, NeverFalls, Rose}
 use Rattle.idx_outside.specs.Contents.{appended, AppendsPrefix}
 use Rattle.idx_outside.specs.Objects.{OthersUntouched}
 use Rattle.idx_outside.specs.declared.bay_call.BayCall.TheVariants as calls
 use Rattle.idx_outside.specs.declared.mem_file.MemFile.{MemFile}
 use Rattle.idx_header.specs.Header.{HasTime}
+use Rattle.idx_layout.specs.OfHeader.{placing_of}
 use Rattle.idx_edition.specs.Stored.{IsAbsent}
-use Rattle.idx_check.specs.Checked.{Checked, IsCause, IsVerdict, Known}
+use Rattle.idx_check.specs.Checked.{Checked, IsCause, IsVerdict, Known, Under}
+use Rattle.idx_check.specs.Pieces.{ReadsPieces, most_asked}
 use Rattle.idx_check.specs.declared.refused_check.RefusedCheck.{RefusedCheck}
 use Rattle.idx_check.specs.declared.refused_check.RefusedCheck.TheVariants as refusals
 use Rattle.idx_check.specs.declared.verdict.Verdict.{Verdict}
@@ -19,7 +21,7 @@ use Rattle.idx_commands.specs.Cause.{status_of}
 use Rattle.idx_commands.specs.InfoRun.{HasBadHeader}
 use Rattle.idx_commands.specs.QueryRun.{IsBayOutage, IsReaderOutage, IsUnreadCause, ReadsAs}
 use Rattle.idx_commands.specs.SameLine.{same_line}
-use Rattle.idx_commands.specs.Seen.{BaySeen, IsUnchanged, ReaderCounts, ReadersSeen, SinkSeen, bay_after, bay_before, reader_after, reader_before, reader_counts, sink_after, sink_before}
+use Rattle.idx_commands.specs.Seen.{BaySeen, FirstReads, IsUnchanged, ReaderCounts, ReadersSeen, SinkSeen, bay_after, bay_before, first_reads, reader_after, reader_before, reader_counts, sink_after, sink_before}
 
 -- the cause of a run that ends with this refusal, where this step was asked for
 abbrev pub cause_of_refused : ℕ → RefusedCheck → Cause
@@ -51,6 +53,17 @@ HasCause step bay counts refusal = IsCause step (known_of bay counts) refusal
 -- this is the verdict on the files of the step's newest revision, as far as they and the header are known
 abbrev pub IsSaid : {B : Type 0} → ℕ → BaySeen B → Verdict → Type 0
 IsSaid step bay verdict = Checked step (bay.header bay.old) (bay.files bay.old) verdict
+
+-- The files of the step were read by pieces of at most 65,536 bytes, and each byte was asked for once at most: all of them together are no
+-- more than the files have up to the one that is wrong.
+abbrev pub LooksOnce : {B : Type 0} → BaySeen B → FirstReads → Verdict → Type 0
+LooksOnce bay r verdict =
+    Under (bay.header bay.old) (λ h.
+    ReadsPieces r.reads_before r.reads_after r.asked_before r.asked_after 0 (most_asked (placing_of h) verdict))
+
+-- The same, where the files are the writer's.
+abbrev pub LooksOnceAtSame : {B : Type 0} → ℕ → BaySeen B → FirstReads → Type 0
+LooksOnceAtSame step bay r = (files : ℕ) × (bytes : ℕ) × IsSaid step bay (Same files bytes) × LooksOnce bay r (Same files bytes)
 
 -- The files are the writer's, and P holds of the line that says how many they are.
 abbrev pub AreSame : {B : Type 0} → ℕ → BaySeen B → (List ℕ → Type 0) → Type 0
@@ -104,6 +117,10 @@ pub record CheckEnds {B R K : Type 0} (step : ℕ) (bay : BaySeen B) (readers : 
   pub complete : (files bytes : ℕ) → HasVerdict step (bay.header bay.old) (bay.files bay.old) (Same files bytes) →
       ¬ Rose (bay_before bay) (bay_after bay) → ¬ Rose (reader_before readers) (reader_after readers) →
       ¬ Rose (sink_before sink) (sink_after sink) → (status_of cause ≡ 0) ⊎ (status_of cause ≡ 11)
+  -- no read asks for more than 65,536 bytes, and no byte is asked for twice
+  pub pieces_same : (status_of cause ≡ 0) ⊎ (status_of cause ≡ 9) → LooksOnceAtSame step bay (first_reads readers)
+  pub pieces_wrong : (file at : ℕ) (why : WrongKind) → cause ≡ causes.NotSame file at why →
+      LooksOnce bay (first_reads readers) (Wrong file at why)
   -- a fault that was counted is answered
   pub store_answered : bay_before bay < bay_after bay → cause ≡ causes.StoreFault
   pub reader_answered : reader_before readers < reader_after readers → cause ≡ causes.StoreFault
@@ -114,10 +131,13 @@ pub record CheckEnds {B R K : Type 0} (step : ℕ) (bay : BaySeen B) (readers : 
   -- no file is read before the step is known to stand
   pub unread : IsUnreadCause cause → readers.new ≡ readers.old
   -- the bay was not changed, its header text and its committed files among it, no reader but the first was touched, and no
-  -- count fell
+  -- count fell; each fault was met once
   pub unchanged : IsUnchanged bay
   pub bay_count : NeverFalls (bay_before bay) (bay_after bay)
+  pub bay_once : MeetsOnce (bay_before bay) (bay_after bay)
   pub others : OthersUntouched readers.old readers.new 0
   pub reader_list : length readers.new ≡ length readers.old
   pub reader_count : NeverFalls (reader_before readers) (reader_after readers)
+  pub reader_once : MeetsOnce (reader_before readers) (reader_after readers)
   pub sink_count : NeverFalls (sink_before sink) (sink_after sink)
+  pub sink_once : MeetsOnce (sink_before sink) (sink_after sink)

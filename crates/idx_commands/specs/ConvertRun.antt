@@ -1,9 +1,11 @@
 -- How a run of `convert` ends, by what is seen of the raw volumes and of the bay.
 use Rattle.std.specs.Prelude.{◌≡◌, ◌⊎◌, ℕ, ◌<◌, List, Option, Some, Err, IsSome, drop, length, min}
 use Rattle.idx_outside.specs.Cause.{NeverFalls, Rose}
+use Rattle.idx_outside.specs.Counts.{EachMeetsOnce}
 use Rattle.idx_outside.specs.Objects.{SameContents}
 use Rattle.idx_outside.specs.declared.bay_call.BayCall.{BayCall}
 use Rattle.idx_outside.specs.declared.bay_call.BayCall.TheVariants as calls
+use Rattle.idx_seal.specs.Rows.{MeetsOnceOrRow}
 use Rattle.idx_rowmajor.specs.declared.layout.Layout.{Layout}
 use Rattle.idx_gather.specs.Gather.{LacksVolume, NoneFalls}
 use Rattle.idx_words.specs.ConvertValue.{ConvertValue}
@@ -126,3 +128,6 @@ pub record ConvertEnds {V B : Type 0} (c : ConvertValue) (raws : RawsSeen V) (ba
   pub raws_idle : drop (min c.ranks (length raws.old)) raws.new ≡ drop (min c.ranks (length raws.old)) raws.old
   pub raw_counts : NoneFalls (raws_before raws) (raws_after raws)
   pub bay_count : NeverFalls (bay_before bay) (bay_after bay)
+  -- each fault was met once, but for those of one row of files, which are written side by side, one for each rank
+  pub raws_once : EachMeetsOnce (raws_before raws) (raws_after raws)
+  pub bay_once : MeetsOnceOrRow (bay.failed bay.new) c.ranks (bay_before bay) (bay_after bay)

@@ -1,6 +1,6 @@
 -- How a run of `cut` ends, by what is seen of the raw volumes and of the sink.
 use Rattle.std.specs.Prelude.{◌≡◌, ◌⊎◌, ℕ, ◌<◌, List, length, Option, IfSome, IsSomeAnd}
-use Rattle.idx_outside.specs.Cause.{NeverFalls, Rose}
+use Rattle.idx_outside.specs.Cause.{MeetsOnce, NeverFalls, Rose}
 use Rattle.idx_outside.specs.Contents.{appended, AppendsPrefix}
 use Rattle.idx_outside.specs.Objects.{UsesOnly}
 use Rattle.idx_raw.specs.Cut as cuts
@@ -63,6 +63,9 @@ pub record CutEnds {V K : Type 0} (c : CutWords) (raws : RawsSeen V) (sink : Sin
   -- a fault that was counted is answered
   pub raw_answered : raw_before raws < raw_after raws → cause ≡ causes.RawFault
   pub sink_answered : sink_before sink < sink_after sink → cause ≡ causes.SinkFault
-  -- what is known of the raw volumes' bytes stays, none but the first was touched, and no count fell
+  -- what is known of the raw volumes' bytes stays, none but the first was touched, and no count fell; each fault was met
+  -- once
   pub raws_kept : UsesOnly raws.contents raws.faults 0 raws.old raws.new
+  pub raw_once : MeetsOnce (raw_before raws) (raw_after raws)
   pub sink_count : NeverFalls (sink_before sink) (sink_after sink)
+  pub sink_once : MeetsOnce (sink_before sink) (sink_after sink)

@@ -1,7 +1,7 @@
 -- How a run of `drill` ends, by what is seen of the sink.
 use Rattle.std.specs.Prelude.{◌≡◌, ◌⊎◌, ℕ, ◌<◌, List, [], ◌∷◌, ◌++◌, flat_map, codes}
 use Rattle.std.specs.Fmt.{decimal}
-use Rattle.idx_outside.specs.Cause.{NeverFalls, Rose}
+use Rattle.idx_outside.specs.Cause.{MeetsOnce, NeverFalls, Rose}
 use Rattle.idx_outside.specs.Contents.{appended, AppendsPrefix}
 use Rattle.idx_drill.specs.Drilled.{DrillValue, IsReplayed, drill_value}
 use Rattle.idx_drill.specs.declared.level.Level.{Level}
@@ -48,6 +48,7 @@ pub record DrillEnds {K : Type 0} (n : ℕ) (sink : SinkSeen K) (cause : Cause) 
   pub replayed : (status_of cause ≡ 0) ⊎ (status_of cause ≡ 9) → IsReplayed n
   -- where no fault was counted all is written, unless there is not enough memory
   pub complete : ¬ Rose (sink_before sink) (sink_after sink) → (status_of cause ≡ 0) ⊎ (status_of cause ≡ 11)
-  -- a fault that was counted is answered, and the count did not fall
+  -- a fault that was counted is answered, and the count did not fall; it was met once
   pub sink_answered : sink_before sink < sink_after sink → cause ≡ causes.SinkFault
   pub sink_count : NeverFalls (sink_before sink) (sink_after sink)
+  pub sink_once : MeetsOnce (sink_before sink) (sink_after sink)

@@ -1,6 +1,6 @@
 -- How a run of `info` ends, by what is seen of the bay and of the sink.
 use Rattle.std.specs.Prelude.{◌≡◌, ◌≢◌, ◌⊎◌, ℕ, ◌<◌, List, Option, Some, IfSome, IsErr, IsOk, IsSomeAnd, Ok}
-use Rattle.idx_outside.specs.Cause.{NeverFalls, Rose}
+use Rattle.idx_outside.specs.Cause.{MeetsOnce, NeverFalls, Rose}
 use Rattle.idx_outside.specs.Contents.{appended, AppendsPrefix}
 use Rattle.idx_outside.specs.declared.bay_call.BayCall.TheVariants as calls
 use Rattle.idx_header.specs.declared.header_refusal.HeaderRefusal.{HeaderRefusal}
@@ -65,7 +65,10 @@ pub record InfoEnds {B K : Type 0} (bay : BaySeen B) (sink : SinkSeen K) (cause 
   -- the call for the header is the only one of the bay that may have failed
   pub failed : status_of cause ≡ 5 → bay.failed bay.new ≡ Some calls.Header
   pub none_failed : status_of cause ≢ 5 → bay.failed bay.new ≡ bay.failed bay.old
-  -- the bay was not changed, its header text and its committed files among it, and no count fell
+  -- the bay was not changed, its header text and its committed files among it, and no count fell; each fault was
+  -- met once
   pub unchanged : IsUnchanged bay
   pub bay_count : NeverFalls (bay_before bay) (bay_after bay)
+  pub bay_once : MeetsOnce (bay_before bay) (bay_after bay)
   pub sink_count : NeverFalls (sink_before sink) (sink_after sink)
+  pub sink_once : MeetsOnce (sink_before sink) (sink_after sink)

@@ -1,10 +1,12 @@
 -- How a run of `serve` ends that gathers and publishes a step meanwhile, by what is seen of the raw volumes, of the bay, of the readers,
 -- of the sink and of the doors.
 use Rattle.std.specs.Prelude.{◌≡◌, ◌≢◌, ◌⊎◌, ℕ, ◌<◌, ◌≤◌, List, ◌++◌, Option, Some, None, IsSome, IsSomeAnd, drop, length, min}
-use Rattle.idx_outside.specs.Cause.{NeverFalls, Rose}
+use Rattle.idx_outside.specs.Cause.{MeetsOnce, NeverFalls, Rose}
+use Rattle.idx_outside.specs.Counts.{EachMeetsOnce}
 use Rattle.idx_outside.specs.Contents.{appended, AppendsPrefix}
 use Rattle.idx_outside.specs.Objects.{SameContents}
 use Rattle.idx_outside.specs.declared.mem_file.MemFile.{MemFile}
+use Rattle.idx_seal.specs.Rows.{MeetsOnceOrRow}
 use Rattle.idx_header.specs.Header.{HeaderValue, volume_bytes}
 use Rattle.idx_header.specs.Revisions.{header_to_write}
 use Rattle.idx_table.specs.declared.table_fault.TableKind.{TableKind}
@@ -93,7 +95,7 @@ module _ {V B R K D L : Type 0} (v : ServeValue) (i : IngestValue) (raws : RawsS
   abbrev pub HasLive : (Live → Type 0) → Type 0
   HasLive P =
       (live : Live) × Under (bay.header bay.old) (λ h. IsLive (tells_of readers doors) h (site_name v.dataset) i.step (known raws bay)
-      (workers_in v readers doors) raws.old raws.new doors.old doors.new readers.old readers.new live)
+      v.cache (workers_in v readers doors) raws.old raws.new doors.old doors.new readers.old readers.new live)
       × P live
 
   -- The run ended before a link was asked for, for this: no step was begun, no byte was asked of a raw volume, none behind the first was
@@ -172,17 +174,22 @@ pub record LiveEnds {V B R K D L : Type 0} (v : ServeValue) (i : IngestValue) (r
   pub store_rose : status_of cause ≡ 5 → Rose (bay_before bay) (bay_after bay) ⊎ Rose (reader_before readers) (reader_after readers)
   pub sink_rose : status_of cause ≡ 9 → Rose (sink_before sink) (sink_after sink)
   pub door_rose : status_of cause ≡ 12 → SomeRose (doors_before doors) (doors_after doors)
-  -- what is known of the raw volumes' bytes stays, and so does the header text; what is not used is as it was, and no count fell
+  -- what is known of the raw volumes' bytes stays, and so does the header text; what is not used is as it was, and no count fell; each
+  -- fault was met once, but for those of one row of files, and one of a reader once a reply
   pub raws_kept : SameContents raws.contents raws.old raws.new
   pub raws_idle : drop (min 256 (length raws.old)) raws.new ≡ drop (min 256 (length raws.old)) raws.old
   pub raw_counts : NoneFalls (raws_before raws) (raws_after raws)
+  pub raws_once : EachMeetsOnce (raws_before raws) (raws_after raws)
   pub header : bay.header bay.new ≡ bay.header bay.old
   pub bay_count : NeverFalls (bay_before bay) (bay_after bay)
+  pub bay_once : MeetsOnceOrRow (bay.failed bay.new) 256 (bay_before bay) (bay_after bay)
   pub idle_readers : KeepsBehind (workers_in v readers doors) readers.old readers.new
   pub reader_counts : NoneFalls (readers_before readers) (readers_after readers)
   pub sink_count : NeverFalls (sink_before sink) (sink_after sink)
+  pub sink_once : MeetsOnce (sink_before sink) (sink_after sink)
   pub idle_doors : KeepsBehind (workers_in v readers doors) doors.old doors.new
   pub door_counts : NoneFalls (doors_before doors) (doors_after doors)
+  pub doors_once : EachMeetsOnce (doors_before doors) (doors_after doors)
 
 -- How a run of `serve` ends, with a step that is published meanwhile or without: without one the raw volumes are as they were.
 abbrev pub EndsServing : {V B R K D L : Type 0} → Option IngestValue → ServeValue → RawsSeen V → BaySeen B → ReadersSeen R → SinkSeen K → DoorsSeen D L → Cause → Type 0

@@ -1,6 +1,6 @@
 -- How a run of `query` ends, by what is seen of the bay, of the readers and of the sink.
 use Rattle.std.specs.Prelude.{◌≡◌, ◌≢◌, ◌⊎◌, ℕ, ◌<◌, List, Option, Some, None, IsSomeAnd, Ok, length}
-use Rattle.idx_outside.specs.Cause.{NeverFalls, Rose}
+use Rattle.idx_outside.specs.Cause.{MeetsOnce, NeverFalls, Rose}
 use Rattle.idx_outside.specs.Contents.{appended, AppendsPrefix}
 use Rattle.idx_outside.specs.Objects.{OthersUntouched}
 use Rattle.idx_outside.specs.declared.bay_call.BayCall.TheVariants as calls
@@ -187,10 +187,13 @@ pub record QueryEnds {B R K : Type 0} (q : QueryValue) (bay : BaySeen B) (reader
   -- a refusal comes after few reads
   pub few_reads : status_of cause ≢ 0 → status_of cause ≢ 9 → ReadsFew (question_of q) (known_of bay (reader_counts readers))
   -- the bay was not changed, its header text and its committed files among it, no reader but the first was touched, and no
-  -- count fell
+  -- count fell; each fault was met once
   pub unchanged : IsUnchanged bay
   pub bay_count : NeverFalls (bay_before bay) (bay_after bay)
+  pub bay_once : MeetsOnce (bay_before bay) (bay_after bay)
   pub others : OthersUntouched readers.old readers.new 0
   pub reader_list : length readers.new ≡ length readers.old
   pub reader_count : NeverFalls (reader_before readers) (reader_after readers)
+  pub reader_once : MeetsOnce (reader_before readers) (reader_after readers)
   pub sink_count : NeverFalls (sink_before sink) (sink_after sink)
+  pub sink_once : MeetsOnce (sink_before sink) (sink_after sink)

@@ -1,9 +1,11 @@
 -- What a run promises, by its words and by what is seen of the raw volumes, the bay, the readers, the sink and the doors.
 use Rattle.std.specs.Prelude.{◌≡◌, ◌≢◌, ◌⊎◌, ℕ, ◌<◌, List, [], ◌∷◌, drop, length, min, Option, IfSome, IsSome}
-use Rattle.idx_outside.specs.Cause.{NeverFalls, Rose}
+use Rattle.idx_outside.specs.Cause.{MeetsOnce, NeverFalls, Rose}
+use Rattle.idx_outside.specs.Counts.{EachMeetsOnce}
 use Rattle.idx_outside.specs.Contents.{appended, AppendsPrefix}
 use Rattle.idx_outside.specs.Objects.{OthersUntouched, SameContents}
 use Rattle.idx_outside.specs.declared.mem_file.MemFile.{MemFile}
+use Rattle.idx_seal.specs.Rows.{MeetsOnceOrRow}
 use Rattle.idx_words.specs.declared.command.Command.{Command}
 use Rattle.idx_words.specs.declared.command.Command.TheVariants.{Cut, Info, Convert, Query, Check, Serve, Drill}
 use Rattle.idx_words.specs.Words.{Give, GiveCheck, GiveConvert, GiveCut, GiveDrill, GiveInfo, GiveQuery, GiveServe}
@@ -122,6 +124,19 @@ pub record CountsFaults {V B R K D L : Type 0} (words : List (List ℕ)) (seen :
   -- and why it was refused goes before how the doors ended
   pub door_answered : SomeHigher (doors_before seen.doors) (doors_after seen.doors) →
       ((status_of cause ≡ 12) ⊎ (status_of cause ≡ 11)) ⊎ (GiveIngest words × (status_of cause ≢ 0) × (status_of cause ≢ 9))
+
+-- A fault is met once: each object counted one at most in this run, so that no call that failed was made again. Where a row of files is
+-- written side by side, one for each rank, the bay counts one for each that was given up, in one row; and a reader of `serve` counts one
+-- at most for each reply, as the record of `serve` says.
+pub record MeetsFaultsOnce {V B R K D L : Type 0} (words : List (List ℕ)) (seen : RunSeen V B R K D L) : Type 0 where
+  pub raws : EachMeetsOnce (raws_before seen.raws) (raws_after seen.raws)
+  pub bay : ¬ GiveConvert words → ¬ GiveIngest words → MeetsOnce (bay_before seen.bay) (bay_after seen.bay)
+  pub bay_rows : (c : ConvertValue) → Give words (Convert c) →
+      MeetsOnceOrRow (seen.bay.failed seen.bay.new) c.ranks (bay_before seen.bay) (bay_after seen.bay)
+  pub bay_beside : GiveIngest words → MeetsOnceOrRow (seen.bay.failed seen.bay.new) 256 (bay_before seen.bay) (bay_after seen.bay)
+  pub reader : ¬ GiveServe words → MeetsOnce (reader_before seen.readers) (reader_after seen.readers)
+  pub sink : MeetsOnce (sink_before seen.sink) (sink_after seen.sink)
+  pub doors : EachMeetsOnce (doors_before seen.doors) (doors_after seen.doors)
 
 -- What a run leaves as it was.
 pub record LeavesRest {V B R K D L : Type 0} (words : List (List ℕ)) (seen : RunSeen V B R K D L) : Type 0 where

@@ -27,10 +27,11 @@ pub record BaySeen (B : Type 0) : Type 0 where
   pub old : B
   pub new : B
 
--- Readers, with their counts of faults and of reads.
+-- Readers, with their counts of faults, of reads and of the bytes that were asked for.
 pub record ReadersSeen (R : Type 0) : Type 0 where
   pub faults : R → ℕ
   pub reads : R → ℕ
+  pub asked : R → ℕ
   pub old : List R
   pub new : List R
 
@@ -118,6 +119,22 @@ reader_counts readers =
       reads_after = faults_at readers.reads readers.new 0;
     }
 
+-- how many reads the first reader made, and how many bytes were asked of it, before and after
+pub record FirstReads : Type 0 where
+  pub reads_before : ℕ
+  pub reads_after : ℕ
+  pub asked_before : ℕ
+  pub asked_after : ℕ
+
+abbrev pub first_reads : {R : Type 0} → ReadersSeen R → FirstReads
+first_reads readers =
+    record {
+      reads_before = faults_at readers.reads readers.old 0;
+      reads_after = faults_at readers.reads readers.new 0;
+      asked_before = faults_at readers.asked readers.old 0;
+      asked_after = faults_at readers.asked readers.new 0;
+    }
+
 -- the sink's counts before and after
 abbrev pub sink_before : {K : Type 0} → SinkSeen K → ℕ
 sink_before sink = sink.faults sink.old
@@ -157,8 +174,8 @@ bay_seen header files begun changes failed faults old new =
       new = new;
     }
 
-abbrev pub readers_seen : {R : Type 0} → (R → ℕ) → (R → ℕ) → List R → List R → ReadersSeen R
-readers_seen faults reads old new = record { faults = faults; reads = reads; old = old; new = new }
+abbrev pub readers_seen : {R : Type 0} → (R → ℕ) → (R → ℕ) → (R → ℕ) → List R → List R → ReadersSeen R
+readers_seen faults reads asked old new = record { faults = faults; reads = reads; asked = asked; old = old; new = new }
 
 abbrev pub sink_seen : {K : Type 0} → (K → Option (List ℕ)) → (K → ℕ) → K → K → SinkSeen K
 sink_seen contents faults old new = record { contents = contents; faults = faults; old = old; new = new }

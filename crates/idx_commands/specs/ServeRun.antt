@@ -1,6 +1,7 @@
 -- How a run of `serve` ends, by what is seen of the bay, of the readers, of the sink and of the doors.
 use Rattle.std.specs.Prelude.{◌≡◌, ◌≢◌, ◌⊎◌, ℕ, ◌<◌, List, Option, Some, None, IsSomeAnd, length, min}
-use Rattle.idx_outside.specs.Cause.{NeverFalls, Rose}
+use Rattle.idx_outside.specs.Cause.{MeetsOnce, NeverFalls, Rose}
+use Rattle.idx_outside.specs.Counts.{EachMeetsOnce}
 use Rattle.idx_outside.specs.Contents.{appended, AppendsPrefix}
 use Rattle.idx_outside.specs.Objects.{OthersUntouched}
 use Rattle.idx_outside.specs.declared.bay_call.BayCall.TheVariants as calls
@@ -46,7 +47,7 @@ tells_of readers doors = tells doors.links doors.told doors.faults readers.fault
 abbrev pub HasServed : {B R D L : Type 0} → ServeValue → BaySeen B → ReadersSeen R → DoorsSeen D L → (Summary → Type 0) → Type 0
 HasServed v bay readers doors P =
     (summary : Summary)
-    × Hosted (tells_of readers doors) (site_name v.dataset) (bay.header bay.old) (bay.files bay.old) (workers_in v readers doors)
+    × Hosted (tells_of readers doors) (site_name v.dataset) (bay.header bay.old) (bay.files bay.old) v.cache (workers_in v readers doors)
     doors.old doors.new readers.old readers.new summary
     × P summary
 
@@ -57,6 +58,7 @@ pub record IsBefore {R K D L : Type 0} (readers : ReadersSeen R) (sink : SinkSee
   pub others : OthersUntouched readers.old readers.new 0
   pub reader_list : length readers.new ≡ length readers.old
   pub reader_count : NeverFalls (reader_before readers) (reader_after readers)
+  pub reader_once : MeetsOnce (reader_before readers) (reader_after readers)
   pub silent : sink.new ≡ sink.old
 
 -- the same, and the first reader counted no fault
@@ -127,11 +129,15 @@ pub record ServeEnds {B R K D L : Type 0} (v : ServeValue) (bay : BaySeen B) (re
   pub unfailed : status_of cause ≢ 5 → bay.failed bay.new ≡ bay.failed bay.old
   -- a fault of a door was counted
   pub door_rose : status_of cause ≡ 12 → SomeRose (doors_before doors) (doors_after doors)
-  -- the bay was not changed, no reader and no door was touched but those of the workers, and no count fell
+  -- the bay was not changed, no reader and no door was touched but those of the workers, and no count fell; each fault was met once,
+  -- and one of a reader once a reply, as `HasServed` says
   pub unchanged : IsUnchanged bay
   pub bay_count : NeverFalls (bay_before bay) (bay_after bay)
+  pub bay_once : MeetsOnce (bay_before bay) (bay_after bay)
   pub idle_readers : KeepsBehind (workers_in v readers doors) readers.old readers.new
   pub reader_counts : NoneFalls (readers_before readers) (readers_after readers)
   pub sink_count : NeverFalls (sink_before sink) (sink_after sink)
+  pub sink_once : MeetsOnce (sink_before sink) (sink_after sink)
   pub idle_doors : KeepsBehind (workers_in v readers doors) doors.old doors.new
   pub door_counts : NoneFalls (doors_before doors) (doors_after doors)
+  pub doors_once : EachMeetsOnce (doors_before doors) (doors_after doors)

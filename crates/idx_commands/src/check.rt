@@ -1,8 +1,9 @@
-ghost use Rattle.std.specs.Prelude.{◌≡◌, ◌≢◌, ◌⊎◌, ◌<◌, vec_len, IfOk};
-ghost use Rattle.idx_outside.specs.Cause.{NeverFalls, Rose};
+ghost use Rattle.std.specs.Prelude.{◌≡◌, ◌≢◌, ◌⊎◌, ◌<◌, ℕ, vec_len, IfOk};
+ghost use Rattle.idx_outside.specs.Cause.{MeetsOnce, NeverFalls, Rose};
 ghost use Rattle.idx_outside.specs.Contents.{AppendsPrefix, appended};
 ghost use Rattle.idx_commands.specs.Cause.{status_of};
-ghost use Rattle.idx_commands.specs.CheckRun.{CheckEnds, CheckMeans, cause_of_refused};
+ghost use Rattle.idx_check.specs.declared.verdict.WrongKind.{WrongKind};
+ghost use Rattle.idx_commands.specs.CheckRun.{CheckEnds, CheckMeans, LooksOnce, LooksOnceAtSame, cause_of_refused};
 ghost use Rattle.idx_commands.specs.QueryRun.{IsUnreadCause};
 ghost use Rattle.idx_commands.specs.SameLine.{same_line};
 ghost use Rattle.idx_commands.specs.Seen.{bay_seen, readers_seen, sink_seen};
@@ -26,7 +27,7 @@ pub(crate) fn run_check<B: Bay, R: Reader<B::Leaf>, K: Sink>(
 ) -> Cause
     requires reader { 0 < vec_len readers.old }
     ensures { CheckEnds time (bay_seen B.header B.files B.begun B.changes B.failed B.faults bay.old bay.new)
-        (readers_seen R.faults R.reads readers.old.items readers.new.items)
+        (readers_seen R.faults R.reads R.asked readers.old.items readers.new.items)
         (sink_seen K.contents K.faults out.old out.new) result }
 {
     check_with(alloc, time, bay, &mut readers[0], out)
@@ -47,6 +48,22 @@ fn check_with<B: Bay, R: Reader<B::Leaf>, K: Sink>(
           reads_before = R.reads reader.old;
           reads_after = R.reads reader.new;
         }) (sink_seen K.contents K.faults out.old out.new) result }
+    ensures pieces_same { (status_of result ≡ 0) ⊎ (status_of result ≡ 9) → LooksOnceAtSame time
+        (bay_seen B.header B.files B.begun B.changes B.failed B.faults bay.old bay.new)
+        (record {
+          reads_before = R.reads reader.old;
+          reads_after = R.reads reader.new;
+          asked_before = R.asked reader.old;
+          asked_after = R.asked reader.new;
+        }) }
+    ensures pieces_wrong { (file at : ℕ) (why : WrongKind) → result ≡ Cause.NotSame file at why → LooksOnce
+        (bay_seen B.header B.files B.begun B.changes B.failed B.faults bay.old bay.new)
+        (record {
+          reads_before = R.reads reader.old;
+          reads_after = R.reads reader.new;
+          asked_before = R.asked reader.old;
+          asked_after = R.asked reader.new;
+        }) (Verdict.Wrong file at why) }
     ensures unread { IsUnreadCause result → reader.new ≡ reader.old }
     ensures unfailed { status_of result ≢ 5 → B.failed bay.new ≡ B.failed bay.old }
     ensures header { B.header bay.new ≡ B.header bay.old }
@@ -54,10 +71,13 @@ fn check_with<B: Bay, R: Reader<B::Leaf>, K: Sink>(
     ensures begun { B.begun bay.new ≡ B.begun bay.old }
     ensures changes { B.changes bay.new ≡ B.changes bay.old }
     ensures bay_count { NeverFalls (B.faults bay.old) (B.faults bay.new) }
+    ensures bay_once { MeetsOnce (B.faults bay.old) (B.faults bay.new) }
     ensures bay_answered { B.faults bay.old < B.faults bay.new → result ≡ Cause.StoreFault }
     ensures reader_count { NeverFalls (R.faults reader.old) (R.faults reader.new) }
+    ensures reader_once { MeetsOnce (R.faults reader.old) (R.faults reader.new) }
     ensures reader_answered { R.faults reader.old < R.faults reader.new → result ≡ Cause.StoreFault }
     ensures sink_count { NeverFalls (K.faults out.old) (K.faults out.new) }
+    ensures sink_once { MeetsOnce (K.faults out.old) (K.faults out.new) }
     ensures sink_answered { K.faults out.old < K.faults out.new → result ≡ Cause.SinkFault }
 {
     match check(alloc, time, bay, reader) {
@@ -77,6 +97,7 @@ fn write_same<K: Sink>(alloc: Global, files: u64, bytes: u64, out: &mut K) -> Ca
     ensures only { (result ≡ Cause.Done) ⊎ ((result ≡ Cause.SinkFault) ⊎ (result ≡ Cause.NoMemory)) }
     ensures answered { K.faults out.old < K.faults out.new → result ≡ Cause.SinkFault }
     ensures count { NeverFalls (K.faults out.old) (K.faults out.new) }
+    ensures once { MeetsOnce (K.faults out.old) (K.faults out.new) }
 {
     let Ok(line) = same_line(alloc, files, bytes) else {
         return Cause::NoMemory;

@@ -1,5 +1,5 @@
 ghost use Rattle.std.specs.Prelude.{◌≡◌, ◌↔◌, ◌⊎◌, ℕ, ◌<◌, codes, map, string_bytes, vec_len};
-ghost use Rattle.idx_outside.specs.Cause.{NeverFalls};
+ghost use Rattle.idx_outside.specs.Cause.{MeetsOnce, NeverFalls};
 ghost use Rattle.idx_raw.specs.Cut as cuts;
 ghost use Rattle.idx_words.specs.declared.command.Command.{Command};
 ghost use Rattle.idx_words.specs.declared.cut_words.CutWords.{CutWords};
@@ -80,8 +80,10 @@ fn cut_volume<V: Source, K: Sink>(
         V.asked raw.new ≡ V.asked raw.old }
     ensures raw_same { V.contents raw.new ≡ V.contents raw.old }
     ensures raw_count { NeverFalls (V.faults raw.old) (V.faults raw.new) }
+    ensures raw_once { MeetsOnce (V.faults raw.old) (V.faults raw.new) }
     ensures raw_answered { V.faults raw.old < V.faults raw.new → result ≡ Cause.RawFault }
     ensures sink_count { NeverFalls (K.faults out.old) (K.faults out.new) }
+    ensures sink_once { MeetsOnce (K.faults out.old) (K.faults out.new) }
     ensures sink_answered { K.faults out.old < K.faults out.new → result ≡ Cause.SinkFault }
 {
     let samples = match cut(alloc, &asked_of(words), raw) {

@@ -1,6 +1,8 @@
 ghost use Rattle.std.specs.Prelude.{◌≡◌, ◌≢◌, ◌<◌, ◌≤◌, map, vec_len};
-ghost use Rattle.idx_outside.specs.Cause.{NeverFalls};
+ghost use Rattle.idx_outside.specs.Cause.{MeetsOnce, NeverFalls};
+ghost use Rattle.idx_outside.specs.Counts.{EachMeetsOnce};
 ghost use Rattle.idx_outside.specs.Objects.{SameContents};
+ghost use Rattle.idx_seal.specs.Rows.{MeetsOnceOrRow};
 ghost use Rattle.idx_gather.specs.Gather.{HaveSame, NoneFalls};
 ghost use Rattle.idx_words.specs.ServeGrammar.{IsSoundServe};
 ghost use Rattle.idx_commands.specs.LiveRun.{Concludes, LiveEnds, LiveMeans, cause_of_live};
@@ -56,7 +58,7 @@ where
     ensures { LiveEnds words.now ingest.now
         (raws_seen V.contents V.faults V.asked raws.old.items raws.new.items)
         (bay_seen B.header B.files B.begun B.changes B.failed B.faults bay.old bay.new)
-        (readers_seen R.faults R.reads readers.old.items readers.new.items)
+        (readers_seen R.faults R.reads R.asked readers.old.items readers.new.items)
         (sink_seen K.contents K.faults out.old out.new)
         (doors_seen D.told D.faults D.Link.incoming D.Link.written D.Link.readings D.Link.faults
         doors.old.items doors.new.items)
@@ -106,7 +108,7 @@ where
     ensures means { LiveMeans words.now ingest.now
         (raws_seen V.contents V.faults V.asked raws.old.items raws.new.items)
         (bay_seen B.header B.files B.begun B.changes B.failed B.faults bay.old bay.new)
-        (readers_seen R.faults R.reads readers.old.items readers.new.items)
+        (readers_seen R.faults R.reads R.asked readers.old.items readers.new.items)
         (sink_seen K.contents K.faults out.old out.new)
         (doors_seen D.told D.faults D.Link.incoming D.Link.written D.Link.readings D.Link.faults
         doors.old.items doors.new.items)
@@ -114,9 +116,12 @@ where
     ensures sink_answered { K.faults out.old < K.faults out.new → result ≡ Cause.SinkFault }
     ensures same { SameContents V.contents raws.old.items raws.new.items }
     ensures raw_count { NoneFalls (map V.faults raws.old.items) (map V.faults raws.new.items) }
+    ensures raws_once { EachMeetsOnce (map V.faults raws.old.items) (map V.faults raws.new.items) }
     ensures header { B.header bay.new ≡ B.header bay.old }
     ensures bay_count { NeverFalls (B.faults bay.old) (B.faults bay.new) }
+    ensures bay_once { MeetsOnceOrRow (B.failed bay.new) 256 (B.faults bay.old) (B.faults bay.new) }
     ensures sink_count { NeverFalls (K.faults out.old) (K.faults out.new) }
+    ensures sink_once { MeetsOnce (K.faults out.old) (K.faults out.new) }
 {
     let workers = workers_for(words, doors.len(), readers.len());
     match host_live(
@@ -144,6 +149,7 @@ fn conclude<K: Sink>(alloc: Global, live: &Live, out: &mut K) -> Cause
     ensures says { Concludes (sink_seen K.contents K.faults out.old out.new) live.now result }
     ensures answered { K.faults out.old < K.faults out.new → result ≡ Cause.SinkFault }
     ensures count { NeverFalls (K.faults out.old) (K.faults out.new) }
+    ensures once { MeetsOnce (K.faults out.old) (K.faults out.new) }
 {
     match live.ingested {
         IngestEnd::NoMemory => Cause::NoMemory,

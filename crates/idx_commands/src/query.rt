@@ -1,5 +1,5 @@
 ghost use Rattle.std.specs.Prelude.{◌≡◌, ◌≢◌, ◌↔◌, ℕ, ◌<◌, ◌≤◌, codes, map, string_bytes, vec_len};
-ghost use Rattle.idx_outside.specs.Cause.{NeverFalls};
+ghost use Rattle.idx_outside.specs.Cause.{MeetsOnce, NeverFalls};
 ghost use Rattle.idx_words.specs.declared.command.Command.{Command};
 ghost use Rattle.idx_words.specs.QueryValue.{QueryValue};
 ghost use Rattle.idx_extract.specs.Extract.{ReadsFew};
@@ -32,7 +32,7 @@ pub fn run_query<B: Bay, R: Reader<B::Leaf>, K: Sink>(
     ensures status { result.status ≡ status_of result.cause }
     ensures query { (q : QueryValue) → Give (map string_bytes words.now) (Command.Query q) →
         QueryEnds q (bay_seen B.header B.files B.begun B.changes B.failed B.faults bay.old bay.new)
-        (readers_seen R.faults R.reads readers.old.items readers.new.items)
+        (readers_seen R.faults R.reads R.asked readers.old.items readers.new.items)
         (sink_seen K.contents K.faults out.old out.new) result.cause }
 
     // Usage comes exactly where the words are not in the grammar, and then nothing was asked of any object.
@@ -65,7 +65,7 @@ fn query_first<B: Bay, R: Reader<B::Leaf>, K: Sink>(
 ) -> Cause
     requires reader { 0 < vec_len readers.old }
     ensures { QueryEnds words.now (bay_seen B.header B.files B.begun B.changes B.failed B.faults bay.old bay.new)
-        (readers_seen R.faults R.reads readers.old.items readers.new.items)
+        (readers_seen R.faults R.reads R.asked readers.old.items readers.new.items)
         (sink_seen K.contents K.faults out.old out.new) result }
 {
     query(alloc, words, bay, &mut readers[0], out)
@@ -100,10 +100,13 @@ fn query<B: Bay, R: Reader<B::Leaf>, K: Sink>(
     ensures begun { B.begun bay.new ≡ B.begun bay.old }
     ensures changes { B.changes bay.new ≡ B.changes bay.old }
     ensures bay_count { NeverFalls (B.faults bay.old) (B.faults bay.new) }
+    ensures bay_once { MeetsOnce (B.faults bay.old) (B.faults bay.new) }
     ensures bay_answered { B.faults bay.old < B.faults bay.new → result ≡ Cause.StoreFault }
     ensures reader_count { NeverFalls (R.faults reader.old) (R.faults reader.new) }
+    ensures reader_once { MeetsOnce (R.faults reader.old) (R.faults reader.new) }
     ensures reader_answered { R.faults reader.old < R.faults reader.new → result ≡ Cause.StoreFault }
     ensures sink_count { NeverFalls (K.faults out.old) (K.faults out.new) }
+    ensures sink_once { MeetsOnce (K.faults out.old) (K.faults out.new) }
     ensures sink_answered { K.faults out.old < K.faults out.new → result ≡ Cause.SinkFault }
 {
     let samples = match extract(alloc, &question_of(words), bay, reader) {

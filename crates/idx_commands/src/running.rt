@@ -15,7 +15,7 @@ ghost use Rattle.idx_commands.specs.DrillRun.{DrillEnds};
 ghost use Rattle.idx_commands.specs.InfoRun.{InfoEnds};
 ghost use Rattle.idx_commands.specs.QueryRun.{QueryEnds};
 ghost use Rattle.idx_commands.specs.LiveRun.{EndsServing};
-ghost use Rattle.idx_commands.specs.Run.{CommandEnds, CountsFaults, LeavesRest, Unasked, WroteAnswer, WrotePrefix, run_seen};
+ghost use Rattle.idx_commands.specs.Run.{CommandEnds, CountsFaults, LeavesRest, MeetsFaultsOnce, Unasked, WroteAnswer, WrotePrefix, run_seen};
 ghost use Rattle.idx_commands.specs.Seen.{bay_seen, doors_seen, raws_seen, readers_seen, sink_seen};
 
 use crate::causes::{Cause, Done};
@@ -87,16 +87,16 @@ where
         (bay_seen B.header B.files B.begun B.changes B.failed B.faults bay.old bay.new) result.cause }
     ensures query { (q : QueryValue) → Give (map string_bytes words.now) (Command.Query q) →
         QueryEnds q (bay_seen B.header B.files B.begun B.changes B.failed B.faults bay.old bay.new)
-        (readers_seen R.faults R.reads readers.old.items readers.new.items)
+        (readers_seen R.faults R.reads R.asked readers.old.items readers.new.items)
         (sink_seen K.contents K.faults out.old out.new) result.cause }
     ensures check { (step : ℕ) → Give (map string_bytes words.now) (Command.Check step) →
         CheckEnds step (bay_seen B.header B.files B.begun B.changes B.failed B.faults bay.old bay.new)
-        (readers_seen R.faults R.reads readers.old.items readers.new.items)
+        (readers_seen R.faults R.reads R.asked readers.old.items readers.new.items)
         (sink_seen K.contents K.faults out.old out.new) result.cause }
     ensures serve { (v : ServeValue) → Give (map string_bytes words.now) (Command.Serve v) →
         EndsServing v.ingest v (raws_seen V.contents V.faults V.asked raws.old.items raws.new.items)
         (bay_seen B.header B.files B.begun B.changes B.failed B.faults bay.old bay.new)
-        (readers_seen R.faults R.reads readers.old.items readers.new.items)
+        (readers_seen R.faults R.reads R.asked readers.old.items readers.new.items)
         (sink_seen K.contents K.faults out.old out.new)
         (doors_seen D.told D.faults D.Link.incoming D.Link.written D.Link.readings D.Link.faults
         doors.old.items doors.new.items)
@@ -112,24 +112,32 @@ where
     ensures unasked { result.status ≡ 1 → Unasked (run_seen
         (raws_seen V.contents V.faults V.asked raws.old.items raws.new.items)
         (bay_seen B.header B.files B.begun B.changes B.failed B.faults bay.old bay.new)
-        (readers_seen R.faults R.reads readers.old.items readers.new.items)
+        (readers_seen R.faults R.reads R.asked readers.old.items readers.new.items)
         (sink_seen K.contents K.faults out.old out.new)
         (doors_seen D.told D.faults D.Link.incoming D.Link.written D.Link.readings D.Link.faults
         doors.old.items doors.new.items)) }
     ensures given { result.status ≢ 1 → GiveCommand (map string_bytes words.now) }
 
-    // Each fault was counted, and each that was counted is answered; and what a run does not use stays as it was.
+    // Each fault was counted, and each that was counted is answered; it is met once, so that no failed call is made again; and
+    // what a run does not use stays as it was.
     ensures faults { CountsFaults (map string_bytes words.now) (run_seen
         (raws_seen V.contents V.faults V.asked raws.old.items raws.new.items)
         (bay_seen B.header B.files B.begun B.changes B.failed B.faults bay.old bay.new)
-        (readers_seen R.faults R.reads readers.old.items readers.new.items)
+        (readers_seen R.faults R.reads R.asked readers.old.items readers.new.items)
         (sink_seen K.contents K.faults out.old out.new)
         (doors_seen D.told D.faults D.Link.incoming D.Link.written D.Link.readings D.Link.faults
         doors.old.items doors.new.items)) result.cause }
+    ensures once { MeetsFaultsOnce (map string_bytes words.now) (run_seen
+        (raws_seen V.contents V.faults V.asked raws.old.items raws.new.items)
+        (bay_seen B.header B.files B.begun B.changes B.failed B.faults bay.old bay.new)
+        (readers_seen R.faults R.reads R.asked readers.old.items readers.new.items)
+        (sink_seen K.contents K.faults out.old out.new)
+        (doors_seen D.told D.faults D.Link.incoming D.Link.written D.Link.readings D.Link.faults
+        doors.old.items doors.new.items)) }
     ensures rest { LeavesRest (map string_bytes words.now) (run_seen
         (raws_seen V.contents V.faults V.asked raws.old.items raws.new.items)
         (bay_seen B.header B.files B.begun B.changes B.failed B.faults bay.old bay.new)
-        (readers_seen R.faults R.reads readers.old.items readers.new.items)
+        (readers_seen R.faults R.reads R.asked readers.old.items readers.new.items)
         (sink_seen K.contents K.faults out.old out.new)
         (doors_seen D.told D.faults D.Link.incoming D.Link.written D.Link.readings D.Link.faults
         doors.old.items doors.new.items)) }
@@ -172,7 +180,7 @@ where
     ensures ends { CommandEnds (run_seen
         (raws_seen V.contents V.faults V.asked raws.old.items raws.new.items)
         (bay_seen B.header B.files B.begun B.changes B.failed B.faults bay.old bay.new)
-        (readers_seen R.faults R.reads readers.old.items readers.new.items)
+        (readers_seen R.faults R.reads R.asked readers.old.items readers.new.items)
         (sink_seen K.contents K.faults out.old out.new)
         (doors_seen D.told D.faults D.Link.incoming D.Link.written D.Link.readings D.Link.faults
         doors.old.items doors.new.items)) command.now result.cause }

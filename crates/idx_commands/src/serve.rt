@@ -1,5 +1,5 @@
 ghost use Rattle.std.specs.Prelude.{◌≡◌, ◌≢◌, ◌↔◌, ◌⊎◌, ℕ, ◌<◌, ◌≤◌, codes, map, min, string_bytes, vec_len};
-ghost use Rattle.idx_outside.specs.Cause.{NeverFalls, Rose};
+ghost use Rattle.idx_outside.specs.Cause.{MeetsOnce, NeverFalls, Rose};
 ghost use Rattle.idx_outside.specs.Contents.{appended, AppendsPrefix};
 ghost use Rattle.idx_words.specs.declared.command.Command.{Command};
 ghost use Rattle.idx_words.specs.ServeGrammar.{IsSoundServe};
@@ -61,7 +61,7 @@ where
     ensures serve { (v : ServeValue) → Give (map string_bytes words.now) (Command.Serve v) →
         EndsServing v.ingest v (raws_seen V.contents V.faults V.asked raws.old.items raws.new.items)
         (bay_seen B.header B.files B.begun B.changes B.failed B.faults bay.old bay.new)
-        (readers_seen R.faults R.reads readers.old.items readers.new.items)
+        (readers_seen R.faults R.reads R.asked readers.old.items readers.new.items)
         (sink_seen K.contents K.faults out.old out.new)
         (doors_seen D.told D.faults D.Link.incoming D.Link.written D.Link.readings D.Link.faults
         doors.old.items doors.new.items)
@@ -120,7 +120,7 @@ where
     ensures { EndsServing words.now.ingest words.now
         (raws_seen V.contents V.faults V.asked raws.old.items raws.new.items)
         (bay_seen B.header B.files B.begun B.changes B.failed B.faults bay.old bay.new)
-        (readers_seen R.faults R.reads readers.old.items readers.new.items)
+        (readers_seen R.faults R.reads R.asked readers.old.items readers.new.items)
         (sink_seen K.contents K.faults out.old out.new)
         (doors_seen D.told D.faults D.Link.incoming D.Link.written D.Link.readings D.Link.faults
         doors.old.items doors.new.items)
@@ -156,7 +156,7 @@ where
     requires door { 0 < vec_len doors.old }
     requires sound { IsSoundServe words.now }
     ensures { ServeEnds words.now (bay_seen B.header B.files B.begun B.changes B.failed B.faults bay.old bay.new)
-        (readers_seen R.faults R.reads readers.old.items readers.new.items)
+        (readers_seen R.faults R.reads R.asked readers.old.items readers.new.items)
         (sink_seen K.contents K.faults out.old out.new)
         (doors_seen D.told D.faults D.Link.incoming D.Link.written D.Link.readings D.Link.faults
         doors.old.items doors.new.items)
@@ -195,7 +195,7 @@ where
     requires sound { IsSoundServe words.now }
     ensures means { ServeMeans words.now
         (bay_seen B.header B.files B.begun B.changes B.failed B.faults bay.old bay.new)
-        (readers_seen R.faults R.reads readers.old.items readers.new.items)
+        (readers_seen R.faults R.reads R.asked readers.old.items readers.new.items)
         (sink_seen K.contents K.faults out.old out.new)
         (doors_seen D.told D.faults D.Link.incoming D.Link.written D.Link.readings D.Link.faults
         doors.old.items doors.new.items) result }
@@ -207,7 +207,9 @@ where
     ensures begun { B.begun bay.new ≡ B.begun bay.old }
     ensures changes { B.changes bay.new ≡ B.changes bay.old }
     ensures bay_count { NeverFalls (B.faults bay.old) (B.faults bay.new) }
+    ensures bay_once { MeetsOnce (B.faults bay.old) (B.faults bay.new) }
     ensures sink_count { NeverFalls (K.faults out.old) (K.faults out.new) }
+    ensures sink_once { MeetsOnce (K.faults out.old) (K.faults out.new) }
 {
     let workers = workers_for(words, doors.len(), readers.len());
     match host(
@@ -241,6 +243,7 @@ fn conclude<K: Sink>(alloc: Global, summary: &Summary, out: &mut K) -> Cause
         ⊎ ((result ≡ Cause.DoorFault) ⊎ (result ≡ Cause.NoMemory))) }
     ensures answered { K.faults out.old < K.faults out.new → result ≡ Cause.SinkFault }
     ensures count { NeverFalls (K.faults out.old) (K.faults out.new) }
+    ensures once { MeetsOnce (K.faults out.old) (K.faults out.new) }
 {
     match summary.end {
         ServeEnd::Done => write_totals(alloc, summary, out),
@@ -259,6 +262,7 @@ pub(crate) fn write_totals<K: Sink>(alloc: Global, summary: &Summary, out: &mut 
     ensures only { (result ≡ Cause.Done) ⊎ ((result ≡ Cause.SinkFault) ⊎ (result ≡ Cause.NoMemory)) }
     ensures answered { K.faults out.old < K.faults out.new → result ≡ Cause.SinkFault }
     ensures count { NeverFalls (K.faults out.old) (K.faults out.new) }
+    ensures once { MeetsOnce (K.faults out.old) (K.faults out.new) }
 {
     let Ok(line) = totals(alloc, summary.links, summary.replies) else {
         return Cause::NoMemory;

@@ -3,7 +3,8 @@ use Rattle.std.proofs.Common.{◌≡◌, ℕ, ◌+◌, ◌<◌, ◌≤◌, List,
 use Rattle.std.proofs.lemmas.Bool.{cases_lt}
 use Rattle.std.proofs.lemmas.List.{drop_at, get_or_append_left, get_or-append_right, length-append, length-map, map-append, take-append-le}
 use Rattle.std.specs.Prelude.{◌⊎◌, IfErr, Result, Ok, Err}
-use Rattle.idx_outside.specs.Cause.{NeverFalls, Rose}
+use Rattle.idx_outside.specs.Cause.{MeetsOnce, NeverFalls, Rose}
+use Rattle.idx_outside.specs.Counts.{EachMeetsOnce}
 use Rattle.idx_outside.specs.Objects.{SameContents, contents_at}
 use Rattle.idx_header.specs.Header.{HeaderValue}
 use Rattle.idx_gather.specs.declared.gather_fault.GatherFault.{GatherFault}
@@ -29,6 +30,13 @@ module _ (before after rest : List ℕ) (number : length after ≡ length before
       by : (i : ℕ) → (i < length before) ⊎ (length before ≤ i) → NeverFalls (slice_index (before ++ rest) i) (slice_index (after ++ rest) i)
       by i (inl less) = omega (arith, first_after i less, first_before i less, each i less)
       by i (inr more) = omega (arith, rest_same i more)
+
+  each_met : EachMeetsOnce before after → EachMeetsOnce (before ++ rest) (after ++ rest)
+  each_met each i = by (cases_lt i (length before))
+    where
+      by : (i < length before) ⊎ (length before ≤ i) → MeetsOnce (slice_index (before ++ rest) i) (slice_index (after ++ rest) i)
+      by (inl less) = omega (arith, first_after i less, first_before i less, each i)
+      by (inr more) = omega (arith, rest_same i more)
 
   rank_fault : (rank faults : ℕ) → IsRankFault before after rank faults → IsRankFault (before ++ rest) (after ++ rest) rank faults
   rank_fault rank faults f =
@@ -98,6 +106,12 @@ module _ {V : Type 0} (old new first after rest : List V) (parted : Parted old n
       subst (λ before. NoneFalls before (map count new)) (sym (was_counts count))
       (subst (λ now. NoneFalls (map count first ++ map count rest) now) (sym (now_counts count))
       (none_falls (map count first) (map count after) (map count rest) (numbers count) each))
+
+  pub each_met_all : (count : V → ℕ) → EachMeetsOnce (map count first) (map count after) → EachMeetsOnce (map count old) (map count new)
+  each_met_all count each =
+      subst (λ before. EachMeetsOnce before (map count new)) (sym (was_counts count))
+      (subst (λ now. EachMeetsOnce (map count first ++ map count rest) now) (sym (now_counts count))
+      (each_met (map count first) (map count after) (map count rest) (numbers count) each))
 
   pub caused_all : (contents : V → Option (List ℕ)) (count : V → ℕ) (h : HeaderValue) (before now : ℕ) {T : Type 0} (result : Result T GatherFault) →
       IfErr result (IsCaused h (contents_at contents first 0) (map count first) (map count after) before now) →

@@ -1,6 +1,6 @@
 -- What is said between the stages of a conversion.
 use Rattle.std.specs.Prelude.{◌≡◌, ◌≢◌, ℕ, ◌<◌, List, length, Option, Some, None, IfSome, Result, Err, OnOk}
-use Rattle.idx_outside.specs.Cause.{NeverFalls, Rose}
+use Rattle.idx_outside.specs.Cause.{MeetsOnce, NeverFalls, Rose}
 use Rattle.idx_outside.specs.Files.{StillAdmits}
 use Rattle.idx_outside.specs.declared.bay_call.BayCall.{BayCall}
 use Rattle.idx_outside.specs.declared.bay_call.BayCall.TheVariants as calls
@@ -84,3 +84,4 @@ pub record OnlyLooks {S T : Type 0} (header : S → Option (List ℕ)) (files : 
   pub quiet : OnOk result (counts new ≡ counts old)
   pub answered : counts old < counts new → result ≡ Err faults.StoreFault
   pub count : NeverFalls (counts old) (counts new)
+  pub once : MeetsOnce (counts old) (counts new)

@@ -1,9 +1,11 @@
 ghost use Rattle.std.specs.Prelude.{◌≡◌, ◌⊎◌, ◌↔◌, ◌<◌, ◌≤◌, [], IsTrue, IfErr, OnErr, OnOk, Some, drop, is_ok, map, min, vec_len};
 ghost use Rattle.std.specs.Option.{ForSome};
 ghost use Rattle.idx_outside.specs.Calls.{last_failed};
-ghost use Rattle.idx_outside.specs.Cause.{NeverFalls, Rose};
+ghost use Rattle.idx_outside.specs.Cause.{MeetsOnce, NeverFalls, Rose};
+ghost use Rattle.idx_outside.specs.Counts.{EachMeetsOnce};
 ghost use Rattle.idx_outside.specs.Objects.{SameContents, contents_at};
 ghost use Rattle.idx_outside.specs.declared.bay_call.BayCall.{BayCall};
+ghost use Rattle.idx_seal.specs.Rows.{MeetsOnceOrRow};
 ghost use Rattle.idx_header.specs.Names.{step_folder};
 ghost use Rattle.idx_header.specs.Revisions.{IsRevisionOf};
 ghost use Rattle.idx_gather.specs.Gather.{HasVolume, HaveSame, NoneFalls};
@@ -54,6 +56,8 @@ where
     ensures idle { drop (min ranks (vec_len raws.old)) raws.new.items
         ≡ drop (min ranks (vec_len raws.old)) raws.old.items }
     ensures raw_count { NoneFalls (map V.faults raws.old.items) (map V.faults raws.new.items) }
+    ensures raw_once { EachMeetsOnce (map V.faults raws.old.items) (map V.faults raws.new.items) }
+    ensures bay_once { MeetsOnceOrRow (B.failed bay.new) ranks (B.faults bay.old) (B.faults bay.new) }
 {
     let Ok(()) = put_header(text, place.no_header, bay) else {
         return Err(ConvertFault::StoreFault);
@@ -75,6 +79,7 @@ fn put_header<B: Bay>(text: &[u8], no_header: bool, bay: &mut B) -> Result<(), O
     ensures begun { B.begun bay.new ≡ B.begun bay.old }
     ensures failed { B.failed bay.new ≡ last_failed BayCall.SetHeader (is_ok result) (B.failed bay.old) }
     ensures count { NeverFalls (B.faults bay.old) (B.faults bay.new) }
+    ensures once { MeetsOnce (B.faults bay.old) (B.faults bay.new) }
     ensures quiet { OnOk result (B.faults bay.new ≡ B.faults bay.old) }
     ensures cause { OnErr result (Rose (B.faults bay.old) (B.faults bay.new)) }
 {

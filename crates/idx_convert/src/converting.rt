@@ -1,6 +1,8 @@
 ghost use Rattle.std.specs.Prelude.{◌≡◌, ◌<◌, ◌≤◌, IfErr, drop, map, min, vec_len};
 ghost use Rattle.idx_outside.specs.Files.{StillAdmits};
+ghost use Rattle.idx_outside.specs.Counts.{EachMeetsOnce};
 ghost use Rattle.idx_outside.specs.Objects.{SameContents, contents_at};
+ghost use Rattle.idx_seal.specs.Rows.{MeetsOnceOrRow};
 ghost use Rattle.idx_gather.specs.Gather.{HaveSame, NoneFalls};
 ghost use Rattle.idx_convert.specs.Convert.{Ends, IsEarly};
 ghost use Rattle.idx_convert.specs.Known.{known_of};
@@ -51,11 +53,13 @@ where
         StillAdmits B.admits bay.old bay.new) }
 
     // What is known of the raw volumes' bytes stays, those behind the first, one for each rank, were not touched, and no
-    // count falls.
+    // count falls, or rises by more than one: a call that failed is not tried again.
     ensures same { SameContents V.contents raws.old.items raws.new.items }
     ensures idle { drop (min ranks (vec_len raws.old)) raws.new.items
         ≡ drop (min ranks (vec_len raws.old)) raws.old.items }
     ensures raw_count { NoneFalls (map V.faults raws.old.items) (map V.faults raws.new.items) }
+    ensures raw_once { EachMeetsOnce (map V.faults raws.old.items) (map V.faults raws.new.items) }
+    ensures bay_once { MeetsOnceOrRow (B.failed bay.new) ranks (B.faults bay.old) (B.faults bay.new) }
 {
     let header = asked_header(alloc, text, step)?;
     let place = find_place(alloc, &header, step, raws, bay)?;

@@ -1,5 +1,6 @@
 ghost use Rattle.std.specs.Prelude.{◌≡◌, ◌≢◌, ◌↔◌, ◌<◌, ◌≤◌, [], IfErr, IfOk, IfSome, IsSome, IsTrue, OnOk, Some, Err, ℕ, drop, map, vec_len};
 ghost use Rattle.std.specs.Option.{ForSome};
+ghost use Rattle.idx_outside.specs.Counts.{EachMeetsOnce};
 ghost use Rattle.idx_outside.specs.Objects.{SameContents, contents_at};
 ghost use Rattle.idx_header.specs.Names.{step_folder};
 ghost use Rattle.idx_header.specs.Revisions.{IsRevisionOf};
@@ -51,6 +52,7 @@ pub(crate) fn find_place<V: Source, B: Bay>(
     ensures same { SameContents V.contents raws.old.items raws.new.items }
     ensures idle { (n : ℕ) → 1 ≤ n → drop n raws.new.items ≡ drop n raws.old.items }
     ensures raw_count { NoneFalls (map V.faults raws.old.items) (map V.faults raws.new.items) }
+    ensures raw_once { EachMeetsOnce (map V.faults raws.old.items) (map V.faults raws.new.items) }
     ensures number { vec_len raws.new ≡ vec_len raws.old }
 {
     let place = place_in(alloc, header, step, bay)?;
@@ -134,6 +136,7 @@ fn check_size<V: Source>(header: &Header, raws: &mut Vec<V>) -> Result<(), Conve
     ensures same { SameContents V.contents raws.old.items raws.new.items }
     ensures idle { (n : ℕ) → 1 ≤ n → drop n raws.new.items ≡ drop n raws.old.items }
     ensures raw_count { NoneFalls (map V.faults raws.old.items) (map V.faults raws.new.items) }
+    ensures raw_once { EachMeetsOnce (map V.faults raws.old.items) (map V.faults raws.new.items) }
     ensures number { vec_len raws.new ≡ vec_len raws.old }
 {
     let want = header.volume_bytes();

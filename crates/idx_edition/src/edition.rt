@@ -1,6 +1,6 @@
 ghost use Rattle.std.specs.Prelude.{◌≡◌, ◌≢◌, ◌↔◌, ℕ, ◌+◌, ◌*◌, ◌<◌, ◌≤◌, List, [], ◌∷◌, ◌++◌, None, Ok, Some, IfErr, IfOk, IfSome, OnErr, OnOk, length};
 ghost use Rattle.std.specs.Option.{ForSome};
-ghost use Rattle.idx_outside.specs.Cause.{MadeReads, NeverFalls};
+ghost use Rattle.idx_outside.specs.Cause.{MadeReads, MeetsOnce, NeverFalls};
 ghost use Rattle.idx_geom.specs.Region.{points};
 ghost use Rattle.idx_geom.specs.Volume.{IsVolume};
 ghost use Rattle.idx_outside.specs.Files.{StillAdmits, known_files, shown};
@@ -155,7 +155,9 @@ impl<L: Leaf> Edition<L> {
         ensures quiet { OnOk result (B.faults bay.new ≡ B.faults bay.old) }
         ensures reader_quiet { OnOk result (R.faults reader.new ≡ R.faults reader.old) }
         ensures count { NeverFalls (B.faults bay.old) (B.faults bay.new) }
+        ensures once { MeetsOnce (B.faults bay.old) (B.faults bay.new) }
         ensures reader_count { NeverFalls (R.faults reader.old) (R.faults reader.new) }
+        ensures reader_once { MeetsOnce (R.faults reader.old) (R.faults reader.new) }
         ensures header { B.header bay.new ≡ B.header bay.old }
         ensures files { B.files bay.new ≡ B.files bay.old }
         ensures admits { StillAdmits B.admits bay.old bay.new }
@@ -200,7 +202,9 @@ impl<L: Leaf> Edition<L> {
         ensures quiet { OnOk result (B.faults bay.new ≡ B.faults bay.old) }
         ensures reader_quiet { OnOk result (R.faults reader.new ≡ R.faults reader.old) }
         ensures count { NeverFalls (B.faults bay.old) (B.faults bay.new) }
+        ensures once { MeetsOnce (B.faults bay.old) (B.faults bay.new) }
         ensures reader_count { NeverFalls (R.faults reader.old) (R.faults reader.new) }
+        ensures reader_once { MeetsOnce (R.faults reader.old) (R.faults reader.new) }
         ensures header { B.header bay.new ≡ B.header bay.old }
         ensures files { B.files bay.new ≡ B.files bay.old }
         ensures admits { StillAdmits B.admits bay.old bay.new }

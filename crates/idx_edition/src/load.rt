@@ -1,6 +1,6 @@
 ghost use Rattle.std.specs.Prelude.{◌≡◌, ◌≢◌, ◌↔◌, ◌⊎◌, ◌+◌, ◌*◌, ◌%◌, ◌^◌, ◌<◌, ◌≤◌, min, None, Some, Err, IfErr, IfOk, IfSome, IsTrue, OnErr, OnOk, length, take};
 ghost use Rattle.std.specs.Option.{ForSome, option_map};
-ghost use Rattle.idx_outside.specs.Cause.{AskedFor, MadeReads, NeverFalls, Rose};
+ghost use Rattle.idx_outside.specs.Cause.{AskedFor, MadeReads, MeetsOnce, NeverFalls, Rose};
 ghost use Rattle.idx_outside.specs.Files.{HasStep as HasCommitted, StillAdmits, entry_shown, file_at, stored_at};
 ghost use Rattle.idx_outside.specs.declared.bay_call.BayCall.{BayCall};
 ghost use Rattle.idx_table.specs.Table.{first_fault, rows_of, table_bytes};
@@ -42,6 +42,7 @@ pub(crate) fn folder_stands<B: Bay>(
     ensures kept { OnOk result (B.failed bay.new ≡ B.failed bay.old) }
     ensures quiet { OnOk result (B.faults bay.new ≡ B.faults bay.old) }
     ensures count { NeverFalls (B.faults bay.old) (B.faults bay.new) }
+    ensures once { MeetsOnce (B.faults bay.old) (B.faults bay.new) }
     ensures header { B.header bay.new ≡ B.header bay.old }
     ensures files { B.files bay.new ≡ B.files bay.old }
     ensures admits { StillAdmits B.admits bay.old bay.new }
@@ -94,7 +95,9 @@ pub(crate) fn open_file<B: Bay, R: Reader<B::Leaf>>(
     ensures quiet { OnOk result (B.faults bay.new ≡ B.faults bay.old) }
     ensures reader_quiet { OnOk result (R.faults reader.new ≡ R.faults reader.old) }
     ensures count { NeverFalls (B.faults bay.old) (B.faults bay.new) }
+    ensures once { MeetsOnce (B.faults bay.old) (B.faults bay.new) }
     ensures reader_count { NeverFalls (R.faults reader.old) (R.faults reader.new) }
+    ensures reader_once { MeetsOnce (R.faults reader.old) (R.faults reader.new) }
     ensures header { B.header bay.new ≡ B.header bay.old }
     ensures files { B.files bay.new ≡ B.files bay.old }
     ensures admits { StillAdmits B.admits bay.old bay.new }
@@ -123,6 +126,7 @@ fn find_leaf<B: Bay>(path: &[u8], bay: &mut B) -> Result<Option<B::Leaf>, LoadFa
     ensures kept { OnOk result (B.failed bay.new ≡ B.failed bay.old) }
     ensures quiet { OnOk result (B.faults bay.new ≡ B.faults bay.old) }
     ensures count { NeverFalls (B.faults bay.old) (B.faults bay.new) }
+    ensures once { MeetsOnce (B.faults bay.old) (B.faults bay.new) }
     ensures header { B.header bay.new ≡ B.header bay.old }
     ensures files { B.files bay.new ≡ B.files bay.old }
     ensures admits { StillAdmits B.admits bay.old bay.new }
@@ -165,6 +169,7 @@ fn read_rows<L: Leaf, R: Reader<L>>(
         (table_bytes (row_count (placing_of header.now)))) }
     ensures quiet { OnOk result (R.faults reader.new ≡ R.faults reader.old) }
     ensures count { NeverFalls (R.faults reader.old) (R.faults reader.new) }
+    ensures once { MeetsOnce (R.faults reader.old) (R.faults reader.new) }
 {
     let len = leaf.len();
     read_front(table_len(header).min(len), leaf, front, reader)?;
@@ -193,6 +198,7 @@ fn read_front<L: Leaf, R: Reader<L>>(
     ensures asked { OnOk result (AskedFor (R.asked reader.old) (R.asked reader.new) count) }
     ensures quiet { OnOk result (R.faults reader.new ≡ R.faults reader.old) }
     ensures count { NeverFalls (R.faults reader.old) (R.faults reader.new) }
+    ensures once { MeetsOnce (R.faults reader.old) (R.faults reader.new) }
 {
     front.resize(count as usize, 0)?;
     match reader.read_at(leaf, 0, front) {

@@ -1,5 +1,5 @@
 ghost use Rattle.std.specs.Prelude.{◌≡◌, ◌≢◌, ◌↔◌, ◌*◌, ◌≤◌, None, Ok, Some, Err, IfErr, IfOk, IfSome, OnErr, OnOk, length};
-ghost use Rattle.idx_outside.specs.Cause.{MadeReads, NeverFalls, Rose};
+ghost use Rattle.idx_outside.specs.Cause.{MadeReads, MeetsOnce, NeverFalls, Rose};
 ghost use Rattle.idx_outside.specs.Files.{StillAdmits, shown};
 ghost use Rattle.idx_outside.specs.declared.bay_call.BayCall.{BayCall};
 ghost use Rattle.idx_header.specs.Header.{HasTime};
@@ -58,7 +58,9 @@ impl<L: Leaf> Edition<L> {
         ensures quiet { OnOk result (B.faults bay.new ≡ B.faults bay.old) }
         ensures reader_quiet { OnOk result (R.faults reader.new ≡ R.faults reader.old) }
         ensures count { NeverFalls (B.faults bay.old) (B.faults bay.new) }
+        ensures once { MeetsOnce (B.faults bay.old) (B.faults bay.new) }
         ensures reader_count { NeverFalls (R.faults reader.old) (R.faults reader.new) }
+        ensures reader_once { MeetsOnce (R.faults reader.old) (R.faults reader.new) }
         ensures header { B.header bay.new ≡ B.header bay.old }
         ensures files { B.files bay.new ≡ B.files bay.old }
         ensures admits { StillAdmits B.admits bay.old bay.new }
@@ -94,6 +96,7 @@ fn newest_header<B: Bay>(
     ensures kept { OnOk result (B.failed bay.new ≡ B.failed bay.old) }
     ensures quiet { OnOk result (B.faults bay.new ≡ B.faults bay.old) }
     ensures count { NeverFalls (B.faults bay.old) (B.faults bay.new) }
+    ensures once { MeetsOnce (B.faults bay.old) (B.faults bay.new) }
     ensures header { B.header bay.new ≡ B.header bay.old }
     ensures files { B.files bay.new ≡ B.files bay.old }
     ensures admits { StillAdmits B.admits bay.old bay.new }

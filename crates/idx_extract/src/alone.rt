@@ -1,5 +1,5 @@
 ghost use Rattle.std.specs.Prelude.{◌≡◌, ◌+◌, ◌<◌, ◌≤◌, ◌++◌, None, IfErr, IfOk, IfSome, OnErr, OnOk, length};
-ghost use Rattle.idx_outside.specs.Cause.{MadeReads, NeverFalls};
+ghost use Rattle.idx_outside.specs.Cause.{MadeReads, MeetsOnce, NeverFalls};
 ghost use Rattle.idx_layout.specs.Shape.{shape_of};
 ghost use Rattle.idx_plan.specs.Answer.{answer_of};
 ghost use Rattle.idx_plan.specs.Needed.{answer_bytes, needed, plan_fault};
@@ -47,6 +47,7 @@ pub(crate) fn answer_alone<E: Blocks + Drop, R: Reader<E::Leaf>>(
     ensures few_reads { OnErr result
         (ReadsAtMost (R.reads reader.old) (R.reads reader.new) (length (needed header.now ask.now))) }
     ensures count { NeverFalls (R.faults reader.old) (R.faults reader.new) }
+    ensures reader_once { MeetsOnce (R.faults reader.old) (R.faults reader.new) }
     ensures quiet { OnOk result (R.faults reader.new ≡ R.faults reader.old) }
 {
     let lengths = block_lengths(alloc, header)?;

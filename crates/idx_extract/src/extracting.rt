@@ -1,5 +1,5 @@
 ghost use Rattle.std.specs.Prelude.{◌≡◌, ◌≢◌, ◌<◌, ◌≤◌, Err, IfErr, IfOk, OnErr};
-ghost use Rattle.idx_outside.specs.Cause.{NeverFalls};
+ghost use Rattle.idx_outside.specs.Cause.{MeetsOnce, NeverFalls};
 ghost use Rattle.idx_outside.specs.Files.{StillAdmits};
 ghost use Rattle.idx_extract.specs.Extract.{Extracted, IsCause, IsUnread, ReadsFew, known};
 
@@ -39,7 +39,9 @@ pub fn extract<B: Bay, R: Reader<B::Leaf>>(
     ensures bay_answered { B.faults bay.old < B.faults bay.new → result ≡ Err ExtractFault.StoreFault }
     ensures reader_answered { R.faults reader.old < R.faults reader.new → result ≡ Err ExtractFault.StoreFault }
     ensures bay_count { NeverFalls (B.faults bay.old) (B.faults bay.new) }
+    ensures bay_once { MeetsOnce (B.faults bay.old) (B.faults bay.new) }
     ensures reader_count { NeverFalls (R.faults reader.old) (R.faults reader.new) }
+    ensures reader_once { MeetsOnce (R.faults reader.old) (R.faults reader.new) }
 
     // Nothing of the dataset is changed. A fault of the store alone may be the bay's, which names the call that counted it.
     ensures failed { result ≢ Err ExtractFault.StoreFault → B.failed bay.new ≡ B.failed bay.old }

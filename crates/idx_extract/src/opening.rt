@@ -1,5 +1,5 @@
 ghost use Rattle.std.specs.Prelude.{◌≡◌, ◌≢◌, ◌<◌, ◌≤◌, None, Some, Err, IfErr, IfOk, IfSome, OnErr, OnOk, length};
-ghost use Rattle.idx_outside.specs.Cause.{MadeReads, NeverFalls};
+ghost use Rattle.idx_outside.specs.Cause.{MadeReads, MeetsOnce, NeverFalls};
 ghost use Rattle.idx_outside.specs.Files.{StillAdmits, shown};
 ghost use Rattle.idx_layout.specs.Shape.{shape_of};
 ghost use Rattle.idx_edition.specs.Loaded.{HoldsStored};
@@ -47,7 +47,9 @@ pub(crate) fn open_step<B: Bay, R: Reader<B::Leaf>>(
     ensures kept { OnOk result (B.failed bay.new ≡ B.failed bay.old) }
     ensures reader_quiet { OnOk result (R.faults reader.new ≡ R.faults reader.old) }
     ensures bay_count { NeverFalls (B.faults bay.old) (B.faults bay.new) }
+    ensures bay_once { MeetsOnce (B.faults bay.old) (B.faults bay.new) }
     ensures reader_count { NeverFalls (R.faults reader.old) (R.faults reader.new) }
+    ensures reader_once { MeetsOnce (R.faults reader.old) (R.faults reader.new) }
     ensures header { B.header bay.new ≡ B.header bay.old }
     ensures files { B.files bay.new ≡ B.files bay.old }
     ensures admits { StillAdmits B.admits bay.old bay.new }

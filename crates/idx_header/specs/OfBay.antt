@@ -1,6 +1,6 @@
 -- What reading the header of a bay promises, by what is known of the header's text and by the counts of the bay's faults.
 use Rattle.std.specs.Prelude.{◌≡◌, ◌≢◌, ℕ, Bool, true, false, List, [], Option, Some, None, IfSome, Result, Ok, Err, OnOk}
-use Rattle.idx_outside.specs.Cause.{AnswersRise, NeverFalls, Rose}
+use Rattle.idx_outside.specs.Cause.{AnswersRise, MeetsOnce, NeverFalls, Rose}
 use Rattle.idx_outside.specs.Files.{StillAdmits}
 use Rattle.idx_outside.specs.declared.mem_file.MemFile.{MemFile}
 use Rattle.idx_header.specs.Header.{HeaderValue}
@@ -60,5 +60,6 @@ pub record OnlyAsks {S T : Type 0} (header : S → Option (List ℕ)) (files : S
   pub files_same : files new ≡ files old
   pub admits_still : StillAdmits admits old new
   pub count : NeverFalls (faults old) (faults new)
+  pub once : MeetsOnce (faults old) (faults new)
   pub quiet : OnOk result (faults new ≡ faults old)
   pub answered : AnswersRise result Outage (faults old) (faults new)

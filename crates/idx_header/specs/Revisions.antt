@@ -3,7 +3,7 @@
 use Rattle.std.specs.Prelude.{◌≡◌, ℕ, zero, suc, ◌<◌, ◌==◌, nat_lt, if◌then◌else◌, Bool, List, Option, Some, None, Result, OnOk, IsErrOf}
 use Rattle.std.specs.List.{prefix_len, range_with_len}
 use Rattle.idx_outside.specs.Calls.{counts_none, last_failed}
-use Rattle.idx_outside.specs.Cause.{NeverFalls, OnlyWhereRose}
+use Rattle.idx_outside.specs.Cause.{MeetsOnce, NeverFalls, OnlyWhereRose}
 use Rattle.idx_outside.specs.Files.{StillAdmits, has_folder}
 use Rattle.idx_outside.specs.declared.bay_call.BayCall.{BayCall}
 use Rattle.idx_outside.specs.declared.bay_call.BayCall.TheVariants.{HasStep}
@@ -61,6 +61,7 @@ pub record AsksSteps {S T : Type 0} (header : S → Option (List ℕ)) (files : 
   pub changes_same : changes new ≡ changes old
   pub failed_is : failed new ≡ last_failed HasStep (counts_none result) (failed old)
   pub count : NeverFalls (faults old) (faults new)
+  pub once : MeetsOnce (faults old) (faults new)
   pub quiet : OnOk result (faults new ≡ faults old)
   pub no_memory : IsErrOf result NoMemory → faults new ≡ faults old
   pub cause : OnlyWhereRose result Outage (faults old) (faults new)

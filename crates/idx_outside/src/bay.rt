@@ -2,7 +2,7 @@ ghost use Rattle.std.specs.Prelude.{◌≡◌, ◌↔◌, ◌⊎◌, ℕ, ◌<�
 ghost use Rattle.std.specs.Io.{StartsWith};
 ghost use Rattle.std.specs.Option.{ForSome};
 ghost use Rattle.idx_outside.specs.Calls.{counts_none, last_failed};
-ghost use Rattle.idx_outside.specs.Cause.{NeverFalls, Rose, OnlyWhereRose};
+ghost use Rattle.idx_outside.specs.Cause.{MeetsOnce, NeverFalls, Rose, OnlyWhereRose};
 ghost use Rattle.idx_outside.specs.Files.{retold, added, known_with, HasStep, LiesIn, AllLieIn, AllNamed, StillAdmits, file_at, stored_at, leaf_files};
 ghost use Rattle.idx_outside.specs.declared.bay_call.BayCall.{BayCall};
 ghost use Rattle.idx_outside.specs.declared.mem_file.MemFile.{MemFile};
@@ -56,6 +56,7 @@ pub trait Bay {
         ensures changes { changes self.new ≡ changes self.old }
         ensures failed { failed self.new ≡ last_failed BayCall.Header (counts_none result) (failed self.old) }
         ensures count { NeverFalls (faults self.old) (faults self.new) }
+        ensures once { MeetsOnce (faults self.old) (faults self.new) }
         ensures quiet { OnOk result (faults self.new ≡ faults self.old) }
         ensures no_memory { IsErrOf result BayFault.NoMemory → faults self.new ≡ faults self.old }
         ensures cause { OnlyWhereRose result BayFault.Outage (faults self.old) (faults self.new) };
@@ -71,6 +72,7 @@ pub trait Bay {
         ensures changes { changes self.new ≡ (changes self.old + 1) % 2 ^ 64 }
         ensures failed { failed self.new ≡ last_failed BayCall.SetHeader (is_ok result) (failed self.old) }
         ensures count { NeverFalls (faults self.old) (faults self.new) }
+        ensures once { MeetsOnce (faults self.old) (faults self.new) }
         ensures quiet { OnOk result (faults self.new ≡ faults self.old) }
         ensures cause { OnErr result (Rose (faults self.old) (faults self.new)) };
 
@@ -85,6 +87,7 @@ pub trait Bay {
         ensures changes { changes self.new ≡ changes self.old }
         ensures failed { failed self.new ≡ last_failed BayCall.HasStep (is_ok result) (failed self.old) }
         ensures count { NeverFalls (faults self.old) (faults self.new) }
+        ensures once { MeetsOnce (faults self.old) (faults self.new) }
         ensures quiet { OnOk result (faults self.new ≡ faults self.old) }
         ensures cause { OnErr result (Rose (faults self.old) (faults self.new)) };
 
@@ -100,6 +103,7 @@ pub trait Bay {
         ensures changes { changes self.new ≡ (changes self.old + 1) % 2 ^ 64 }
         ensures failed { failed self.new ≡ last_failed BayCall.BeginStep (is_ok result) (failed self.old) }
         ensures count { NeverFalls (faults self.old) (faults self.new) }
+        ensures once { MeetsOnce (faults self.old) (faults self.new) }
         ensures quiet { OnOk result (faults self.new ≡ faults self.old) }
         ensures cause { OnErr result (Rose (faults self.old) (faults self.new)) };
 
@@ -116,6 +120,7 @@ pub trait Bay {
         ensures changes { changes self.new ≡ (changes self.old + 1) % 2 ^ 64 }
         ensures failed { failed self.new ≡ last_failed BayCall.Create (counts_none result) (failed self.old) }
         ensures count { NeverFalls (faults self.old) (faults self.new) }
+        ensures once { MeetsOnce (faults self.old) (faults self.new) }
         ensures quiet { OnOk result (faults self.new ≡ faults self.old) }
         ensures no_memory { IsErrOf result BayFault.NoMemory → faults self.new ≡ faults self.old }
         ensures cause { OnlyWhereRose result BayFault.Outage (faults self.old) (faults self.new) };
@@ -135,6 +140,7 @@ pub trait Bay {
         ensures changes { changes self.new ≡ changes self.old }
         ensures failed { failed self.new ≡ last_failed BayCall.Leaf (counts_none result) (failed self.old) }
         ensures count { NeverFalls (faults self.old) (faults self.new) }
+        ensures once { MeetsOnce (faults self.old) (faults self.new) }
         ensures quiet { OnOk result (faults self.new ≡ faults self.old) }
         ensures no_memory { IsErrOf result BayFault.NoMemory → faults self.new ≡ faults self.old }
         ensures cause { OnlyWhereRose result BayFault.Outage (faults self.old) (faults self.new) };
@@ -157,6 +163,7 @@ pub trait Bay {
         ensures changes { changes self.new ≡ (changes self.old + 1) % 2 ^ 64 }
         ensures failed { failed self.new ≡ last_failed BayCall.Commit (counts_none result) (failed self.old) }
         ensures count { NeverFalls (faults self.old) (faults self.new) }
+        ensures once { MeetsOnce (faults self.old) (faults self.new) }
         ensures quiet { OnOk result (faults self.new ≡ faults self.old) }
         ensures no_memory { IsErrOf result BayFault.NoMemory → faults self.new ≡ faults self.old }
         ensures cause { OnlyWhereRose result BayFault.Outage (faults self.old) (faults self.new) };
@@ -166,6 +173,7 @@ pub trait Bay {
         ensures rose { 0 < Self.Draft.faults draft → Rose (faults self.old) (faults self.new) }
         ensures same { Self.Draft.faults draft ≡ 0 → faults self.new ≡ faults self.old }
         ensures count { NeverFalls (faults self.old) (faults self.new) }
+        ensures once { MeetsOnce (faults self.old) (faults self.new) }
         ensures header { header self.new ≡ header self.old }
         ensures files { files self.new ≡ files self.old }
         ensures begun { begun self.new ≡ begun self.old }

@@ -1,5 +1,5 @@
 ghost use Rattle.std.specs.Prelude.{◌≡◌, ◌↔◌, ℕ, ◌+◌, ◌<◌, ◌%◌, ◌^◌, List, Bool, false, Option, length, slice_index, replicate, IfSome, IfOk, OnOk, OnErr};
-ghost use Rattle.idx_outside.specs.Cause.{NeverFalls, Rose};
+ghost use Rattle.idx_outside.specs.Cause.{MeetsOnce, NeverFalls, Rose};
 ghost use Rattle.idx_outside.specs.Shape.{Shape};
 
 use crate::{Leaf, Outage, Reader};
@@ -57,6 +57,7 @@ pub trait Blocks {
         ensures failed_asked { OnErr result (R.asked reader.new ≡ (R.asked reader.old + length into.old) % 2 ^ 64) }
         ensures failed_read { OnErr result (R.reads reader.new ≡ (R.reads reader.old + 1) % 2 ^ 64) }
         ensures count { NeverFalls (R.faults reader.old) (R.faults reader.new) }
+        ensures once { MeetsOnce (R.faults reader.old) (R.faults reader.new) }
         ensures quiet { OnOk result (R.faults reader.new ≡ R.faults reader.old) }
         ensures cause { OnErr result (Rose (R.faults reader.old) (R.faults reader.new)) };
 }

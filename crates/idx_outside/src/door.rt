@@ -1,5 +1,5 @@
 ghost use Rattle.std.specs.Prelude.{◌≡◌, ℕ, Option, IfOk, OnOk, OnErr};
-ghost use Rattle.idx_outside.specs.Cause.{NeverFalls, Rose};
+ghost use Rattle.idx_outside.specs.Cause.{MeetsOnce, NeverFalls, Rose};
 ghost use Rattle.idx_outside.specs.Doors.{Accepts, DoorTold, finishing};
 
 use crate::{Link, Outage, Served};
@@ -21,6 +21,7 @@ pub trait Door {
         ensures next { IfOk result (λ next. Accepts (told self.old) next (told self.new)) }
         ensures refused { OnErr result (told self.new ≡ told self.old) }
         ensures count { NeverFalls (faults self.old) (faults self.new) }
+        ensures once { MeetsOnce (faults self.old) (faults self.new) }
         ensures quiet { OnOk result (faults self.new ≡ faults self.old) }
         ensures cause { OnErr result (Rose (faults self.old) (faults self.new)) };
 

@@ -1,5 +1,5 @@
 ghost use Rattle.std.specs.Prelude.{◌≡◌, ℕ, ◌<◌, ◌≤◌, List, [], Option, length, take, IfSome, IfOk, OnOk, OnErr};
-ghost use Rattle.idx_outside.specs.Cause.{NeverFalls, Rose};
+ghost use Rattle.idx_outside.specs.Cause.{MeetsOnce, NeverFalls, Rose};
 ghost use Rattle.idx_outside.specs.Contents.{appended, AppendsPrefix};
 ghost use Rattle.idx_outside.specs.Input.{Reading, behind, read_once_more};
 
@@ -34,6 +34,7 @@ pub trait Link {
         ensures readings { readings self.new
             ≡ read_once_more (readings self.old) (incoming self.old) (written self.old) }
         ensures count { NeverFalls (faults self.old) (faults self.new) }
+        ensures once { MeetsOnce (faults self.old) (faults self.new) }
         ensures quiet { OnOk result (faults self.new ≡ faults self.old) }
         ensures cause { OnErr result (Rose (faults self.old) (faults self.new)) };
 
@@ -44,6 +45,7 @@ pub trait Link {
         ensures incoming { incoming self.new ≡ incoming self.old }
         ensures readings { readings self.new ≡ readings self.old }
         ensures count { NeverFalls (faults self.old) (faults self.new) }
+        ensures once { MeetsOnce (faults self.old) (faults self.new) }
         ensures quiet { OnOk result (faults self.new ≡ faults self.old) }
         ensures cause { OnErr result (Rose (faults self.old) (faults self.new)) };
 

@@ -1,5 +1,5 @@
 ghost use Rattle.std.specs.Prelude.{◌≡◌, ℕ, List, Option, OnOk, OnErr};
-ghost use Rattle.idx_outside.specs.Cause.{NeverFalls, Rose};
+ghost use Rattle.idx_outside.specs.Cause.{MeetsOnce, NeverFalls, Rose};
 ghost use Rattle.idx_outside.specs.Contents.{appended, AppendsPrefix};
 
 use crate::Outage;
@@ -19,6 +19,7 @@ pub trait Sink {
         ensures written { OnOk result (contents self.new ≡ appended (contents self.old) piece.now) }
         ensures prefix { OnErr result (AppendsPrefix (contents self.old) (contents self.new) piece.now) }
         ensures count { NeverFalls (faults self.old) (faults self.new) }
+        ensures once { MeetsOnce (faults self.old) (faults self.new) }
         ensures quiet { OnOk result (faults self.new ≡ faults self.old) }
         ensures cause { OnErr result (Rose (faults self.old) (faults self.new)) };
 

@@ -1,6 +1,6 @@
 ghost use Rattle.std.specs.Prelude.{◌≡◌, ℕ, ◌+◌, ◌≤◌, ◌%◌, ◌^◌, List, Option, length, take, drop, IfSome, IfOk, OnOk, OnErr};
 ghost use Rattle.std.specs.Option.{ForSome};
-ghost use Rattle.idx_outside.specs.Cause.{NeverFalls, Rose};
+ghost use Rattle.idx_outside.specs.Cause.{MeetsOnce, NeverFalls, Rose};
 
 use crate::Outage;
 
@@ -23,6 +23,7 @@ pub trait Source {
         ensures contents { contents self.new ≡ contents self.old }
         ensures asked { asked self.new ≡ asked self.old }
         ensures count { NeverFalls (faults self.old) (faults self.new) }
+        ensures once { MeetsOnce (faults self.old) (faults self.new) }
         ensures quiet { OnOk result (faults self.new ≡ faults self.old) }
         ensures cause { OnErr result (Rose (faults self.old) (faults self.new)) };
 
@@ -35,6 +36,7 @@ pub trait Source {
         ensures contents { contents self.new ≡ contents self.old }
         ensures asked { asked self.new ≡ (asked self.old + length into.old) % 2 ^ 64 }
         ensures count { NeverFalls (faults self.old) (faults self.new) }
+        ensures once { MeetsOnce (faults self.old) (faults self.new) }
         ensures quiet { OnOk result (faults self.new ≡ faults self.old) }
         ensures cause { OnErr result (Rose (faults self.old) (faults self.new)) };
 

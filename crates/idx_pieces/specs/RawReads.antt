@@ -1,7 +1,7 @@
 -- What reads of a raw volume leave of it, and how much they ask for.
 use Rattle.std.specs.Prelude.{◌≡◌, ℕ, ◌≤◌, List, length, Option, IfErr, OnOk, Result}
 use Rattle.std.specs.Option.{ForSome}
-use Rattle.idx_outside.specs.Cause.{AskedFor, NeverFalls, Rose}
+use Rattle.idx_outside.specs.Cause.{AskedFor, MeetsOnce, NeverFalls, Rose}
 use Rattle.idx_header.specs.Header.{HeaderValue, volume_bytes}
 use Rattle.idx_pieces.specs.declared.raw_refusal.RawRefusal.{RawRefusal}
 use Rattle.idx_pieces.specs.declared.raw_refusal.RawRefusal.TheVariants.{RawFault, NoMemory}
@@ -16,10 +16,11 @@ IsRefused before after (RawFault faults) = (faults ≡ after) × Rose before aft
 IsRefused before after NoMemory = after ≡ before
 
 -- The bytes of a raw volume and its count of faults, before and after, by the answer: the bytes are the same, the count never
--- falls, stands still at Ok, and each refusal has its cause.
+-- falls, stands still at Ok, rises by one at most, and each refusal has its cause.
 pub record KeepsRaw {T : Type 0} (told_before told_after : Option (List ℕ)) (before after : ℕ) (result : Result T RawRefusal) : Type 0 where
   pub contents : told_after ≡ told_before
   pub count : NeverFalls before after
+  pub once : MeetsOnce before after
   pub quiet : OnOk result (after ≡ before)
   pub refused : IfErr result (IsRefused before after)
 

@@ -1,5 +1,5 @@
 ghost use Rattle.std.specs.Prelude.{◌≡◌, ◌<◌, ◌≤◌, Err, IfErr, IfOk, IfSome, OnOk};
-ghost use Rattle.idx_outside.specs.Cause.{NeverFalls, Rose};
+ghost use Rattle.idx_outside.specs.Cause.{MeetsOnce, NeverFalls, Rose};
 ghost use Rattle.idx_raw.specs.Cut.{HasOtherSize, HasSize, IsCause, IsSound, IsWrongSize, cut_output};
 ghost use Rattle.idx_raw.specs.Reads.{AreSamples, FitsIn};
 
@@ -33,6 +33,7 @@ pub fn cut<V: Source>(alloc: Global, cut: &Cut, raw: &mut V) -> Result<Vec<u8>, 
 
     ensures contents { V.contents raw.new ≡ V.contents raw.old }
     ensures count { NeverFalls (V.faults raw.old) (V.faults raw.new) }
+    ensures once { MeetsOnce (V.faults raw.old) (V.faults raw.new) }
 {
     let want = cut.volume_bytes();
     let Ok(found) = raw.len() else {
@@ -59,6 +60,7 @@ fn read_answer<V: Source>(alloc: Global, cut: &Cut, raw: &mut V) -> Result<Vec<u
     ensures quiet { OnOk result (V.faults raw.new ≡ V.faults raw.old) }
     ensures no_memory { result ≡ Err ReadFault.NoMemory → V.faults raw.new ≡ V.faults raw.old }
     ensures outage { result ≡ Err ReadFault.Outage → Rose (V.faults raw.old) (V.faults raw.new) }
+    ensures once { MeetsOnce (V.faults raw.old) (V.faults raw.new) }
 {
     match walk(
         &cut.mask,
@@ -82,6 +84,7 @@ fn read_walk<V: Source>(alloc: Global, strides: &Strides, raw: &mut V) -> Result
     ensures quiet { OnOk result (V.faults raw.new ≡ V.faults raw.old) }
     ensures no_memory { result ≡ Err ReadFault.NoMemory → V.faults raw.new ≡ V.faults raw.old }
     ensures outage { result ≡ Err ReadFault.Outage → Rose (V.faults raw.old) (V.faults raw.new) }
+    ensures once { MeetsOnce (V.faults raw.old) (V.faults raw.new) }
 {
     let bytes = (strides.count() * strides.size()) as usize;
     let Ok(mut samples) = Vec::from_elem(alloc, 0u8, bytes) else {

@@ -1,5 +1,5 @@
 ghost use Rattle.std.specs.Prelude.{◌≡◌, ◌*◌, ◌<◌, ◌≤◌, Err, List, OnErr, OnOk, length};
-ghost use Rattle.idx_outside.specs.Cause.{Rose};
+ghost use Rattle.idx_outside.specs.Cause.{MeetsOnce, Rose};
 ghost use Rattle.idx_raw.specs.Reads.{AreSamples, FitsIn, span_of};
 ghost use Rattle.idx_stride.specs.Places.{progression};
 ghost use Rattle.idx_stride.specs.Strides.{offsets_of};
@@ -25,6 +25,7 @@ pub(crate) fn read_samples<V: Source>(
     ensures quiet { OnOk result (V.faults raw.new ≡ V.faults raw.old) }
     ensures no_memory { result ≡ Err ReadFault.NoMemory → V.faults raw.new ≡ V.faults raw.old }
     ensures outage { result ≡ Err ReadFault.Outage → Rose (V.faults raw.old) (V.faults raw.new) }
+    ensures once { MeetsOnce (V.faults raw.old) (V.faults raw.new) }
 {
     if strides.count() == 0 {
         return Ok(());
@@ -52,6 +53,7 @@ fn read_part<V: Source>(
     ensures contents { V.contents raw.new ≡ V.contents raw.old }
     ensures quiet { OnOk result (V.faults raw.new ≡ V.faults raw.old) }
     ensures outage { OnErr result (Rose (V.faults raw.old) (V.faults raw.new)) }
+    ensures once { MeetsOnce (V.faults raw.old) (V.faults raw.new) }
 {
     if strides.count() == 0 {
         return Ok(());
@@ -81,6 +83,7 @@ fn read_dense<V: Source>(strides: &Strides, raw: &mut V, out: &mut [u8]) -> Resu
     ensures contents { V.contents raw.new ≡ V.contents raw.old }
     ensures quiet { OnOk result (V.faults raw.new ≡ V.faults raw.old) }
     ensures outage { OnErr result (Rose (V.faults raw.old) (V.faults raw.new)) }
+    ensures once { MeetsOnce (V.faults raw.old) (V.faults raw.new) }
 {
     raw.read_at(strides.first(), out)
 }
@@ -99,6 +102,7 @@ fn read_by_window<V: Source>(
     ensures contents { V.contents raw.new ≡ V.contents raw.old }
     ensures quiet { OnOk result (V.faults raw.new ≡ V.faults raw.old) }
     ensures outage { OnErr result (Rose (V.faults raw.old) (V.faults raw.new)) }
+    ensures once { MeetsOnce (V.faults raw.old) (V.faults raw.new) }
 {
     let part = &mut window[..span(strides) as usize];
     raw.read_at(strides.first(), part)?;

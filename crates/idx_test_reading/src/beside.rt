@@ -121,6 +121,8 @@ impl<R: Wait> Turn<Hall<Wide>> for Beside<'_, R> {
 
     ghost shape = { λ s. s.chair.seat.seen.shape };
 
+    ghost capacity = { λ s. s.chair.seat.seen.capacity };
+
     ghost seen = { λ s. s.chair.seat.seen.posts };
 
     ghost may_add = { λ s. s.chair.seat.writer };
@@ -142,9 +144,11 @@ impl<R: Wait> Turn<Hall<Wide>> for Beside<'_, R> {
     }
 
     fn give(&mut self, held: Held<Hall<Wide>>)
-        requires { MayGive (given_by self.old.chair) self.old.chair.seat.writer (stand held.shape held.board) }
+        requires { MayGive (given_by self.old.chair) self.old.chair.seat.writer
+            (stand held.shape held.cache.cap held.board) }
         ensures kept { false ≡ true → None ≡ Some held }
         ensures shape { self.new.chair.seat.seen.shape ≡ self.old.chair.seat.seen.shape }
+        ensures capacity { self.new.chair.seat.seen.capacity ≡ self.old.chair.seat.seen.capacity }
         ensures seen { self.new.chair.seat.seen.posts ≡ held.board }
         ensures may_add { self.new.chair.seat.writer ≡ self.old.chair.seat.writer }
         ensures lock { Some self.new.chair.seat.lock ≡ Some self.old.chair.seat.lock }

@@ -1,5 +1,5 @@
 ghost use Rattle.std.specs.Prelude.{◌≡◌, None, OnErr, OnOk};
-ghost use Rattle.idx_outside.specs.Cause.{NeverFalls, Rose};
+ghost use Rattle.idx_outside.specs.Cause.{MeetsOnce, NeverFalls, Rose};
 
 use idx_outside::{Bytes, Outage, Source};
 
@@ -35,6 +35,7 @@ impl Volume {
     fn call(&mut self) -> Result<(), Outage>
         ensures asked { self.new.asked ≡ self.old.asked }
         ensures count { NeverFalls self.old.faults self.new.faults }
+        ensures once { MeetsOnce self.old.faults self.new.faults }
         ensures quiet { OnOk result (self.new.faults ≡ self.old.faults) }
         ensures cause { OnErr result (Rose self.old.faults self.new.faults) }
     {
@@ -49,6 +50,7 @@ impl Volume {
     fn fault(&mut self) -> Outage
         ensures asked { self.new.asked ≡ self.old.asked }
         ensures count { NeverFalls self.old.faults self.new.faults }
+        ensures once { MeetsOnce self.old.faults self.new.faults }
         ensures cause { Rose self.old.faults self.new.faults }
     {
         self.faults = self.faults.saturating_add(1);

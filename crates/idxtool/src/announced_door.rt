@@ -2,6 +2,7 @@ ghost use Rattle.std.specs.Prelude.{◌≡◌, ◌↔◌, ◌<◌, None, Some, I
 ghost use Rattle.idx_outside.specs.Cause.{counted, NeverFalls, Rose};
 ghost use Rattle.idx_real.specs.DoorState.{one_less};
 ghost use Rattle.idx_real.specs.Faults.{no_faults};
+ghost use Rattle.idx_real.specs.LinkState.{most_read};
 
 use idx_outside::{Bay, Door, Outage, Served};
 use idx_real::{Fault, Sockets, TcpDoor, TcpLink};
@@ -62,6 +63,7 @@ impl<R: Sockets, B: Bay + Drop, W: Write + Drop> Door for AnnouncedDoor<R, B, W>
         ensures none { IfOk result (λ next. IsNone next ↔ (self.old.left ≡ Some 0)) }
         ensures ended { self.old.left ≡ Some 0 → IsOk result }
         ensures fresh { IfOk result (λ next. IfSome next (λ link. link.faults ≡ no_faults)) }
+        ensures unread { IfOk result (λ next. IfSome next (λ link. link.left ≡ most_read)) }
         ensures address { self.new.address ≡ self.old.address }
         ensures left { self.new.left ≡ (if is_ok result then one_less self.old.left else self.old.left) }
         ensures quiet { OnOk result (self.new.faults ≡ self.old.faults) }

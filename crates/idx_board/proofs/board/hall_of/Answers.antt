@@ -1,5 +1,4 @@
-use Rattle.std.proofs.Common.{◌≡◌, ◌∙◌, ◌+◌, ◌<◌, arith, subst, sym}
-use Rattle.idx_edition.specs.Loaded.{Counts, counts}
+use Rattle.std.proofs.Common.{◌∙◌}
 use Rattle.idx_board.proofs.BoardLemmas.{board_on, cause_on, reads_on, sound_on, times_on}
 use Rattle.idx_board.proofs.board.hall_of.Goals as goal
 

@@ -1,4 +1,4 @@
-use Rattle.std.proofs.Common.{◌≡◌, ◌≢◌, ◌∙◌, Some, None, refl, subst, sym}
+use Rattle.std.proofs.Common.{◌≡◌, refl, subst, sym}
 use Rattle.idx_outside.specs.Files.{shown}
 use Rattle.idx_hall.specs.Posts.{Lacks}
 use Rattle.idx_edition.specs.Tables.{has_in_tables, shape_in, stored_in}

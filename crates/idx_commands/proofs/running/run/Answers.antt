@@ -1,6 +1,6 @@
 use Rattle.std.proofs.Common.{ap, map, refl, string_bytes, sym, ◌∙◌}
 use Rattle.idx_commands.specs.Cause.{status_of}
-use Rattle.idx_commands.proofs.RunLemmas.{counts_faults, cut_off, leaves_rest, no_usage, same_ok, silent, written}
+use Rattle.idx_commands.proofs.RunLemmas.{counts_faults, cut_off, leaves_rest, meets_once, no_usage, same_ok, silent, written}
 use Rattle.idx_commands.proofs.running.run.Goals as goal
 
 pub returns-in-Ok-clause-done : goal.returns-in-Ok-clause-done
@@ -38,4 +38,10 @@ pub returns-in-Ok-clause-rest : goal.returns-in-Ok-clause-rest
 returns-in-Ok-clause-rest g c =
     let given = c.in-Ok.ensures.read c.in-Ok.command in
     leaves_rest (map string_bytes c.args.words.now) _ c.in-Ok.command (given.0 refl)
+    (λ other gives. let also = c.in-Ok.ensures.read other in same_ok _ c.in-Ok.command other refl (also.1 gives)) _ c.run_command.ensures.ends
+
+pub returns-in-Ok-clause-once : goal.returns-in-Ok-clause-once
+returns-in-Ok-clause-once g c =
+    let given = c.in-Ok.ensures.read c.in-Ok.command in
+    meets_once (map string_bytes c.args.words.now) _ c.in-Ok.command (given.0 refl)
     (λ other gives. let also = c.in-Ok.ensures.read other in same_ok _ c.in-Ok.command other refl (also.1 gives)) _ c.run_command.ensures.ends

@@ -1,4 +1,5 @@
 use Rattle.std.proofs.Common.{List, None, ap, map, refl, slice_index_or, subst, ℕ}
+use Rattle.idx_outside.specs.Counts.{EachMeetsOnce}
 use Rattle.idx_gather.specs.Gather.{NoneFalls}
 use Rattle.idx_convert.specs.Convert.{Ends}
 use Rattle.idx_convert.specs.Known.{known_of}
@@ -36,3 +37,7 @@ returns-in_err-place-clause-ends g c =
 pub returns-clause-raw_count : goal.returns-clause-raw_count
 returns-clause-raw_count g c =
     subst (λ (counts : List ℕ). NoneFalls counts (map g.V.Source.faults c.add_step.new.raws.items)) c.in_ok-place.ensures.raw_quiet c.add_step.ensures.raw_count
+
+pub returns-clause-raw_once : goal.returns-clause-raw_once
+returns-clause-raw_once g c =
+    subst (λ (counts : List ℕ). EachMeetsOnce counts (map g.V.Source.faults c.add_step.new.raws.items)) c.in_ok-place.ensures.raw_quiet c.add_step.ensures.raw_once

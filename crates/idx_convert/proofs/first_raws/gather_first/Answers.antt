@@ -3,7 +3,7 @@ use Rattle.std.specs.Prelude.{IfErr, OnOk}
 use Rattle.std.proofs.lemmas.Grind.{common_steps}
 use Rattle.std.proofs.lemmas.Result.{on_ok_weaker}
 use Rattle.idx_gather.specs.Gather.{LeavesAs, SomeStepAddedAs}
-use Rattle.idx_convert.proofs.FirstLemmas.{Parted, as_many, caused_all, contents_first, first_alike, idle_all, none_falls_all, same_all}
+use Rattle.idx_convert.proofs.FirstLemmas.{Parted, as_many, caused_all, contents_first, each_met_all, first_alike, idle_all, none_falls_all, same_all}
 use Rattle.idx_convert.proofs.first_raws.gather_first.Goals as goal
 use Rattle.idx_convert.proofs.first_raws.gather_first.Goals.{After-put_back}
 
@@ -62,3 +62,8 @@ pub returns-clause-raw_count : goal.returns-clause-raw_count
 returns-clause-raw_count g c =
     none_falls_all c.args.raws.now.items c.put_back.new.into.items c.keep_first.new.from.items c.gather_as-gathered.new.raws.items c.keep_first.new.rest.items (parted g (goal.at.returns-clause-raw_count g c).After-put_back)
     g.V.Source.faults c.gather_as-gathered.ensures.raw_count
+
+pub returns-clause-raw_once : goal.returns-clause-raw_once
+returns-clause-raw_once g c =
+    each_met_all c.args.raws.now.items c.put_back.new.into.items c.keep_first.new.from.items c.gather_as-gathered.new.raws.items c.keep_first.new.rest.items (parted g (goal.at.returns-clause-raw_once g c).After-put_back)
+    g.V.Source.faults c.gather_as-gathered.ensures.raw_once

@@ -13,13 +13,13 @@ pub begin_all-requires-clause-axes : goal.begin_all-requires-clause-axes
 begin_all-requires-clause-axes g c = c.requires.axes
 
 pub returns-in_default-clause-raw : goal.returns-in_default-clause-raw
-returns-in_default-clause-raw g c = record { contents = refl; count = omega arith; quiet = tt; refused = refl }
+returns-in_default-clause-raw g c = record { contents = refl; count = omega arith; once = omega arith; quiet = tt; refused = refl }
 
 pub returns-in_default-clause-asked : goal.returns-in_default-clause-asked
 returns-in_default-clause-asked g c = λ first end le between. asks-none (g.V.Source.asked c.args.raw.now) _
 
 pub returns-in_default-from_elem-clause-raw : goal.returns-in_default-from_elem-clause-raw
-returns-in_default-from_elem-clause-raw g c = record { contents = refl; count = omega arith; quiet = tt; refused = refl }
+returns-in_default-from_elem-clause-raw g c = record { contents = refl; count = omega arith; once = omega arith; quiet = tt; refused = refl }
 
 pub returns-in_default-from_elem-clause-asked : goal.returns-in_default-from_elem-clause-asked
 returns-in_default-from_elem-clause-asked g c = λ first end le between. asks-none (g.V.Source.asked c.args.raw.now) _
@@ -87,6 +87,7 @@ pub returns-in-Ok-finished-clause-raw : goal.returns-in-Ok-finished-clause-raw
 returns-in-Ok-finished-clause-raw g c = record {
   contents = c.in_ok-read_fields.ensures.raw.contents;
   count = c.in_ok-read_fields.ensures.raw.count;
+  once = c.in_ok-read_fields.ensures.raw.once;
   quiet = c.in_ok-read_fields.ensures.raw.quiet;
   refused = tt;
 }
@@ -103,6 +104,7 @@ pub returns-clause-raw : goal.returns-clause-raw
 returns-clause-raw g c = record {
   contents = c.in_ok-read_fields.ensures.raw.contents;
   count = c.in_ok-read_fields.ensures.raw.count;
+  once = c.in_ok-read_fields.ensures.raw.once;
   quiet = tt;
   refused = c.in_ok-read_fields.ensures.raw.quiet;
 }
