@@ -585,6 +585,21 @@ def damage(bench: Bench, header: Header, path: bytes) -> None:
         os.mkdir(path)
 
 
+def put_extra(bench: Bench, header: Header, folder: bytes, step: int, revision: int) -> None:
+    """Puts a file where one of blocks would be that have no point of the box, where there is such a place."""
+    places = all_files_of_few(header) - set(reference.files_of_step(header))
+    if places:
+        path = os.path.join(folder, reference.file_path(header, step, bench.random.choice(sorted(places)), revision))
+        if not os.path.lexists(os.path.join(bench.folder, path)):
+            write(bench, path, bench.random.choice([b"", b"extra", bytes(header.table_size())]))
+
+
+def all_files_of_few(header: Header) -> set[int]:
+    """The files that all blocks would take, where these are not too many to be looked for."""
+    files = reference.all_files(header)
+    return set(files) if len(files) <= MOST_FILES else set()
+
+
 # Steps that are written again
 
 
@@ -721,9 +736,15 @@ def damage_a_revision(series: Series) -> None:
         damage(series.bench, series.header, path)
 
 
+def put_extra_file(series: Series) -> None:
+    """Puts a file into some revision that no conversion writes there."""
+    for revision in series.bench.random.sample(series.standing(), min(1, len(series.standing()))):
+        put_extra(series.bench, series.header, os.path.dirname(series.path), series.step, revision)
+
+
 CHANGES: list[Callable[[Series], None]] = [
     remove_a_revision, remove_a_revision, keep_the_newest, put_empty_revision, put_other_names, put_no_folder,
-    clear_the_way, leave_staged, leave_staged, damage_a_revision, damage_a_revision,
+    clear_the_way, leave_staged, leave_staged, damage_a_revision, damage_a_revision, put_extra_file, put_extra_file,
 ]
 """What can be done by hand between two conversions."""
 
@@ -1019,6 +1040,8 @@ def damages(bench: Bench) -> None:
             damage(bench, made.header, path)
         if paths and chance(random, 20) and not os.path.lexists(paths[0] + b".extra"):
             write(bench, paths[0] + b".extra", b"extra")
+        if made.header.time and made.step in commands.steps_of(made.header) and chance(random, 40):
+            put_extra(bench, made.header, os.path.dirname(made.path), made.step, 0)
         ask(bench, made, random.randint(1, 3))
 
 
@@ -1216,8 +1239,13 @@ def large_cuts(bench: Bench) -> None:
             bench.run([*words, b"%d" % low, b"%d" % high])
 
 
+def ranks_option(random: Random) -> list[bytes]:
+    """Two to nine ranks."""
+    return [b"--ranks", b"%d" % random.randint(2, 9)]
+
+
 def large_volumes(bench: Bench) -> None:
-    """A conversion of some megabytes, and questions."""
+    """A conversion of some megabytes by several ranks, and questions."""
     random = bench.random
     box = tuple((low, low + random.randint(10, 30)) for low in random.choices(range(20), k=3))
     mask, fields = draw_mask(random, box), [[b"a", b"float64[%d]" % random.randint(1, 8)], [b"b", b"int16"]]
@@ -1227,15 +1255,32 @@ def large_volumes(bench: Bench) -> None:
     made = Made(b"v.idx", dataset, texts, header_of(texts), 1)
     if made.header is not None:
         write(bench, b"r.raw", random.randbytes(reference.volume_size(made.header)))
-    convert(bench, made, 1)
+    bench.run([b"convert", made.path, b"r.raw", *texts, b"1", *ranks_option(random)])
     ask(bench, made, 3)
     bench.run([b"query", b"v.idx", b"1", b"a", texts[0], b"0", b"%d" % (len(mask) - 1)])
+
+
+def ragged_volumes(bench: Bench) -> None:
+    """A conversion of a box of more than 2^16 points and several fields by several ranks, in large blocks, and questions."""
+    random = bench.random
+    box = tuple((low, low + random.randint(40, 60)) for low in random.choices(range(4), k=3))
+    fields = [[b"a", b"int16"], [b"b", b"uint8[%d]" % random.randint(1, 3)], [b"c", random.choice([b"int8", b"float32"])]]
+    blocks_per_file = random.choice([1, 3, 8, 64])
+    dataset = Dataset(box, fields, draw_mask(random, box), random.randint(12, 16), blocks_per_file, b"%04x", (0, 1), b"t%01d/")
+    made = Made(b"v.idx", dataset, dataset.texts(random), header_of(dataset.texts(random)), 1)
+    write(bench, b"r.raw", random.randbytes(reference.volume_size(made.header)))
+    bench.run([b"convert", made.path, b"r.raw", *made.texts, b"1", *ranks_option(random)])
+    for name, _ in fields:
+        low, high = draw_levels(random, len(dataset.mask) - 1)
+        bench.run([b"query", made.path, b"1", name, box_text(random, draw_region(random, box)), b"%d" % low, b"%d" % high])
+    bench.run([b"query", made.path, b"1", b"b", made.texts[0], b"0", b"%d" % (len(dataset.mask) - 1)])
+    check(bench, made.path, made.header, 1)
 
 
 KINDS: list[tuple[int, Callable[[Bench], None]]] = [
     (25, conversions), (12, cuts), (10, second_conversions), (8, standing_headers), (12, damages), (8, odd_files),
     (14, headers), (8, asked_headers), (10, wrong_words), (6, others_in_place), (2, long_names), (3, sinks), (5, large),
-    (3, large_cuts), (2, large_volumes), (8, revisions), (3, revision_gaps), (2, revision_faults), (1, last_revisions),
+    (3, large_cuts), (2, large_volumes), (2, ragged_volumes), (8, revisions), (3, revision_gaps), (2, revision_faults), (1, last_revisions),
     (2, without_time), (1, rounds), (2, long_files), (2, drills),
 ]
 """The kinds of cases, each with how often it comes."""

@@ -11,6 +11,7 @@ import socket
 import stat
 from collections.abc import Callable, Sequence
 from dataclasses import dataclass, field
+from pathlib import Path
 
 from drill import drill_text
 from reference import (LARGEST_ANSWER, REVISIONS, Box, Header, HeaderFault, Refusal, all_files, answer, answer_size, asked_points,
@@ -241,12 +242,11 @@ def read_header(path: bytes) -> Header:
 class Outcome:
     """What a run leaves: its status, the first line on standard error, standard output, and the files that it wrote.
 
-    Where the output is None, the page does not say it word for word. An unfinished run may leave staged files. What was
-    staged at a path and stood there before is gone.
+    An unfinished run may leave staged files. What was staged at a path and stood there before is gone.
     """
     status: int = 0
     line: bytes | None = None
-    output: bytes | None = b""
+    output: bytes = b""
     files: dict[bytes, bytes] = field(default_factory=dict)
     unfinished: bool = False
     staged: bytes | None = None
@@ -450,14 +450,16 @@ def drill(words: Sequence[bytes], folder: bytes) -> Outcome:
     return Outcome(output=drill_text(int(words[1])))
 
 
+TEXTS = {b"--help": (Path(__file__).parent / "help.txt").read_bytes(), b"--version": b"idxtool 0.1.0\n"}
+"""What is printed for a word that stands alone."""
 COMMANDS = {b"cut": cut, b"info": info, b"convert": convert, b"query": query, b"check": check, b"serve": serve,
             b"drill": drill}
 
 
 def run(words: Sequence[bytes], folder: bytes) -> Outcome:
     """What the program does with these words in a folder, which this call only reads."""
-    if list(words) in ([b"--help"], [b"--version"]):
-        return Outcome(output=None)
+    if len(words) == 1 and words[0] in TEXTS:
+        return Outcome(output=TEXTS[words[0]])
     place = usage_fault(words)
     try:
         if place is not None:

@@ -5,8 +5,8 @@
 
 Headers with ends of lines of both kinds and of odd lengths are read. A conversion is stopped while it writes a timestep, and
 meanwhile another one asks for the same timestep, its folder is exchanged or taken, or it is killed; others have no room for
-what they write. Clients leave before their answer has come, or go on to send behind it. The last line is
-`N passed, M failed`. It does not use the reference.
+what they write. Clients leave before their answer has come, or go on to send behind it. Blocks lie behind the first 2^32 bytes of files
+with holes. The last line is `N passed, M failed`. It does not use the reference.
 """
 from __future__ import annotations
 
@@ -254,6 +254,54 @@ def hold_clients(at: Folder, results: Results) -> None:
         results.hold("the end behind one that left", status == 0 and output.startswith(b"links 2 replies "))
 
 
+FAR_TABLE, FAR_ROW, FAR_SIZE, FAR_PLACE = 120, 80, 4, 124
+"""Of the first file of the small dataset: the length of its table, where its row 1 begins, and the size and place of that block."""
+FAR = ((2 ** 32 + FAR_PLACE, 95), (2 ** 32, 91), (2 ** 32 - 2, 88), (2 ** 32 + 2 ** 31 + 7, 88), (2 ** 36 + 1, 91))
+"""Where the block is put, and the first byte of the file that is another one then: in the low word of the row, or the high one."""
+NOWHERE = (2 ** 32 + FAR_PLACE, 2 ** 63 + FAR_PLACE, 2 ** 64 - FAR_SIZE, 2 ** 64 - 1)
+"""Places that no file has whose length is that of the table and the two blocks, of which some are right without their high word."""
+
+
+def put_far(file: Path, whole: bytes, place: int, length: int) -> None:
+    """Puts a file whose block of row 1 lies at a place, as far as that is inside its length; what stood there is all ones."""
+    row = struct.pack(">2I", place % 2 ** 32, place >> 32)
+    near = whole[:FAR_ROW + 8] + row + whole[FAR_ROW + 16:FAR_PLACE] + b"\xff" * FAR_SIZE
+    with open(file, "wb") as out:
+        out.write(near)
+        if place < length:
+            out.seek(place)
+            out.write(whole[FAR_PLACE:])
+        out.truncate(length)
+
+
+def hold_far(at: Folder, results: Results) -> None:
+    """Blocks behind the first 2^32 bytes of a file, or across them, and rows that name such places where there are none."""
+    (at.top / "r.raw").write_bytes(RAW)
+    results.hold("a small conversion", at.run(*CONVERT) == (0, b"", ""))
+    file, query = at.step / "0.bin", ("query", "v.idx", "0", "a", "0 3 0 3", "0", "4")
+    whole = file.read_bytes()
+    for place, wrong in FAR:
+        put_far(file, whole, place, place + FAR_SIZE)
+        results.hold(f"a block at {place}", at.run(*query) == (0, RAW, ""))
+        status, _, errors = at.run("check", "v.idx", "0")
+        results.hold(f"a check of one at {place}", (status, errors.split("\n")[0]) == (
+            16, f"idxtool: not same file 0 at {wrong} Byte"))
+        with Server(at, "v.idx", 1) as server:
+            reply = rest_of(server.client(b"GET /mod_visus?action=boxquery&dataset=v&box=0+3+0+3 HTTP/1.0\r\n\r\n"))
+            results.hold(f"a reply out of one at {place}", reply.endswith(b"\r\n\r\n" + RAW))
+        put_far(file, whole, place, place + FAR_SIZE - 1)
+        hold_outside(at, query, f"a block at {place} that is cut off", results)
+    for place in NOWHERE:
+        put_far(file, whole, place, len(whole))
+        hold_outside(at, query, f"no block at {place}", results)
+
+
+def hold_outside(at: Folder, query: tuple[str, ...], name: str, results: Results) -> None:
+    """A row that names a place outside of its file is refused."""
+    status, output, errors = at.run(*query)
+    results.hold(name, (status, output, errors.split("\n")[0]) == (10, b"", "idxtool: table file 0 row 1 OutsideFile"))
+
+
 def main() -> int:
     """Runs all; 1 where anything is wrong."""
     program = os.path.abspath(words_of(__doc__).parse_args().program)
@@ -267,6 +315,8 @@ def main() -> int:
         hold_stopped(large, results)
         large.convert()
         hold_clients(large, results)
+    with tempfile.TemporaryDirectory() as name:
+        hold_far(Folder(program, Path(name)), results)
     return results.status()
 
 

@@ -1,13 +1,15 @@
 #!/usr/bin/env python3
 """Serves a dataset while a step of it is gathered and published, and looks at the replies and at the files.
 
-    check/ingest.py PROGRAM [--side 64] [--workers 4]
+    check/ingest.py PROGRAM [--side 256] [--workers 4]
 
 The dataset has one step of SIDE^3 samples of four bytes. While it is served a second step is gathered, and the first one is
-gathered again: questions for a step that is not there yet get 404, and from some reply on 200 with exactly its samples, out of
-the next post; those for the first one get its first samples, and from some reply on exactly the new ones. The files that are
-there in the end are held against those of `convert`, byte for byte. What is refused before a link is looked at too. The last
-line is `N passed, M failed`.
+gathered again. A client asks for one point all the while: for a step that is not there yet it gets 404, and from some reply on 200
+with exactly its sample, out of the next post; for the first step it gets its first sample, and from some reply on exactly the new
+one. With 64 MiB to gather the first reply comes well before the post on any machine, and it has to: else no question would have
+been asked meanwhile. All samples of the new post are asked for then. The files that are there in the end are held against those of
+`convert`, byte for byte, and those of the first post against what they were. What is refused before a link is looked at too. The
+last line is `N passed, M failed`.
 """
 import array
 import http.client
@@ -19,7 +21,9 @@ from pathlib import Path
 
 from results import Results, words_of
 
-SECONDS = 30
+SECONDS = 120
+PAUSE = 0.002
+"""So many seconds stand between two questions, so that a link has room for those of all the time."""
 
 
 def samples(side, first):
@@ -28,10 +32,10 @@ def samples(side, first):
 
 
 def texts(side, step):
-    """The words of a conversion behind its paths."""
+    """The words of a conversion into sixteen files, behind its paths."""
     digits = (side - 1).bit_length()
     box = " ".join([f"0 {side - 1}"] * 3)
-    return [box, "n uint32", "V" + "012" * digits, "12", "16", "./%02x.bin", "0 9 time%04d/", str(step)]
+    return [box, "n uint32", "V" + "012" * digits, str(3 * digits - 8), "16", "./%02x.bin", "0 9 time%04d/", str(step)]
 
 
 class Server:
@@ -52,20 +56,27 @@ class Server:
         self.process.communicate()
 
 
+def reply_to(link, box, step):
+    """The status, the post and the body of the reply to a question."""
+    link.request("GET", f"/mod_visus?action=boxquery&dataset=n&box={box}&time={step}")
+    reply = link.getresponse()
+    return reply.status, int(reply.getheader("visus-post", "-1")), reply.read()
+
+
 def replies_until(server, side, step, post):
-    """The status, the post and the body of each reply to the same question over one link, up to the first one of this post."""
-    box = "+".join([f"0+{side - 1}"] * 3)
+    """The replies to the same question for the last point over one link, up to the first one of this post; then that for all."""
     link = http.client.HTTPConnection("127.0.0.1", server.port, timeout=SECONDS)
+    point, all_points = ("+".join([bounds] * 3) for bounds in (f"{side - 1}+{side - 1}", f"0+{side - 1}"))
     found = []
     end = time.monotonic() + SECONDS
     while time.monotonic() < end:
-        link.request("GET", f"/mod_visus?action=boxquery&dataset=n&box={box}&time={step}")
-        reply = link.getresponse()
-        found.append((reply.status, int(reply.getheader("visus-post", "-1")), reply.read()))
+        found.append(reply_to(link, point, step))
         if found[-1][1] == post:
             break
+        time.sleep(PAUSE)
+    whole = reply_to(link, all_points, step)
     link.close()
-    return found
+    return found, whole
 
 
 def files_of(folder):
@@ -75,7 +86,7 @@ def files_of(folder):
 
 def main():
     parser = words_of(__doc__)
-    parser.add_argument("--side", type=int, default=64, help="a power of two from 32")
+    parser.add_argument("--side", type=int, default=256, help="a power of two from 32")
     parser.add_argument("--workers", type=int, default=4)
     given = parser.parse_args()
     side, results = given.side, Results()
@@ -92,18 +103,22 @@ def main():
         hold("a conversion", run("convert", dataset, first, *texts(side, 0)).returncode == 0)
         hold("another one", run("convert", other, second, *texts(side, 7)).returncode == 0)
         hold("one of the same step", run("convert", other, second, *texts(side, 0)).returncode == 0)
-        for step, early, late in ((7, (404, -1, b"NotPublished\n"), second), (0, (200, 0, first.read_bytes()), second)):
-            with Server(given.program, dataset, given.workers, 1, step, late) as server:
+        stood = files_of(top / "time0000")
+        old, new = (path.read_bytes() for path in (first, second))
+        for step, early in ((7, (404, -1, b"NotPublished\n")), (0, (200, 0, old[-4:]))):
+            with Server(given.program, dataset, given.workers, 1, step, second) as server:
                 posts = 1 if step == 7 else 2
-                found = replies_until(server, side, step, posts)
-                output, errors = server.process.communicate(timeout=SECONDS)
-            hold(f"step {step} is published", found[-1] == (200, posts, late.read_bytes()))
+                found, whole = replies_until(server, side, step, posts)
+                output, _ = server.process.communicate(timeout=SECONDS)
+            hold(f"step {step} is published", found[-1] == (200, posts, new[-4:]))
+            hold(f"a question for step {step} before", len(found) > 1)
             hold(f"nothing else of step {step} before", all(reply == early for reply in found[:-1]))
-            hold(f"the line of step {step}", output == b"links 1 replies %d\n" % len(found))
+            hold(f"all samples of step {step}", whole == (200, posts, new))
+            hold(f"the line of step {step}", output == b"links 1 replies %d\n" % (len(found) + 1))
             hold(f"status 0 for step {step}", server.process.returncode == 0)
         for mine, wanted in (("time0007", "time0007"), ("time0000.r1", "time0000")):
             hold(f"the files of {mine}", files_of(top / mine) == files_of(top / "other" / wanted))
-        hold("the files of time0000 stay", (top / "time0000").is_dir())
+        hold("the files of time0000 stay", files_of(top / "time0000") == stood)
         short = top / "short.raw"
         short.write_bytes(b"\0")
         for words, status, line in (

@@ -4,12 +4,14 @@
     check/messages.py PROGRAM
 
 Each case has a folder of its own, with the files that it names. Beside wrong words and headers these are files that are none,
-an output that nobody reads, addresses that nobody can listen at, and what an earlier run left. The last line is
+an output that nobody reads, addresses that nobody can listen at, and what an earlier run left. What `--help` prints is help.txt,
+byte by byte, and that has the words of each command as README.md has them, and each of its statuses. The last line is
 `N passed, M failed`. It does not use the reference.
 """
 from __future__ import annotations
 
 import os
+import re
 import socket
 import subprocess
 import sys
@@ -29,6 +31,8 @@ CUT = ["1", "0 3 0 3", "V0101", "0 3 0 3", "0", "2"]
 CONVERT = ["convert", "v.idx", "r.raw", *SMALL[1:], "0"]
 RAW = bytes(range(16))
 HELP = "  idxtool --help says more\n"
+HELP_TEXT = (Path(__file__).parent / "help.txt").read_bytes()
+README = Path(__file__).resolve().parent.parent / "README.md"
 QUOTE = '  a box is one word: quote it, as "0 63 0 63"\n'
 MASK_FAULT = "the bits are not V and 1 to 40 digits that each name an axis of the box\n"
 GONE = "No such file or directory (os error 2)"
@@ -90,9 +94,22 @@ def of_words() -> Iterator[Case]:
     yield Case("control characters", ["info", "a\n\a\33[2J\x85\xe9.idx"], 1,
                "idxtool: usage at 1\n  word 1 is `a\\n\\x07\\x1b[2J\\u{85}\xe9.idx`\n" + dataset + HELP)
     yield Case("the version", ["--version"], 0, "", output=b"idxtool 0.1.0\n")
-    yield Case("help", ["--help"], 0, "")
+    yield Case("help", ["--help"], 0, "", output=HELP_TEXT)
     command = "  expected a command: cut, info, convert, query, check, serve or drill\n"
     yield Case("help and a word", ["--help", "cut"], 1, "idxtool: usage at 0\n  word 0 is `--help`\n" + command + HELP)
+
+
+def missing_in_help() -> Iterator[str]:
+    """What README.md says of words and statuses, and help.txt does not."""
+    readme, text = README.read_text(), " ".join(HELP_TEXT.decode().split())
+    headings = "".join(line for line in readme.splitlines() if line.startswith("### `idxtool"))
+    synopses = [*re.findall(r"`([^`]*)`", headings), "idxtool --help", "idxtool --version"]
+    statuses = re.findall(r"^\| ([0-9]+) \| (?:`idxtool|none)", readme, re.MULTILINE)
+    if len(synopses) < 9 or len(statuses) < 14:
+        yield "the commands and statuses of README.md are not found"
+    listed = text.partition("Exit statuses: ")[2]
+    yield from (synopsis for synopsis in synopses if f"{synopsis} " not in text)
+    yield from (f"status {status}" for status in statuses if f" {status} " not in f" {listed}")
 
 
 def of_headers() -> Iterator[Case]:
@@ -266,11 +283,14 @@ def is_right(program: str, case: Case) -> bool:
 def main() -> int:
     """Runs all cases; 1 where any failed."""
     program = os.path.abspath(words_of(__doc__).parse_args().program)
+    missing = list(missing_in_help())
+    for each in missing:
+        print(f"help.txt: missing is {each}")
     with socket.create_server(("127.0.0.1", 0)) as listener:
         taken = f"127.0.0.1:{listener.getsockname()[1]}"
         cases = [*of_words(), *of_headers(), *of_runs(), *of_checks(), *of_files(), *of_addresses(taken)]
         results = [is_right(program, case) for case in cases]
-    return status_of(results)
+    return status_of([not missing, *results])
 
 
 if __name__ == "__main__":

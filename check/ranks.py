@@ -7,8 +7,9 @@ The volume has SIDE^3 samples of four bytes, each its own number in row-major or
 what the format says of it: its length, and the samples of a coarse slice; those of the others against it, byte for byte.
 No run may take fresh memory for more than half as many bytes again as the volume has, and 8 MiB and 2 MiB for each rank: what
 was freed serves again, but the C library keeps it for each thread, and how the threads meet is by chance.
-A conversion whose standard error is a terminal has to say there how far it is, and to take the line away at the end, and so has
-a check of what was converted.
+A conversion whose standard error is a terminal has to say there how far it is, at least once, and to take the line away at the
+end, and so has a check of what was converted. The first line is due after a tenth of a second: so these write and read 512 MiB, of
+which each block holds the samples of one plane, all zeros, and is otherwise outside the box, where a check looks at each byte.
 The last line is `N passed, M failed`.
 """
 import array
@@ -25,6 +26,11 @@ from results import Results, words_of
 
 RANKS = (1, 2, 3, 4, 8)
 BLOCK_BITS = 16
+SHOWN_SIDE = 1024
+SHOWN_MASK = "V" + "01" * 5 + "2" * 6 + "01" * 5
+"""The extents of a plane whose conversion and check show how far they are, and its mask: each block has 63 other planes too."""
+SHOWN_BYTES = 8 * 2 ** (len(SHOWN_MASK) - 1)
+
 
 
 def words(program, dataset, raw, side, ranks):
@@ -72,13 +78,23 @@ def shown(argv):
     return text, status == 0
 
 
-def says_how_far(text, first, side):
-    """Whether a line of work on one file was shown, then how far that was, never less than before, and then nothing."""
+def shown_words(program, dataset, raw):
+    """The words of a conversion of the plane into one file, and the length of the file."""
+    with open(raw, "wb") as file:
+        file.truncate(8 * SHOWN_SIDE ** 2)
+    blocks = SHOWN_BYTES // 8 >> BLOCK_BITS
+    box = f"0 {SHOWN_SIDE - 1} 0 {SHOWN_SIDE - 1} 0 0"
+    texts = [box, "n float64", SHOWN_MASK, str(BLOCK_BITS), str(blocks), "./%04x.bin", "0 9 time%04d/", "0"]
+    return [program, "convert", str(dataset), str(raw), *texts], 40 + 40 * blocks + SHOWN_BYTES
+
+
+def says_how_far(text, first):
+    """Whether a line of work on one file was shown, then once or more how far that was, never less than before, then nothing."""
     line = rb"\r  ([01]) of 1 files, ([0-9]+) of ([0-9]+) MiB, [0-9]+ MiB/s\x1b\[K"
-    if not (text.startswith(first) and re.fullmatch(rb"(%s)*\r\x1b\[K" % line, text[len(first):])):
+    if not (text.startswith(first) and re.fullmatch(rb"(%s)+\r\x1b\[K" % line, text[len(first):])):
         return False
     lines = [tuple(map(int, found)) for found in re.findall(line, text)]
-    whole = 4 * side ** 3 >> 20
+    whole = SHOWN_BYTES >> 20
     return all(done <= whole == of for _, done, of in lines) and lines == sorted(lines)
 
 
@@ -109,17 +125,18 @@ def main():
                 results.hold("a coarse slice", asked.returncode == 0 and asked.stdout == slice_of(side))
             results.hold(f"the memory of {ranks} ranks", fresh <= 6 * side ** 3 + 2 ** 23 + ranks * 2 ** 21)
             results.hold(f"the files of {ranks} ranks", run.returncode == 0 and not run.stderr and files == first)
-        dataset = top / "shown" / "n.idx"
+        dataset, raw = top / "shown" / "n.idx", top / "shown.raw"
         dataset.parent.mkdir()
-        text, is_done = shown(words(given.program, dataset, raw, side, 1))
+        converting, length = shown_words(given.program, dataset, raw)
+        text, is_done = shown(converting)
         first = f"  converting {raw} into {dataset}, 1 ranks".encode()
-        results.hold("the line on a terminal", is_done and says_how_far(text, first, side))
+        results.hold("the line on a terminal", is_done and says_how_far(text, first))
         check = [given.program, "check", str(dataset), "0"]
         asked = subprocess.run(check, capture_output=True, timeout=120)
-        same = f"same files 1 bytes {40 + 40 * blocks + 4 * side ** 3}\n".encode()
+        same = b"same files 1 bytes %d\n" % length
         results.hold("a check", asked.returncode == 0 and not asked.stderr and asked.stdout == same)
         text, is_done = shown(check)
-        results.hold("the line of a check", is_done and says_how_far(text, f"  checking step 0 of {dataset}".encode(), side))
+        results.hold("the line of a check", is_done and says_how_far(text, f"  checking step 0 of {dataset}".encode()))
     return results.status()
 
 

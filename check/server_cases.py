@@ -20,10 +20,12 @@ from heads import (SPOILS, body_fields, closing_fields, draw_head, draw_target, 
                    hostile_starts, lay_out_head, odd_fields, other_time, outside_form, plain_head, right_form,
                    sized_heads)
 from reference import Header
-from serving import Leaves, Link, Talk, play_together
+from serving import Leaves, Link, Talk, play_in_turns, play_together
 
 ANYWHERE = b"127.0.0.1:0"
 HEADS_A_SERVER = 1_000
+WORKERS = 7
+"""So many workers serve links at the same time, where that is looked at."""
 NO_ADDRESSES = [b"localhost:80", b"127.0.0.1", b"127.0.0.1:65536", b":80", b"", b"127.0.0.1:", b"[127.0.0.1]:80", b"80",
                 b"300.0.0.1:80", b"1.2.3:80", b"192.0.2.1:80", b"::1:80", b"[::1", b"http://127.0.0.1:80",
                 b"127.0.0.1:80 ", b" 127.0.0.1:80", b"127.0.0.1:-1", b"127.0.0.1:x"]
@@ -311,11 +313,17 @@ def many_links(bench: Bench) -> None:
 
 
 def links_at_once(bench: Bench) -> None:
-    """Links that are made and sent over at the same time."""
+    """Links that are made and sent over at the same time, to several workers that share a cache of three blocks.
+
+    As many links as there are workers have several replies each before one of them ends; then come many more than workers.
+    """
     random, shelf = bench.random, convert_steps(bench)
-    links = [draw_link(random, b"".join(draw_head(random, shelf.target(random)) for _ in range(random.randint(1, 3))))
-             for _ in range(60)]
-    bench.serve_peers(shelf.words(random), len(links), lambda address, site: play_together(address, site, links))
+    words = [b"serve", shelf.path, ANYWHERE, b"--workers", b"%d" % WORKERS, b"--cache", b"3"]
+    links = [Link([plain_head(shelf.right_target(random)) for _ in range(8)]) for _ in range(WORKERS)]
+    bench.serve_peers(words, len(links), lambda address, site: play_in_turns(address, site, links))
+    many = [draw_link(random, b"".join(draw_head(random, shelf.target(random)) for _ in range(random.randint(2, 8))))
+            for _ in range(60)]
+    bench.serve_peers(words, len(many), lambda address, site: play_together(address, site, many))
 
 
 def large_answers(bench: Bench) -> None:

@@ -12,6 +12,7 @@ import threading
 import time
 from collections import deque
 from collections.abc import Callable, Iterator, Sequence
+from concurrent.futures import ThreadPoolExecutor
 from dataclasses import dataclass, replace
 from enum import Enum
 from typing import BinaryIO
@@ -187,6 +188,14 @@ class Peer:
             self.send()
         return self.receive() if readable else True
 
+    def hear(self, count: int) -> bytes:
+        """Reads until so many bytes have come, or the server has ended the link, and gives all that has come."""
+        deadline = time.monotonic() + SECONDS
+        while len(self.received) < count and time.monotonic() < deadline:
+            if select.select([self.socket], [], [], 1)[0] and not self.receive():
+                break
+        return bytes(self.received)
+
     def is_served(self) -> bool:
         """Whether all was sent, and the replies have come."""
         return not self.pieces and len(self.received) >= self.wanted
@@ -247,9 +256,35 @@ def play_links(address: Address, site: Site, links: Sequence[Link]) -> tuple[lis
 
 
 def play_together(address: Address, site: Site, links: Sequence[Link]) -> tuple[list[str], list[int]]:
-    """Makes all links and sends on each before any is read; where they differ, and the number of all replies."""
+    """Makes all links and sends on each before any is read, then talks over all of them at the same time; where they differ, and
+    the number of all replies."""
     opened = [open_link(address, site, link) for link in links]
     for peer, _ in opened:
         peer.turn()
-    ended = [talk_over(place, peer, lists) for place, (peer, lists) in enumerate(opened)]
+    with ThreadPoolExecutor(len(opened)) as pool:
+        ended = list(pool.map(lambda numbered: talk_over(numbered[0], *numbered[1]), enumerate(opened)))
     return [line for found, _ in ended for line in found], [sum(of_link for _, of_link in ended)]
+
+
+def play_in_turns(address: Address, site: Site, links: Sequence[Link]) -> tuple[list[str], list[int]]:
+    """Makes all links, sends a head on each and reads its reply, then the next on each, so that a server has to serve all of them
+    at the same time; where they differ, and the number of all replies.
+
+    Each piece of a link is a head whose reply does not close; all links have as many."""
+    peers = [Peer(address, link, 0) for link in links]
+    wants = [b""] * len(peers)
+    try:
+        for heads in zip(*(link.pieces for link in links)):
+            for place, (peer, head) in enumerate(zip(peers, heads)):
+                wants[place] += replies(site, head)[0][0][0]
+                peer.send()
+            came = [peer.hear(len(want)) for peer, want in zip(peers, wants)]
+            if came != wants:
+                return [f"{len(peers)} links at the same time, the last heads {b''.join(heads)[:2_000]!r}",
+                        *(line for want, got in zip(wants, came) for line in difference("replies", want, got))], []
+        ended = [peer.run() == Came(want, True) for peer, want in zip(peers, wants)]
+    finally:
+        for peer in peers:
+            peer.socket.close()
+    return [f"link {place} ends otherwise" for place, is_right in enumerate(ended) if not is_right], [sum(
+        len(link.pieces) for link in links)]

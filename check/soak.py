@@ -11,8 +11,10 @@ says; the cache is smaller than the data. With --ingest the server gathers a fur
 samples are n + (t + 1000) * 2^18. The memory of the server is looked at each second; it runs with MALLOC_ARENA_MAX=1, as
 docs/SERVING.md advises for many workers, unless the environment says otherwise.
 
-The last line is `N requests, W wrong, ...`; the exit status is 1 where a byte was wrong, a link ended early, or the
-memory grew by more than a tenth behind the first seconds (--settle). It is no part of the quick checks.
+How many requests there were is said, and how many of them were answered wrong. What is held is that each link asked ten times
+at least, that no byte was wrong, that no link ended early, that the memory did not grow by more than a tenth behind the first
+seconds (--settle, which says nothing where it is as long as the run), and how the server ended. The last line is
+`N passed, M failed`.
 """
 import array
 import os
@@ -27,7 +29,7 @@ from collections import Counter
 from multiprocessing import Process, Queue
 from pathlib import Path
 
-from results import words_of
+from results import Results, words_of
 
 AXES, DIGITS, SIDE = 3, 6, 64
 VOLUME = SIDE ** AXES
@@ -36,6 +38,8 @@ AGAIN = 1000
 """What is added to a step's number in the samples of the revision that is gathered while the server runs."""
 PROCESSES = 4
 LINKS_A_SECOND = 8
+LEAST_ASKED = 10
+"""How many requests there have to be at least for each link that asks at the same time."""
 
 
 def samples(step):
@@ -227,8 +231,13 @@ def main():
     print("by status:", {key: count for key, count in sorted(found.items(), key=str)})
     print("memory in KiB by the second:", memory[0], "..", settled, "..", memory[-1], "most", max(memory))
     print(f"{asked} requests, {found['wrong']} wrong, {early} links ended early, {asked / given.seconds:.0f} a second")
-    right = found["wrong"] == 0 and early == 0 and not grew and server.returncode == 0
-    return 0 if right and output == f"links {links} replies {asked}\n".encode() else 1
+    results = Results()
+    results.hold("enough requests", asked >= LEAST_ASKED * given.links)
+    results.hold("every byte", found["wrong"] == 0)
+    results.hold("the ends of the links", early == 0)
+    results.hold("the memory", not grew)
+    results.hold("the end of the server", server.returncode == 0 and output == f"links {links} replies {asked}\n".encode())
+    return results.status()
 
 
 if __name__ == "__main__":
