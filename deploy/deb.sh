@@ -24,7 +24,7 @@ Priority: optional
 Architecture: $architecture
 Maintainer: ${MAINTAINER:-idxtool <root@localhost>}
 Depends: libc6, libgcc-s1
-Suggests: nginx-light
+Suggests: nginx-light, python3
 Installed-Size: $(du -sk "$tree/usr" | cut -f 1)
 Description: write, read and serve datasets of the ViSUS IDX format
  A parallel writer of raw volumes into hierarchical Z order, and a server that

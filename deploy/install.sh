@@ -1,6 +1,6 @@
 #!/bin/sh
 # Installs idxtool below PREFIX: the program, its manual page, its completion for bash, the viewer for browsers, the systemd
-# unit and an nginx site to copy. `install.sh --remove PREFIX` takes these files away again. DESTDIR, if it is set, goes
+# units, the script that follows a running simulation, and an nginx site to copy. `install.sh --remove PREFIX` takes these files away again. DESTDIR, if it is set, goes
 # before every path.
 #
 #     deploy/install.sh /usr/local
@@ -14,11 +14,13 @@ if [ $# -ne 1 ]; then echo "usage: install.sh [--remove] PREFIX" >&2; exit 1; fi
 case $1 in /*) prefix=${1%/} ;; *) echo "install.sh: PREFIX has to begin with a /" >&2; exit 1 ;; esac
 top=${DESTDIR-}$prefix
 program=${IDXTOOL:-$here/../crates/idxtool/out/idxtool}
-unit=lib/systemd/system/idxtool@.service
+units=lib/systemd/system
 
 if [ -n "$remove" ]; then
     rm -f "$top/bin/idxtool" "$top/share/man/man1/idxtool.1" "$top/share/bash-completion/completions/idxtool" \
-        "$top/$unit" "$top/share/doc/idxtool/nginx-idx.conf" "$top/share/idxtool/index.html"
+        "$top/$units/idxtool@.service" "$top/$units/idxtool-follow@.service" "$top/$units/idxtool-follow@.timer" \
+        "$top/lib/idxtool/follow.py" "$top/share/doc/idxtool/nginx-idx.conf" "$top/share/doc/idxtool/nginx-upstream.conf" \
+        "$top/share/idxtool/index.html"
     exit 0
 fi
 if ! [ -x "$program" ]; then
@@ -28,7 +30,11 @@ fi
 install -D -m 755 "$program" "$top/bin/idxtool"
 install -D -m 644 "$here/idxtool.1" "$top/share/man/man1/idxtool.1"
 install -D -m 644 "$here/idxtool.bash" "$top/share/bash-completion/completions/idxtool"
+install -D -m 755 "$here/follow.py" "$top/lib/idxtool/follow.py"
 install -D -m 644 "$here/nginx-idx.conf" "$top/share/doc/idxtool/nginx-idx.conf"
+install -D -m 644 "$here/nginx-upstream.conf" "$top/share/doc/idxtool/nginx-upstream.conf"
 install -D -m 644 "$here/../web/index.html" "$top/share/idxtool/index.html"
-install -D -m 644 "$here/idxtool@.service" "$top/$unit"
-sed -i "s|@PREFIX@|$prefix|" "$top/$unit"
+for unit in idxtool@.service idxtool-follow@.service idxtool-follow@.timer; do
+    install -D -m 644 "$here/$unit" "$top/$units/$unit"
+    sed -i "s|@PREFIX@|$prefix|" "$top/$units/$unit"
+done

@@ -18,53 +18,25 @@ from contextlib import ExitStack
 from dataclasses import dataclass, field
 from pathlib import Path
 
-HERE = Path(__file__).resolve().parent
-SIDE = 64
-"""The samples of a dataset along each of its three axes; a sample has four bytes."""
+from trial_common import (BOX, HERE, SECONDS, SIDE, Trial, convert_words, fetch, free_ports, header, nginx_file, nginx_program,
+                          program, raw_of, run, site_text, slice_of, target_of, upstream_file, wait_for_port)
+from trial_follow import try_following
+
 STEPS = 8
 ASKERS = 6
 """How many clients ask at the same time."""
 PAUSE = 3
 """Seconds between the restarts of two servers: longer than nginx leaves a server alone that has failed (fail_timeout)."""
-SECONDS = 60
-"""After how long something that should have happened counts as failed."""
-
-
-class Trial:
-    """What passed and what failed."""
-
-    def __init__(self) -> None:
-        self.passed = 0
-        self.failed = 0
-
-    def hold(self, what: str, is_so: bool, seen: object = "") -> None:
-        """Counts one thing that should be so."""
-        if is_so:
-            self.passed += 1
-        else:
-            self.failed += 1
-            print("failed:", what, seen)
-
-
-def program() -> str:
-    """The program: what IDXTOOL says, else the one on the PATH."""
-    found = shutil.which(os.environ.get("IDXTOOL") or "idxtool")
-    if found is None:
-        sys.exit("0 passed, 1 failed: there is no idxtool on the PATH, and IDXTOOL names none")
-    return os.path.abspath(found)
-
-
-def run(*words: object, **more: object) -> subprocess.CompletedProcess[str]:
-    """Runs a command to its end."""
-    return subprocess.run(list(map(str, words)), capture_output=True, text=True, timeout=240, **more)  # type: ignore
 
 
 # What is installed
 
 
 INSTALLED = {"bin/idxtool": 0o755, "share/man/man1/idxtool.1": 0o644, "share/bash-completion/completions/idxtool": 0o644,
-             "share/doc/idxtool/nginx-idx.conf": 0o644, "share/idxtool/index.html": 0o644,
-             "lib/systemd/system/idxtool@.service": 0o644}
+             "share/doc/idxtool/nginx-idx.conf": 0o644, "share/doc/idxtool/nginx-upstream.conf": 0o644,
+             "share/idxtool/index.html": 0o644, "lib/idxtool/follow.py": 0o755,
+             "lib/systemd/system/idxtool@.service": 0o644, "lib/systemd/system/idxtool-follow@.service": 0o644,
+             "lib/systemd/system/idxtool-follow@.timer": 0o644}
 
 
 def files_of(folder: Path) -> dict[str, int]:
@@ -82,11 +54,13 @@ def try_install(trial: Trial, top: Path, tool: str) -> None:
     trial.hold("the unit names the program", f"ExecStart={prefix}/bin/idxtool serve " in unit)
     settings = ("MALLOC_ARENA_MAX=1", "MemoryMax=", "LimitAS=")
     trial.hold("the unit limits memory", all(each in unit for each in settings))
+    following = (prefix / "lib/systemd/system/idxtool-follow@.service").read_text()
+    trial.hold("the unit names the script", f"ExecStart={prefix}/lib/idxtool/follow.py " in following)
     if shutil.which("systemd-analyze"):
-        seen = run("systemd-analyze", "verify", "--man=no", "--recursive-errors=no",
-                   prefix / "lib/systemd/system/idxtool@.service")
-        own = [line for line in seen.stderr.splitlines() if "idxtool@" in line]
-        trial.hold("systemd finds nothing wrong with the unit", seen.returncode == 0 and not own, seen.stderr)
+        for name in ("idxtool@.service", "idxtool-follow@.service", "idxtool-follow@.timer"):
+            seen = run("systemd-analyze", "verify", "--man=no", "--recursive-errors=no", prefix / "lib/systemd/system" / name)
+            own = [line for line in seen.stderr.splitlines() if "idxtool" in line]
+            trial.hold(f"systemd finds nothing wrong with {name}", seen.returncode == 0 and not own, seen.stderr)
     else:
         print("not tried: there is no systemd-analyze")
     trial.hold("a relative PREFIX is refused", run(HERE / "install.sh", "usr", env=words).returncode == 1)
@@ -169,20 +143,6 @@ def files_below(root: Path) -> dict[str, int]:
 # Eight timesteps side by side
 
 
-def raw_of(step: int) -> array.array:
-    """The raw volume of a timestep: each sample is its own number, counted on from that of the step."""
-    return array.array("I", range(step * SIDE ** 3, (step + 1) * SIDE ** 3))
-
-
-BOX = " ".join([f"0 {SIDE - 1}"] * 3)
-
-
-def convert_words(folder: Path, step: int, name: str = "n") -> list[str]:
-    """The words that write a timestep."""
-    return ["convert", str(folder / f"{name}.idx"), str(folder / f"{step}.raw"), BOX, "n uint32", "auto", "12", "16",
-            "./%02x.bin", f"0 99 {name}%02d/", str(step)]
-
-
 def convert_environment(tool: str, folder: Path, name: str) -> dict[str, str]:
     """What convert-steps.sh wants to know for the same words."""
     return {**os.environ, "IDXTOOL": tool, "DATASET": str(folder / f"{name}.idx"), "RAW": str(folder / "%d.raw"), "BOX": BOX,
@@ -217,16 +177,6 @@ def try_writing(trial: Trial, tool: str, folder: Path) -> None:
 # Three servers behind nginx
 
 
-def free_ports(count: int) -> list[int]:
-    """Ports of this machine that nothing listens at."""
-    import socket
-    with ExitStack() as open_ones:
-        sockets = [open_ones.enter_context(socket.socket()) for _ in range(count)]
-        for each in sockets:
-            each.bind(("127.0.0.1", 0))
-        return [each.getsockname()[1] for each in sockets]
-
-
 class Server:
     """One server of the dataset, by the command line that the systemd unit has."""
 
@@ -252,24 +202,6 @@ class Server:
         if self.process.poll() is None:
             self.process.send_signal(how)
         self.process.communicate()
-
-
-def nginx_files(folder: Path, port: int, ports: list[int]) -> Path:
-    """nginx-idx.conf with these ports and folders, within a configuration for a process of one's own."""
-    site = (HERE / "nginx-idx.conf").read_text()
-    for old, new in zip((8081, 8082, 8083), ports):
-        site = site.replace(f"127.0.0.1:{old}", f"127.0.0.1:{new}")
-    site = site.replace("listen 8080;", f"listen 127.0.0.1:{port};").replace("root /data;", f"root {folder};")
-    site = site.replace("root /usr/share/idxtool;", f"root {HERE.parent / 'web'};")
-    site = site.replace("/var/cache/nginx/idx", str(folder / "nginx-cache"))
-    site = site.replace("add_header X-Cache", "add_header X-Server $upstream_addr; add_header X-Cache")
-    paths = "".join(f"{name}_temp_path {folder}/nginx-{name};\n" for name in
-                    ("client_body", "proxy", "fastcgi", "uwsgi", "scgi"))
-    user = "user root;\n" if os.geteuid() == 0 else ""
-    (folder / "nginx.conf").write_text(
-        f"{user}daemon off;\nworker_processes 2;\npid {folder}/nginx.pid;\nerror_log {folder}/nginx.log warn;\n"
-        f"events {{ worker_connections 256; }}\nhttp {{\naccess_log off;\n{paths}{site}}}\n")
-    return folder / "nginx.conf"
 
 
 @dataclass
@@ -328,24 +260,6 @@ class Load:
         link.close()
 
 
-def slice_of(step: int, box: tuple[tuple[int, int], ...], plane: int, stride: int) -> bytes:
-    """The samples of a box of a plane across the last axis, on multiples of a stride."""
-    (left, right), (bottom, top) = ((-(-low // stride) * stride, high + 1) for low, high in box)
-    first = step * SIDE ** 3 + plane * SIDE ** 2
-    numbers = (first + y * SIDE + x for y in range(bottom, top, stride) for x in range(left, right, stride))
-    return array.array("I", numbers).tobytes()
-
-
-def fetch(port: int, target: str) -> tuple[int, bytes]:
-    """One reply over a connection of its own."""
-    link = http.client.HTTPConnection("127.0.0.1", port, timeout=SECONDS)
-    link.request("GET", target)
-    reply = link.getresponse()
-    found = reply.status, reply.read()
-    link.close()
-    return found
-
-
 def try_places(trial: Trial, front: int) -> None:
     """Each timestep goes to one server, not all to the same, and what is asked for again comes out of nginx's cache."""
     places = {}
@@ -362,16 +276,6 @@ def try_places(trial: Trial, front: int) -> None:
     trial.hold("nothing is posted", post(front) == 403, post(front))
 
 
-def header(port: int, target: str, name: str) -> "str | None":
-    """A field of the reply to a request."""
-    link = http.client.HTTPConnection("127.0.0.1", port, timeout=SECONDS)
-    link.request("GET", target)
-    reply = link.getresponse()
-    reply.read()
-    link.close()
-    return reply.getheader(name)
-
-
 def post(port: int) -> int:
     """The status of a request that would change something."""
     link = http.client.HTTPConnection("127.0.0.1", port, timeout=SECONDS)
@@ -381,17 +285,10 @@ def post(port: int) -> int:
     return status
 
 
-def target_of(step: int, box: tuple[tuple[int, int], ...], level: int) -> str:
-    """The target that asks for a box at the levels up to one."""
-    bounds = "+".join(f"{low}+{high}" for low, high in box)
-    return f"/mod_visus?action=boxquery&dataset=n&time={step}&box={bounds}&toh={level}"
-
-
 def try_serving(trial: Trial, tool: str, folder: Path) -> None:
     """One of three servers is killed under load, and started again; then all see a further timestep, one after the other."""
-    nginx = shutil.which("nginx", path=os.environ.get("PATH", "") + ":/usr/sbin")
+    nginx = nginx_program(trial)
     if nginx is None:
-        trial.hold("nginx is installed", False)
         return
     front, *ports = free_ports(4)
     with ExitStack() as ends:
@@ -400,7 +297,8 @@ def try_serving(trial: Trial, tool: str, folder: Path) -> None:
             ends.callback(each.end)
         told = f"  listening on 127.0.0.1:{ports[0]}, {STEPS} steps of {folder / 'n.idx'}\n"
         trial.hold("a server says where it listens", servers[0].line == told, servers[0].line)
-        process = subprocess.Popen([nginx, "-c", nginx_files(folder, front, ports), "-e", folder / "nginx.log"],
+        upstream_file(folder, ports)
+        process = subprocess.Popen([nginx, "-c", nginx_file(folder, site_text(folder, front, folder)), "-e", folder / "nginx.log"],
                                    stderr=subprocess.PIPE)
         ends.callback(lambda: (process.terminate(), process.communicate(timeout=SECONDS)))
         wait_for_port(front)
@@ -436,18 +334,6 @@ def try_serving(trial: Trial, tool: str, folder: Path) -> None:
         trial.hold("each server has the next timestep", found == {(200, slice_of(STEPS, whole, 5, 1))})
 
 
-def wait_for_port(port: int) -> None:
-    """Waits until something listens at a port."""
-    import socket
-    end = time.monotonic() + SECONDS
-    while time.monotonic() < end:
-        try:
-            socket.create_connection(("127.0.0.1", port), 1).close()
-            return
-        except OSError:
-            time.sleep(0.05)
-
-
 def main() -> int:
     trial, tool = Trial(), program()
     with tempfile.TemporaryDirectory() as name:
@@ -461,6 +347,7 @@ def main() -> int:
         try_writing(trial, tool, folder)
         try_completion(trial, tool, folder)
         try_serving(trial, tool, folder)
+        try_following(trial, tool, top / "follow")
     print(f"{trial.passed} passed, {trial.failed} failed")
     return 1 if trial.failed else 0
 
