@@ -2,6 +2,7 @@
 from __future__ import annotations
 
 import pickle
+from pathlib import Path
 from random import Random
 
 import numpy as np
@@ -203,3 +204,71 @@ def test_a_missing_program_is_told(case: Case, monkeypatch: pytest.MonkeyPatch) 
     monkeypatch.setenv("IDXTOOL", "/no/such/program")
     with pytest.raises(FileNotFoundError, match="/no/such/program"):
         idxtool.open(case.path)
+
+
+def test_fractions_are_no_numbers_of_timesteps_places_or_levels(case: Case) -> None:
+    dataset, (pair, *others) = idxtool.open(case.path), case.box
+    for wrong in (lambda: dataset.read("uint8", time=0.9), lambda: dataset.read("uint8", ((pair[0] + 0.5, pair[1]), *others)),
+                  lambda: dataset.read("uint8", level=2.5), lambda: dataset.read("uint8", time="0"),
+                  lambda: next(dataset.refine("uint8", levels=[1.5]))):
+        with pytest.raises(TypeError):
+            wrong()
+    level = np.int64(dataset.levels)
+    assert same(dataset.read("uint8", np.array(case.box), level, np.uint8(0)), case.arrays["uint8"])
+
+
+class Rewriting:
+    """Writes a timestep again, with other samples, before each of some questions to the program."""
+
+    def __init__(self, path: Path, monkeypatch: pytest.MonkeyPatch, before: "set[int]") -> None:
+        self.path, self.asked, self.revisions = path, 0, 0
+        read = idxtool.sources.Program.read_into
+
+        def read_into(source: object, *question: object) -> int:
+            self.asked += 1
+            if self.asked in before:
+                self.write()
+            return read(source, *question)
+
+        monkeypatch.setattr(idxtool.sources.Program, "read_into", read_into)
+        monkeypatch.setattr(idxtool.dataset, "LARGEST_ANSWER", 64)
+
+    def write(self) -> None:
+        idxtool.write(self.path, np.full((8, 8), self.revisions, np.int32))
+        self.revisions += 1
+
+
+@pytest.mark.parametrize("place", [2, 3, 4])
+def test_a_read_is_of_one_revision(tmp_path: Path, monkeypatch: pytest.MonkeyPatch, place: int) -> None:
+    writes = Rewriting(tmp_path / "n.idx", monkeypatch, {place})
+    writes.write()
+    dataset = idxtool.open(writes.path)
+    assert np.array_equal(dataset.read(), np.ones((8, 8))) and writes.asked > place
+    assert np.array_equal(dataset["data"][0], np.ones((8, 8)))
+
+
+def test_a_read_of_what_is_written_again_and_again_is_told(tmp_path: Path, monkeypatch: pytest.MonkeyPatch) -> None:
+    writes = Rewriting(tmp_path / "n.idx", monkeypatch, set(range(2, 100)))
+    writes.write()
+    with pytest.raises(idxtool.ChangedError, match="timestep 0 was written again"):
+        idxtool.open(writes.path).read()
+
+
+def test_one_question_is_answered_whatever_is_written(tmp_path: Path, monkeypatch: pytest.MonkeyPatch) -> None:
+    writes = Rewriting(tmp_path / "n.idx", monkeypatch, set(range(100)))
+    writes.write()
+    got = idxtool.open(writes.path).read(box=((0, 3), (0, 3)))
+    assert np.array_equal(got, np.ones((4, 4)))
+
+
+def test_refining_does_not_mix_revisions(tmp_path: Path, monkeypatch: pytest.MonkeyPatch) -> None:
+    writes = Rewriting(tmp_path / "n.idx", monkeypatch, {4})
+    monkeypatch.setattr(idxtool.dataset, "LARGEST_ANSWER", 2 ** 28)
+    writes.write()
+    values = [set(np.unique(each)) for each in idxtool.open(writes.path).refine()]
+    assert values == [{0}] * 3 + [{1}] * 4
+    twice = Rewriting(tmp_path / "m.idx", monkeypatch, {3, 6})
+    monkeypatch.setattr(idxtool.dataset, "LARGEST_ANSWER", 2 ** 28)
+    twice.write()
+    with pytest.raises(idxtool.ChangedError):
+        list(idxtool.open(twice.path).refine())

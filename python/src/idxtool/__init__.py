@@ -9,13 +9,13 @@ components of a sample behind. Both ends of a box are inclusive.
 """
 from . import errors
 from .dataset import Dataset, open
-from .errors import IdxtoolError, MissingTimestep, ProgramError, ServerError
+from .errors import ChangedError, IdxtoolError, MissingTimestep, ProgramError, ServerError
 from .fieldarray import FieldArray
 from .layout import Box, Field, Header
 from .program import program
 from .serving import Server, serve
 from .writing import write
 
-__all__ = ["Box", "Dataset", "Field", "FieldArray", "Header", "IdxtoolError", "MissingTimestep", "ProgramError", "Server",
+__all__ = ["Box", "ChangedError", "Dataset", "Field", "FieldArray", "Header", "IdxtoolError", "MissingTimestep", "ProgramError", "Server",
            "ServerError", "errors", "open", "program", "serve", "write"]
 __version__ = "0.1.0"

@@ -1,14 +1,16 @@
 """A dataset that is read."""
 from __future__ import annotations
 
+import operator
 import os
-from collections.abc import Iterable, Iterator
+from collections.abc import Callable, Iterable, Iterator
 from pathlib import Path, PurePosixPath
-from typing import TYPE_CHECKING, Optional, Union
+from typing import TYPE_CHECKING, Optional, TypeVar, Union
 from urllib.parse import unquote, urlsplit
 
 import numpy as np
 
+from .errors import ChangedError
 from .fieldarray import FieldArray
 from .layout import Box, Field, Header, header_of_info, header_of_text, points_in, shape_of
 from .program import run
@@ -19,6 +21,8 @@ if TYPE_CHECKING:
 
 LARGEST_ANSWER = 2 ** 28
 """The bytes that one question may ask for. Larger reads are several questions."""
+
+Made = TypeVar("Made")
 
 AXIS_NAMES = ("x", "y", "z", "u", "v")
 """What axes 0 to 4 are called in xarray."""
@@ -94,7 +98,7 @@ class Dataset:
     def _number(self, time: Optional[int]) -> int:
         """The timestep that is meant: without a number the first one that is there, or 0 where none is."""
         if time is not None:
-            return int(time)
+            return operator.index(time)
         if self._first is None:
             self._first = next(self._found(), None)
         return 0 if self._first is None else self._first
@@ -107,6 +111,13 @@ class Dataset:
             raise ValueError(f"the answer has {got} bytes, not {out.nbytes}")
         return out
 
+    def _of_one(self, time: int, ask: Callable[["Answers"], Made]) -> Made:
+        """What some questions of a timestep give, all of one revision; begun anew once where another one came meanwhile."""
+        try:
+            return ask(Answers(self, time))
+        except ChangedError:
+            return ask(Answers(self, time))
+
     def _count(self, box: Box, low: int, high: int) -> int:
         """How many points of a box have a level from `low` to `high`; 0 for a question that will be refused."""
         if len(box) != self.header.axes or not 0 <= low <= high <= self.levels:
@@ -114,16 +125,6 @@ class Dataset:
         below = points_in(self.header.grid(box, low - 1)) if low > 0 else 0
         return points_in(self.header.grid(box, high)) - below
 
-    def _read_flat(self, field: Field, time: int, box: Box, low: int, high: int) -> np.ndarray:
-        """The samples in row-major order, by as many questions as their bytes need: halves of the slowest axis in turn."""
-        count = self._count(box, low, high)
-        axis = max((axis for axis, (first, last) in enumerate(box) if first < last), default=None)
-        if count * field.sample_bytes <= LARGEST_ANSWER or axis is None:
-            return self._samples(field, time, box, low, high, count)
-        first, last = box[axis]
-        middle = (first + last) // 2
-        halves = (box[:axis] + (part,) + box[axis + 1:] for part in ((first, middle), (middle + 1, last)))
-        return np.concatenate([self._read_flat(field, time, half, low, high) for half in halves])
 
     def read(self, field: Optional[str] = None, box: Optional[Box] = None, level: Optional[int] = None,
              time: Optional[int] = None, *, from_level: int = 0) -> np.ndarray:
@@ -131,13 +132,16 @@ class Dataset:
 
         Levels 0 to `level` are an evenly spaced grid, and so is a single level: the array has as many axes as the
         dataset, axis 0 last, and behind them the components where a sample has several. `coordinates` tells where its
-        points are. Other ranges of levels are no grid; they are one axis of samples in row-major order. Where the
-        question is refused it raises the error that says so (`idxtool.errors`), a ProgramError or a ServerError.
+        points are. Other ranges of levels are no grid; they are one axis of samples in row-major order. All samples are of
+        one revision of the timestep: where it is written again meanwhile the read begins anew, once, and then raises
+        ChangedError. Where the question is refused it raises the error that says so (`idxtool.errors`), a ProgramError or a
+        ServerError.
         """
         which = self.header.field(field)
         box = self.box if box is None else box_of(box)
         level = self.levels if level is None else level
-        flat = self._read_flat(which, self._number(time), box, from_level, level)
+        low, high = operator.index(from_level), operator.index(level)
+        flat = self._of_one(self._number(time), lambda answers: answers.samples(which, box, low, high))
         if from_level not in (0, level):
             return flat
         return flat.reshape(shape_of(self.coordinates(box, level, from_level), which))
@@ -157,13 +161,21 @@ class Dataset:
                time: Optional[int] = None) -> Iterator[np.ndarray]:
         """Yields arrays that get finer: for each of `levels`, which rise, what `read` gives for it; without them all levels.
 
-        Each sample is fetched once: a level asks only for what it adds.
+        Each sample is fetched once: a level asks only for what it adds. Where the timestep is written again meanwhile, the
+        next array is read anew, whole, and those behind it are of that revision; at a second time it raises ChangedError.
         """
         which, number = self.header.field(field), self._number(time)
         box = self.box if box is None else box_of(box)
-        before, known = -1, np.empty((0, *which.inner_shape), which.dtype)
-        for level in range(self.levels + 1) if levels is None else levels:
-            added = self._read_flat(which, number, box, before + 1, level)
+        none = np.empty((0, *which.inner_shape), which.dtype)
+        before, known, answers, is_anew = -1, none, Answers(self, number), False
+        for level in range(self.levels + 1) if levels is None else map(operator.index, levels):
+            try:
+                added = answers.samples(which, box, before + 1, level)
+            except ChangedError:
+                if is_anew:
+                    raise
+                before, known, answers, is_anew = -1, none, Answers(self, number), True
+                added = answers.samples(which, box, 0, level)
             grid = self.header.grid(box, level)
             whole = np.empty(shape_of(grid, which), which.dtype)
             is_old = np.zeros(whole.shape[:len(grid)], bool)
@@ -195,9 +207,45 @@ class Dataset:
         return xarray.Dataset(arrays, coords={"time": self.timesteps, **coordinates})
 
 
+class Answers:
+    """Answers to questions of one timestep, which are all of the revision of the first one; ChangedError where one is not."""
+
+    def __init__(self, dataset: Dataset, time: int) -> None:
+        self._dataset = dataset
+        self._time = time
+        self._is_first, self._is_sure = True, True
+        self._revision: Optional[int] = None
+
+    def samples(self, field: Field, box: Box, low: int, high: int) -> np.ndarray:
+        """The samples in row-major order, by as many questions as their bytes need: halves of the slowest axis in turn."""
+        count = self._dataset._count(box, low, high)
+        axis = max((axis for axis, (first, last) in enumerate(box) if first < last), default=None)
+        if count * field.sample_bytes <= LARGEST_ANSWER or axis is None:
+            return self._one(field, box, low, high, count)
+        first, last = box[axis]
+        middle = (first + last) // 2
+        halves = (box[:axis] + (part,) + box[axis + 1:] for part in ((first, middle), (middle + 1, last)))
+        return np.concatenate([self.samples(field, half, low, high) for half in halves])
+
+    def _one(self, field: Field, box: Box, low: int, high: int, count: int) -> np.ndarray:
+        """The samples of one question, which are of one revision.
+
+        A server tells of which; of files it is known where the newest one is the same before the question and behind it.
+        """
+        source = self._dataset._source
+        before = source.revision(self._time) if source.is_local else None
+        got = self._dataset._samples(field, self._time, box, low, high, count)
+        revision = source.revision(self._time)
+        is_sure = self._is_sure and (not source.is_local or before == revision)
+        if not self._is_first and not (is_sure and revision == self._revision):
+            raise ChangedError(self._time)
+        self._is_first, self._is_sure, self._revision = False, is_sure, revision
+        return got
+
+
 def box_of(box: Iterable[Iterable[int]]) -> Box:
     """A box whose bounds are Python's own numbers."""
-    pairs = [tuple(int(end) for end in pair) for pair in box]
+    pairs = [tuple(operator.index(end) for end in pair) for pair in box]
     if any(len(pair) != 2 for pair in pairs):
         raise ValueError(f"a box has a pair (low, high) for each axis, not {box!r}")
     return tuple((pair[0], pair[1]) for pair in pairs)

@@ -19,6 +19,25 @@ class MissingTimestep(IdxtoolError):
     """The timestep is not there, whoever says it."""
 
 
+class ChangedError(Exception):
+    """The timestep was written again while it was read, and again when that began anew: revisions are not mixed."""
+
+    def __init__(self, time: int) -> None:
+        super().__init__(time)
+        self.time = time
+
+    def __str__(self) -> str:
+        return f"timestep {self.time} was written again while it was read, twice; read it again"
+
+
+class OtherTypeError(Exception):
+    """The server's samples have another type than the header says: it serves another dataset under this name."""
+
+
+class SharedFoldersError(Exception):
+    """Another dataset beside this one has the same folders for its timesteps, so that one would be a revision of the other."""
+
+
 class ProgramError(IdxtoolError):
     """The program ended with an exit status other than 0.
 

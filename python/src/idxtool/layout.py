@@ -34,8 +34,11 @@ class Field:
 
     def text(self) -> str:
         """The field as a header has it, as `velocity float32[3]`."""
-        count = "" if self.components == 1 else f"[{self.components}]"
-        return f"{self.name} {self.dtype.name}{count}"
+        return f"{self.name} {self.kind()}"
+
+    def kind(self) -> str:
+        """Its type as the format writes it, as `float32[3]`."""
+        return self.dtype.name if self.components == 1 else f"{self.dtype.name}[{self.components}]"
 
 
 def field_of(name: str, kind: str) -> Field:
@@ -140,6 +143,19 @@ def header_values(text: str) -> dict[str, str]:
         elif key is not None and line:
             values[key] = f"{values[key]} {line}".strip()
     return values
+
+
+def folder_of(values: dict[str, str]) -> Optional[str]:
+    """The folder of a timestep's first revision by these values of a header, beside the header, with the time's mark.
+
+    None where the header has no time, and so no folders.
+    """
+    words = values.get("time", "").split()
+    if len(words) != 3:
+        return None
+    parts = [part for part in values.get("filename_template", "").split("/") if part not in (".", "")]
+    before = parts[:next((place for place, part in enumerate(parts) if "%" in part), 0)]
+    return "/".join([*before, words[2].rstrip("/")])
 
 
 def header_of_text(text: str) -> Header:
