@@ -221,10 +221,7 @@ class Set:
     @cached_property
     def ports(self) -> list[int]:
         """The ports of its servers; none where it was killed before it had some."""
-        try:
-            return [int(port) for port in (self.folder / "ports").read_text().split()]
-        except FileNotFoundError:
-            return []
+        return ports_in(self.folder / "ports")
 
     def instance(self, port: int) -> str:
         """The name of a server for systemd: `idxtool@` reads its settings under this name."""
@@ -295,6 +292,8 @@ class Set:
                 if time.monotonic() > end or not self.is_running:
                     raise Refused(f"the new server {self.unit(port)} does not answer ({status}): {self.last_words()}")
                 time.sleep(GLANCE)
+        if not self.is_running:
+            raise Refused(f"something else has a port of the new servers: {self.last_words()}")
 
     def last_words(self) -> str:
         """What its servers wrote about their end."""
@@ -302,6 +301,14 @@ class Set:
         lines = told.splitlines()
         first = next((at for at, line in enumerate(lines) if line.startswith("idxtool: ")), len(lines))
         return " ".join(" ".join(lines[first:first + 2]).split()) or "its journal says more"
+
+
+def ports_in(file: Path) -> list[int]:
+    """The ports that a set has written down."""
+    try:
+        return [int(port) for port in file.read_text().split()]
+    except FileNotFoundError:
+        return []
 
 
 def status_of(port: int, target: str) -> int:
@@ -324,9 +331,9 @@ def sets_of(settings: Settings) -> list[Set]:
             sorted(int(each.name) for each in settings.home.iterdir() if each.name.isdecimal())]
 
 
-def free_ports(settings: Settings, sets: list[Set]) -> list[int]:
-    """Ports that neither a set has nor anything else listens at."""
-    taken = {port for each in sets for port in each.ports}
+def free_ports(settings: Settings) -> list[int]:
+    """Ports that neither a set of any dataset has nor anything else listens at."""
+    taken = {port for file in settings.run.glob("*/*/ports") for port in ports_in(file)}
     free = []
     for port in settings.ports:
         if len(free) < settings.servers and port not in taken and is_free(port):
@@ -538,7 +545,8 @@ def new_set(settings: Settings, sets: list[Set], generation: int, seen: Look) ->
     now = json.loads(seen.text)["steps"]
     new = [step for step in seen.steps if known.get(str(step)) != now[str(step)]]
     try:
-        one.make(seen, free_ports(settings, sets))
+        with locked(settings.run / "ports.lock", wait=True):
+            one.make(seen, free_ports(settings))
         one.start()
         one.await_answers(seen, new[-ASKED:] or list(seen.steps)[-1:])
     except Refused:

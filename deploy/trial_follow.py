@@ -16,7 +16,9 @@ import time
 from contextlib import ExitStack
 from dataclasses import dataclass, field
 from pathlib import Path
+from typing import Callable
 
+from follow import workers_of
 from trial_common import (HERE, SIDE, Trial, convert_words, fetch, free_ports, nginx_file, nginx_program, raw_of, run, site_text,
                           slice_of, target_of, upstream_file, wait_for_port)
 
@@ -30,6 +32,8 @@ REVISIONS = 100
 """Revision R of timestep T has the samples of the raw volume T + 100 R, so that a reply tells its revision."""
 SOON = 10.0
 """Seconds within which a new timestep has to be answered."""
+PORTS = "18101-18199"
+"""The ports of both datasets' servers."""
 KILLS = 20
 ONCE, KEPT = 4, 2
 """How many clients open a connection for each request, and how many keep theirs."""
@@ -213,10 +217,10 @@ class Clients:
         trial.hold(f"no old samples came after new ones {when}", self.old == [], (len(self.old), self.old[:3]))
 
 
-def seconds_until(is_so: "object") -> float:
+def seconds_until(is_so: Callable[[], object]) -> float:
     """After how many seconds something is so; it is asked for at most twice as long as it may take."""
     start = time.monotonic()
-    while not is_so() and time.monotonic() < start + 2 * SOON:  # type: ignore
+    while not is_so() and time.monotonic() < start + 2 * SOON:
         time.sleep(0.02)
     return time.monotonic() - start
 
@@ -247,6 +251,25 @@ def try_writing_on(trial: Trial, one: Followed, other: Followed) -> None:
           f"{clients.again + others.again} asked again over a new connection")
 
 
+MOMENTS: "list[Callable[[Followed], object]]" = [
+    lambda one: one.upstream.read_bytes(),
+    lambda one: all(workers_of(int((one.top / "nginx.pid").read_text())).values()),
+    lambda one: set((one.top / "run" / one.name).iterdir()),
+    lambda one: set((one.top / "stand-in").iterdir())]
+"""What changes while a call does its work: nginx's file, whether nginx accepts connections, the folders of sets, servers."""
+
+
+def kill_at(one: Followed, moment: int, seconds: float) -> None:
+    """Kills a call as soon as one of the moments has come, or, of the number behind them, after some seconds."""
+    look_at = MOMENTS[moment] if moment < len(MOMENTS) else lambda one: None
+    before, end = look_at(one), time.monotonic() + (seconds if moment == len(MOMENTS) else SOON)
+    process = one.start_call()
+    while process.poll() is None and look_at(one) == before and time.monotonic() < end:
+        time.sleep(0.001)
+    process.kill()
+    process.communicate()
+
+
 def try_kills(trial: Trial, one: Followed) -> None:
     """Calls are killed at any point while clients ask; the next call goes on."""
     chance = random.Random(2)
@@ -254,11 +277,8 @@ def try_kills(trial: Trial, one: Followed) -> None:
         for count in range(KILLS):
             step, revision = count % STEPS, 1 + count // STEPS + (count % STEPS == TWICE)
             one.write(step, revision)
-            for _ in range(3):
-                process = one.start_call()
-                time.sleep(chance.random() * 0.6)
-                process.kill()
-                process.communicate()
+            for turn in range(3):
+                kill_at(one, (3 * count + turn) % (len(MOMENTS) + 1), chance.random() * 0.6)
             one.call()
             trial.hold("the call after killed ones goes on", one.ask(step) == revision, (step, revision, one.told[-3:]))
             trial.hold("the servers behind nginx have the same", one.differing(STEPS) == {}, one.differing(STEPS))
@@ -375,6 +395,10 @@ def try_without_nginx(trial: Trial, one: Followed) -> None:
     wait_for_port(one.front)
     trial.hold("when it starts it has the new servers", one.ask(5) == 6, one.ask(5))
     trial.hold("then all is as ever", one.call()[0] == 0 and one.ask(5) == 6 and one.call()[1] == "", one.told[-3:])
+    master = int((one.top / "nginx.pid").read_text())
+    os.kill(master, signal.SIGWINCH)
+    seconds_until(lambda: all(workers_of(master).values()))
+    trial.hold("an nginx that accepts no more does so again", one.call()[0] == 0 and one.ask(5) == 6, one.told[-3:])
 
 
 def try_following(trial: Trial, tool: str, top: Path) -> None:
@@ -386,8 +410,7 @@ def try_following(trial: Trial, tool: str, top: Path) -> None:
         folder.mkdir(mode=0o755)
     fronts = free_ports(2)
     words = [nginx, "-c", str(top / "nginx.conf"), "-e", str(top / "nginx.log")]
-    one, other = (Followed(name, tool, top, front, words, ports)
-                  for name, front, ports in zip("nm", fronts, ("18101-18149", "18151-18199")))
+    one, other = (Followed(name, tool, top, front, words, PORTS) for name, front in zip("nm", fronts))
     nginx_file(top, "".join(site_text(top, each.front, each.data, f"idx_{each.name}") for each in (one, other)), "on")
     with ExitStack() as ends:
         ends.callback(end_servers, top / "stand-in")
