@@ -82,7 +82,7 @@ class Folder:
     def __init__(self, program: str, top: Path) -> None:
         self.program = program
         self.top = top
-        self.step, self.staged = top / "time0000", top / "time0000.part"
+        self.step, self.staged, self.lock = (top / f"time0000{end}" for end in ("", ".part", ".lock"))
 
     def run(self, *words: str, most: int | None = None) -> tuple[int, bytes, str]:
         """The status, the output and the errors of a run, which may write files of no more than so many bytes."""
@@ -101,6 +101,7 @@ class Folder:
         for _ in range(TRIES):
             for left in (self.step, self.staged):
                 shutil.rmtree(left, ignore_errors=True)
+            self.lock.unlink(missing_ok=True)
             writing = subprocess.Popen([self.program, "convert", "v.idx", "r.raw", *LARGE, "0"], cwd=self.top,
                                        stdin=subprocess.DEVNULL, stdout=subprocess.PIPE, stderr=subprocess.PIPE)
             while writing.poll() is None and not has_files(self.staged):
@@ -112,9 +113,9 @@ class Folder:
 
 
 def has_files(folder: Path) -> bool:
-    """Whether a folder is there and is not empty."""
+    """Whether a file is in a folder of the folder."""
     try:
-        return bool(os.listdir(folder))
+        return any(os.listdir(inner) for inner in folder.iterdir())
     except FileNotFoundError:
         return False
 
@@ -160,25 +161,32 @@ def hold_stopped(at: Folder, results: Results) -> None:
     (at.top / "r.raw").write_bytes(struct.pack("<256I", *range(256)) * (SIDE ** 3 // 256))
     hold("a whole conversion", at.convert() == (0, b"", ""))
     wanted = files_of(at.step)
-    hold("the files of it", len(wanted) == 16 and not at.staged.exists())
+    hold("the files of it", len(wanted) == 16 and nothing_staged(at))
     first = at.stopped()
-    busy = refused("time0000.part: another run is writing this step")
+    busy = refused("time0000.lock: another run is writing this step")
     hold("the same timestep beside it", at.convert() == busy and not at.step.exists())
     hold("another timestep beside it", at.convert(1) == (0, b"", "") and files_of(at.top / "time0001") == wanted)
-    hold("it goes on behind these", goes_on(first) == (0, b"", "") and files_of(at.step) == wanted)
+    hold("it goes on behind these", goes_on(first) == (0, b"", "") and files_of(at.step) == wanted and nothing_staged(at))
     kill(at.stopped())
     hold("no timestep behind one that was killed", not at.step.exists() and at.staged.is_dir())
-    hold("it is written again", at.convert() == (0, b"", "") and files_of(at.step) == wanted and not at.staged.exists())
+    hold("it is written again", at.convert() == (0, b"", "") and files_of(at.step) == wanted and nothing_staged(at))
     third = at.stopped()
     at.step.mkdir()
     hold("a folder that came meanwhile", goes_on(third) == refused("time0000: something stands there already"))
     hold("it stays as it is", at.step.is_dir() and not files_of(at.step))
+    hold("nothing of it is left", nothing_staged(at))
     fourth = at.stopped()
-    at.staged.rename(at.top / "taken")
-    at.staged.mkdir()
-    hold("a staged folder that was exchanged",
-         goes_on(fourth) == refused("time0000: the staged folder is not the one that was begun"))
-    hold("it is no timestep", not at.step.exists())
+    own = next(at.staged.iterdir())
+    own.rename(at.staged / "taken")
+    status, _, errors = goes_on(fourth)
+    hold("a staged folder that was taken away", status == 5 and errors.startswith("idxtool: store fault\n  time0000")
+         and errors.endswith(": another run has taken away what this run staged\n"))
+    hold("it is no timestep", not at.step.exists() and [path.name for path in at.staged.iterdir()] == ["taken"])
+
+
+def nothing_staged(at: Folder) -> bool:
+    """Whether nothing is staged of the first timestep, and nobody says that it is being written."""
+    return not at.staged.exists() and not at.lock.exists()
 
 
 def hold_room(at: Folder, results: Results) -> None:

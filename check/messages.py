@@ -211,10 +211,18 @@ def of_files() -> Iterator[Case]:
                after={"v.idx": header(*SMALL), **staged, "v.idx.part1": None, **step})
     left = {"time0000.part/x/y/left.bin": b"left", "time0000.part/left.bin": b"left"}
     yield Case("a timestep that was left", CONVERT, 0, "", {"r.raw": RAW, **left}, output=b"",
-               after={"time0000/x/y/left.bin": None, "time0000/left.bin": None, "time0000.part/left.bin": None, **step})
-    yield Case("a file in place of a staged folder", CONVERT, 5,
-               "idxtool: store fault\n  time0000.part: something stands there already\n",
-               {"r.raw": RAW, "time0000.part": b"plain"})
+               after={"time0000/x/y/left.bin": None, "time0000/left.bin": None, "time0000.part": None, "time0000.lock": None, **step})
+    late = {"time0000/0.bin": b"first", "time0000.part/left.bin": b"left", "time0000.part/own/x/left.bin": b"left", "time0000.lock": b"",
+            "time0000.r1/0.bin": b"second", "time0000.r1.part/own/left.bin": b"left", "time0000.r2.part/own/left.bin": b"left"}
+    yield Case("what earlier revisions left", CONVERT, 0, "", {"r.raw": RAW, **late}, output=b"",
+               after={"time0000/0.bin": b"first", "time0000.part": None, "time0000.part/left.bin": None, "time0000.lock": None,
+                      "time0000.r1/0.bin": b"second", "time0000.r1.part": None, "time0000.r2.part": None, "time0000.r2.lock": None,
+                      **{path.replace("0000", "0000.r2"): content for path, content in step.items()}})
+    for end in ("part", "lock"):
+        put = {f"time0000.{end}": b"plain"} if end == "part" else {}
+        yield Case(f"something else in place of time0000.{end}", CONVERT, 5,
+                   f"idxtool: store fault\n  time0000.{end}: something stands there already\n",
+                   {"r.raw": RAW, **put}, [] if put else ["time0000.lock"])
 
 
 def table_file(samples: list[int]) -> bytes:

@@ -85,7 +85,7 @@ def refusal(status, said, kind):
 
 def left_overs(top):
     """Staged files and folders that both runs left behind, of which a run that was refused may leave none."""
-    return sorted(str(path.relative_to(top)) for path in top.rglob("*.part*"))
+    return sorted(str(path.relative_to(top)) for end in ("part", "lock") for path in top.rglob(f"*.{end}*"))
 
 
 def check_pair(program, top, raws, wanted, kind):

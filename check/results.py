@@ -2,6 +2,8 @@
 from __future__ import annotations
 
 import argparse
+import shutil
+import subprocess
 from collections.abc import Sequence
 
 
@@ -10,6 +12,14 @@ def words_of(text: str | None) -> argparse.ArgumentParser:
     parser = argparse.ArgumentParser(description=text, formatter_class=argparse.RawDescriptionHelpFormatter)
     parser.add_argument("program")
     return parser
+
+
+def why_no_strace() -> str | None:
+    """Why no program can be run under strace; none where one can."""
+    if shutil.which("strace") is None:
+        return "no strace here (Debian's package strace)"
+    tried = subprocess.run(["strace", "-f", "-qq", "-o", "/dev/null", "true"], capture_output=True, check=False)
+    return None if tried.returncode == 0 else "strace may not follow a program here"
 
 
 def status_of(results: Sequence[bool]) -> int:

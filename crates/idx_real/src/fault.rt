@@ -23,11 +23,14 @@ pub enum Reason {
     /// A file was to be made outside of the step that was begun.
     #[error("the file is not in the step that was begun")]
     OutsideStep,
-    /// Another run has the lock of the step's staged folder.
+    /// Another run has the lock of the step.
     #[error("another run is writing this step")]
     AnotherRun,
-    /// A step was to be committed that was not begun, or whose staged folder was taken away.
-    #[error("the staged folder is not the one that was begun")]
+    /// What was staged was taken away, as by a run on another machine that has no lock in common with this one.
+    #[error("another run has taken away what this run staged")]
+    Taken,
+    /// A file was to be made, or a step to be committed, that was not begun.
+    #[error("the step was not begun")]
     NotBegun,
     /// A file was to be committed under another path than it was written for.
     #[error("a file was written for another path")]
@@ -41,6 +44,9 @@ pub enum Reason {
     /// The peer of a link sent its bytes so slowly that no reply could be written in time.
     #[error("the peer sent its bytes too slowly")]
     TooSlow,
+    /// The peer of a link took a reply so slowly that it was not written in its time.
+    #[error("the peer took the reply too slowly")]
+    TakesSlowly,
 }
 
 impl Reason {

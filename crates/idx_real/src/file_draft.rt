@@ -13,11 +13,14 @@ use std::marker::Model;
 /// A file that is being written, of which nothing is told. It is staged beside the folder of its step. A contract sees
 /// the open file, its two paths and the faults.
 ///
-/// A write that fails, and a length that the system does not tell, are each one fault.
+/// Each is one fault: a write that fails, bytes that the system refuses once it has taken them, and a length that it does
+/// not tell.
 pub struct FileDraft<F: Write + OpenFile + Drop> {
     file: F,
     staged: String,
     path: String,
+    /// Whether the file system may refuse bytes that it has taken.
+    is_late: bool,
     log: FaultLog,
 }
 
@@ -37,8 +40,8 @@ impl<F: Write + OpenFile + Drop> Model for FileDraft<F> {
 
 impl<F: Write + OpenFile + Drop> FileDraft<F> {
     /// A file that is being written at the path `staged`, open for that, and that will stand at `path` once its step was
-    /// committed.
-    pub fn new(file: F, staged: String, path: String) -> FileDraft<F>
+    /// committed. Where the file system may refuse bytes that it has taken (`is_late`), `seal` asks for them to be written.
+    pub fn new(file: F, staged: String, path: String, is_late: bool) -> FileDraft<F>
         ensures { result ≡ record {
           file = file;
           staged = string_bytes staged;
@@ -50,6 +53,7 @@ impl<F: Write + OpenFile + Drop> FileDraft<F> {
             file,
             staged,
             path,
+            is_late,
             log: FaultLog::new(),
         }
     }
@@ -66,6 +70,7 @@ impl<F: Write + OpenFile + Drop> FileDraft<F> {
             file: _file,
             staged,
             path: _path,
+            is_late: _is_late,
             log: _log,
         } = self;
         (staged, reason)
@@ -94,7 +99,7 @@ impl<F: Write + OpenFile + Drop> Draft for FileDraft<F> {
         self.log.answer(taken)
     }
 
-    /// The length is the one that the system tells of the file.
+    /// The length is the one that the system tells of the file, once it has written the bytes where it may refuse them late.
     fn seal(mut self) -> Result<FileLeaf, (FileDraft<F>, Outage)>
         ensures path { IfOk result (λ leaf. leaf.path ≡ self.path) }
         ensures faults { IfOk result (λ leaf. leaf.faults ≡ self.faults.count) }
@@ -102,13 +107,14 @@ impl<F: Write + OpenFile + Drop> Draft for FileDraft<F> {
         ensures err { IfErr result (λ back. back.0.faults.count ≡ counted self.faults.count) }
         ensures cause { IfErr result (λ back. Rose self.faults.count back.0.faults.count) }
     {
-        let found = length_of(&self.file);
+        let found = written_length(&self.file, self.is_late);
         match self.log.answer(found) {
             Ok(len) => {
                 let FileDraft {
                     file: _file,
                     staged: _staged,
                     path,
+                    is_late: _is_late,
                     log,
                 } = self;
                 Ok(FileLeaf::sealed(path, len, log.faults()))
@@ -128,6 +134,10 @@ fn write_whole<F: Write>(file: &mut F, piece: &[u8]) -> Result<(), Reason>
     Ok(file.write_all(piece)?)
 }
 
-fn length_of<F: OpenFile>(file: &F) -> Result<u64, Reason> {
+/// The length of a file; where the file system may refuse bytes late, only once it has written them.
+fn written_length<F: OpenFile>(file: &F, is_late: bool) -> Result<u64, Reason> {
+    if is_late {
+        file.sync_data()?;
+    }
     Ok(file.metadata()?.len())
 }

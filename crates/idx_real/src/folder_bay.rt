@@ -8,18 +8,19 @@ ghost use Rattle.idx_real.specs.Front.{AppendsFront};
 
 use crate::fault_log::FaultLog;
 use crate::header_file::put_new;
-use crate::lock::stands_at;
 use crate::refusal::Refusal;
 use crate::regular_file::{front, open_if_there};
+use crate::stage::{Stage, drop_left};
 use crate::step_folder::{
-    PART, are_of_their_paths, beside, create_file, empty, folder_above, folder_of, hold_empty,
-    is_folder, length_if_there, make_folders, rename_new,
+    LOCK, PART, are_of_their_paths, beside, create_file, folder_above, folder_of, is_folder,
+    later_revision, length_if_there, make_folders, rename_new,
 };
 use crate::{Fault, FileDraft, FileLeaf, Lockable, Reason};
 use idx_outside::{Bay, BayCall, BayFault, Bytes, NoMemory, Outage};
 use std::alloc::Global;
 use std::fs;
 use std::marker::Model;
+use std::random::RandomSource;
 use std::rt::Files;
 
 /// How many bytes of a header file are read at most: one more than a header may have, so that whoever reads the text
@@ -29,22 +30,24 @@ pub const HEADER_READ: u64 = 65_537;
 /// The folder of a header file as a bay, of which nothing is known. A contract sees the header file's path, the folder
 /// last begun and the faults.
 ///
-/// A step of folder F is staged in `F.part` beside it, which is renamed at `commit`. From `begin_step` to `commit` it is
-/// locked, so that no other run writes the same step. After a refusal it may be left; it is never read, and the next
-/// `begin_step` of F drops what is in it. A header is written under a name of its own, and put where none stands; where the
-/// very same text stands already, it is as good as put.
+/// A step of folder F is staged in `F.part/NAME` beside it, with a NAME that no other run has, and that folder is renamed
+/// at `commit`. No call makes it twice, and what a run drops it first renames: so a step that is committed is whole and of
+/// one run, also where runs have no lock in common. The file `F.lock`, locked from `begin_step` to `commit`, lets a second
+/// run fail at once. A bay that is let go drops what it staged. What a run that was killed leaves is never read, and the
+/// next `begin_step` of F, or of a later revision, drops it. A header is written under a name of its own, and put where
+/// none stands; where the very same text stands already, it is as good as put.
 ///
 /// Each call of the system that fails is one fault, but for what is not there where a call asks whether it is. So are
 /// what is no regular file where a file is read, what stands already where a step is committed, another text where a
 /// header is put, a step that another run is writing, one that is committed and was not begun, a file outside of the step
-/// that was begun, a name that is no text, and want of memory in a call that cannot answer it.
-#[derive(Drop)]
-pub struct FolderBay<R: Files + Drop> {
+/// that was begun, a folder of its own that another run has taken away, a name that is no text, and want of memory in a
+/// call that cannot answer it.
+pub struct FolderBay<R: Files + RandomSource + Drop> {
     rt: R,
     path: String,
     begun: Option<String>,
-    /// The staged folder of the step that was begun, which is locked as long as it is open.
-    held: Option<R::File>,
+    /// Where the step that was begun is staged, until it is committed.
+    held: Option<Stage<R::File>>,
     changes: u64,
     call: Option<BayCall>,
     failed: Option<String>,
@@ -58,7 +61,7 @@ struct Places {
     path: String,
 }
 
-impl<R: Files + Drop> Model for FolderBay<R> {
+impl<R: Files + RandomSource + Drop> Model for FolderBay<R> {
     ghost use Rattle.std.specs.Prelude.{string_bytes, option_map, is_some};
     ghost use Rattle.idx_real.specs.FolderState.{FolderState};
 
@@ -75,7 +78,7 @@ impl<R: Files + Drop> Model for FolderBay<R> {
     } };
 }
 
-impl<R: Files + Drop> FolderBay<R> {
+impl<R: Files + RandomSource + Drop> FolderBay<R> {
     /// `path` is the header file's. Opens nothing yet and takes no memory.
     pub fn new(rt: R, path: String) -> FolderBay<R>
         ensures { result ≡ record { path = string_bytes path; begun = None; held = false; changes = 0; call = None; failed = None; faults = no_faults } }
@@ -177,9 +180,12 @@ impl<R: Files + Drop> FolderBay<R> {
         let (Ok(path), Ok(rest)) = (str::from_utf8(path), str::from_utf8(rest)) else {
             return Ok(Err(Reason::NotText));
         };
-        let end = format!(in self.alloc(); "{PART}/{rest}")?;
+        let Some(stage) = &self.held else {
+            return Ok(Err(Reason::NotBegun));
+        };
+        let own = stage.own();
         Ok(Ok(Places {
-            staged: self.place(folder, end.as_str())?,
+            staged: format!(in self.alloc(); "{own}/{rest}")?,
             path: self.place(path, "")?,
         }))
     }
@@ -197,49 +203,40 @@ impl<R: Files + Drop> FolderBay<R> {
     }
 }
 
-impl<R: Files + Drop> FolderBay<R> {
-    /// Whether the step that was begun is this one, and its staged folder still stands at this place.
-    fn holds(&self, folder: &str, place: &str) -> Result<bool, Reason>
-        ensures begun { IfOk result (λ holds. IsTrue holds → self.now.begun ≡ Some folder.now) }
-        ensures held { IfOk result (λ holds. IsTrue holds → IsTrue self.now.held) }
+impl<R: Files + RandomSource + Drop> FolderBay<R> {
+    /// Whether the step that was begun, and is not committed, is this one.
+    fn has_begun(&self, folder: &str) -> bool
+        ensures begun { IsTrue result → self.now.begun ≡ Some folder.now }
+        ensures held { IsTrue result → IsTrue self.now.held }
     {
         match &self.begun {
-            Some(begun) if begun.as_str() == folder => self.stands_held(place),
-            _ => Ok(false),
+            Some(begun) if begun.as_str() == folder => self.held.is_some(),
+            _ => false,
         }
     }
 
-    /// Whether the staged folder that is locked stands at this place.
-    fn stands_held(&self, place: &str) -> Result<bool, Reason>
-        ensures { IfOk result (λ stands. IsTrue stands → IsTrue self.now.held) }
+    /// Keeps what is staged, and gives up what was.
+    fn keep(&mut self, stage: Stage<R::File>)
+        ensures { self.new ≡ record self.old { held = true } }
     {
-        match &self.held {
-            Some(held) => stands_at(&self.rt, held, place),
-            None => Ok(false),
+        if let Some(last) = self.held.replace(stage) {
+            last.give_up(&self.rt, self.alloc());
         }
     }
 
-    /// Keeps a folder locked, and lets the last one go.
-    fn keep(&mut self, held: Option<R::File>)
-        ensures { self.new ≡ record self.old { held = is_some held || self.old.held } }
-    {
-        if held.is_some() {
-            self.held = held;
-        }
-    }
-
-    /// Lets the folder go that is locked.
+    /// Lets the step go that was committed.
     fn let_go(&mut self)
         ensures { self.new ≡ record self.old { held = false } }
     {
-        self.held = None;
+        if let Some(stage) = self.held.take() {
+            stage.end(&self.rt);
+        }
     }
 
     /// Gives the staged folder of the step that was begun its own name.
     fn rename_step(
         &self,
         folder: &str,
-        staged: &str,
         place: &str,
         leaves: &Vec<(Bytes, FileLeaf)>,
     ) -> Result<(), Reason>
@@ -250,10 +247,10 @@ impl<R: Files + Drop> FolderBay<R> {
         if !are_of_their_paths(leaves) {
             return Err(Reason::OtherPath);
         }
-        if !self.holds(folder, staged)? {
-            return Err(Reason::NotBegun);
+        match &self.held {
+            Some(stage) if self.has_begun(folder) => rename_new(&self.rt, stage.own(), place),
+            _ => Err(Reason::NotBegun),
         }
-        rename_new(&self.rt, staged, place)
     }
 
     /// The same of a step by its name.
@@ -270,16 +267,15 @@ impl<R: Files + Drop> FolderBay<R> {
             Ok(folder) => folder,
             Err(reason) => return Ok(Err(Refusal::from(reason))),
         };
-        let staged = self.place(folder, PART)?;
         let place = self.place(folder, "")?;
-        match self.rename_step(folder, staged.as_str(), place.as_str(), leaves) {
+        match self.rename_step(folder, place.as_str(), leaves) {
             Ok(()) => Ok(Ok(())),
             Err(reason) => Ok(Err(Refusal::at(place, reason))),
         }
     }
 }
 
-impl<R: Files + Drop> FolderBay<R> {
+impl<R: Files + RandomSource + Drop> FolderBay<R> {
     /// Makes the folders above the header file, and puts its text where no header stands.
     fn put_header(&self, text: &[u8]) -> Result<(), Refusal>
     where
@@ -321,53 +317,50 @@ impl<R: Files + Drop> FolderBay<R> {
         }
     }
 
-    /// Makes a file at these places, and the folders above it.
+    /// Makes a file at these places.
     fn make_file_at(&self, places: Places) -> Result<FileDraft<R::File>, Refusal>
         ensures { IfOk result (λ draft. draft.faults ≡ no_faults) }
     {
-        self.make_above(places.staged.as_str())?;
-        match create_file(&self.rt, places.staged.as_str()) {
-            Ok(file) => Ok(FileDraft::new(file, places.staged, places.path)),
+        let Some(stage) = &self.held else {
+            return Err(Refusal::at(places.staged, Reason::NotBegun));
+        };
+        match create_file(&self.rt, stage.own(), places.staged.as_str()) {
+            Ok(file) => Ok(FileDraft::new(file, places.staged, places.path, stage.is_late())),
             Err(reason) => Err(Refusal::at(places.staged, reason)),
         }
     }
 }
 
-impl<R: Files + Drop> FolderBay<R>
+impl<R: Files + RandomSource + Drop> FolderBay<R>
 where
     R::File: Lockable,
 {
-    /// Locks the staged folder of a step and drops what is in it; `None` where this bay has locked it already.
-    fn hold_step(&self, folder: &str, place: &str) -> Result<Option<R::File>, Reason>
-        ensures { IfOk result (λ held. IsTrue (is_some held || self.now.held)) }
-    {
-        if self.holds(folder, place)? {
-            empty(&self.rt, self.alloc(), place)?;
-            return Ok(None);
-        }
-        Ok(Some(hold_empty(&self.rt, self.alloc(), place)?))
+    /// Stages a step.
+    fn stage_at(&self, shared: String, lock: String) -> Result<Stage<R::File>, Refusal> {
+        self.make_above(shared.as_str())?;
+        Stage::begin(&self.rt, self.alloc(), shared, lock)
     }
 
-    /// The same, where the folders above the staged one may be missing.
-    fn hold_staged(&self, folder: &str, place: String) -> Result<Option<R::File>, Refusal>
-        ensures { IfOk result (λ held. IsTrue (is_some held || self.now.held)) }
+    /// The same by the name of its folder, which is given back.
+    fn stage_step(&self, folder: &str) -> Result<(String, Stage<R::File>), Refusal>
+        ensures { IfOk result (λ step. string_bytes step.0 ≡ folder.now) }
     {
-        self.make_above(place.as_str())?;
-        match self.hold_step(folder, place.as_str()) {
-            Ok(held) => Ok(held),
-            Err(reason) => Err(Refusal::at(place, reason)),
-        }
-    }
-
-    /// The same, with the name of the folder.
-    fn stage_step(&self, folder: &str) -> Result<(String, Option<R::File>), Refusal>
-        ensures name { IfOk result (λ step. string_bytes step.0 ≡ folder.now) }
-        ensures held { IfOk result (λ step. IsTrue (is_some step.1 || self.now.held)) }
-    {
-        let place = self.place(folder, PART)?;
+        let shared = self.place(folder, PART)?;
+        let lock = self.place(folder, LOCK)?;
         match String::from_str(self.alloc(), folder) {
-            Ok(begun) => Ok((begun, self.hold_staged(folder, place)?)),
-            Err(_) => Err(Refusal::at(place, Reason::no_memory())),
+            Ok(begun) => Ok((begun, self.stage_at(shared, lock)?)),
+            Err(_) => Err(Refusal::at(shared, Reason::no_memory())),
+        }
+    }
+
+    /// Drops what this bay staged of the step that it has begun, and stages it anew.
+    fn stage_again(&mut self) -> Result<(), Refusal>
+        ensures { self.new ≡ self.old }
+    {
+        let alloc = self.alloc();
+        match &mut self.held {
+            Some(stage) => stage.begin_again(&self.rt, alloc),
+            None => Ok(()),
         }
     }
 
@@ -376,10 +369,59 @@ where
         ensures ok { OnOk result (self.new ≡ record self.old { begun = Some folder.now; held = true }) }
         ensures err { OnErr result (self.new ≡ self.old) }
     {
-        let (begun, held) = self.stage_step(text_of(folder)?)?;
-        self.keep(held);
+        let folder = text_of(folder)?;
+        if self.has_begun(folder) {
+            return self.stage_again();
+        }
+        let (begun, stage) = self.stage_step(folder)?;
+        self.drop_earlier(folder);
+        self.keep(stage);
         self.begun = Some(begun);
         Ok(())
+    }
+
+    /// Drops what was staged of the earlier revisions of a step. What cannot be dropped is no fault.
+    fn drop_earlier(&self, folder: &str) {
+        if let Some((step, later)) = later_revision(folder) {
+            let _dropped = self.drop_revision(step, "");
+            for revision in 1..later {
+                let _dropped = self.drop_numbered(step, revision);
+            }
+        }
+    }
+
+    /// The same of one revision behind the first.
+    fn drop_numbered(&self, step: &str, revision: u8) -> Result<(), NoMemory> {
+        let end = format!(in self.alloc(); ".r{revision}")?;
+        self.drop_revision(step, end.as_str())
+    }
+
+    /// The same of a revision whose name has this end.
+    fn drop_revision(&self, step: &str, end: &str) -> Result<(), NoMemory> {
+        let folder = self.place(step, end)?;
+        let shared = format!(in self.alloc(); "{folder}{PART}")?;
+        let lock = format!(in self.alloc(); "{folder}{LOCK}")?;
+        drop_left(&self.rt, self.alloc(), shared.as_str(), lock.as_str());
+        Ok(())
+    }
+}
+
+impl<R: Files + RandomSource + Drop> Drop for FolderBay<R> {
+    /// What is staged and not committed is dropped.
+    fn drop(self) {
+        let FolderBay {
+            rt,
+            path,
+            begun: _begun,
+            held,
+            changes: _changes,
+            call: _call,
+            failed: _failed,
+            log: _log,
+        } = self;
+        if let Some(stage) = held {
+            stage.give_up(&rt, *path.allocator());
+        }
     }
 }
 
@@ -402,7 +444,7 @@ fn leaf_at<R: Files>(rt: &R, place: String) -> Result<Option<FileLeaf>, Refusal>
     }
 }
 
-impl<R: Files + Drop> Bay for FolderBay<R>
+impl<R: Files + RandomSource + Drop> Bay for FolderBay<R>
 where
     R::File: Lockable,
 {
@@ -485,8 +527,8 @@ where
         self.answer(BayCall::HasStep, stands)
     }
 
-    /// Makes a folder for the step's files and those above it, locks it, and drops what was in it. Where another run has
-    /// it, that is a fault.
+    /// Makes a folder of its own for the step's files and those above it, and drops what other runs left of the step and of
+    /// its earlier revisions. Where another run has the step's lock, that is a fault.
     fn begin_step(&mut self, folder: &[u8]) -> Result<(), Outage>
         ensures path { self.new.path ≡ self.old.path }
         ensures begun { OnOk result (self.new.begun ≡ Some folder.now) }
@@ -540,8 +582,8 @@ where
         Ok(self.answer(BayCall::Leaf, found)?)
     }
 
-    /// Gives the step's folder its own name, and lets its lock go. Where something stands there already, a file was
-    /// written for another path, or the staged folder is not the one that was begun, that is a fault.
+    /// Gives the step's folder its name, and lets its lock go. Where something stands there already, a file was written for
+    /// another path, the step was not begun, or another run has taken away what was staged, that is a fault.
     fn commit(&mut self, folder: &[u8], leaves: &Vec<(Bytes, FileLeaf)>) -> Result<(), BayFault>
         ensures begun_step { OnOk result (self.old.begun ≡ Some folder.now) }
         ensures was_held { OnOk result (IsTrue self.old.held) }

@@ -1,7 +1,8 @@
 //! How a header's text is put under its name, where no other stands.
+use crate::local_disk::refuses_late;
 use crate::lock::hold;
 use crate::regular_file::{front, open_regular};
-use crate::step_folder::PART;
+use crate::step_folder::{PART, folder_above};
 use crate::{Lockable, Reason};
 use std::alloc::Global;
 use std::fs;
@@ -27,7 +28,7 @@ where
     R::File: Lockable,
 {
     let (staged, file) = stage(rt, alloc, path)?;
-    let put = match write_all(file, text) {
+    let put = match write_all(file, text, refuses_late(rt, alloc, folder_or_here(path))) {
         Ok(()) => link_new(rt, alloc, staged.as_str(), path, text),
         Err(reason) => Err(reason),
     };
@@ -63,11 +64,28 @@ fn stage<R: Files>(rt: &R, alloc: Global, path: &str) -> Result<(String, R::File
     Err(Reason::StandsAlready)
 }
 
-/// Writes a text, and closes the file.
-fn write_all<F: Write + Drop>(file: F, text: &[u8]) -> Result<(), Reason> {
+/// The folder in which a path stands.
+fn folder_or_here(path: &str) -> &str {
+    match folder_above(path) {
+        "" if path.starts_with('/') => "/",
+        "" => ".",
+        folder => folder,
+    }
+}
+
+/// Writes a text, and closes the file. Where the file system may refuse bytes late, they are written first.
+fn write_all<F: Write + OpenFile + Drop>(
+    file: F,
+    text: &[u8],
+    is_late: bool,
+) -> Result<(), Reason> {
     let mut file = file;
     file.write_all(text)?;
-    Ok(file.flush()?)
+    file.flush()?;
+    if is_late {
+        file.sync_data()?;
+    }
+    Ok(())
 }
 
 /// Gives a file with this text a second name, where nothing stands under it but an empty file or the same text.

@@ -3,17 +3,19 @@ ghost use Rattle.std.specs.Prelude.{◌≡◌, ◌↔◌, ◌<◌, length, strin
 ghost use Rattle.idx_outside.specs.Files.{LiesIn};
 ghost use Rattle.idx_real.specs.FolderState.{InStep, are_of_their_paths};
 
-use crate::lock::hold;
-use crate::{FileLeaf, Lockable, Reason};
+use crate::{FileLeaf, Reason};
 use idx_outside::{Bytes, NoMemory};
-use std::alloc::{AllocGlobal, Global};
-use std::fs;
-use std::fs::{DirEntry, File};
+use std::alloc::Global;
+use std::fs::File;
 use std::io::ErrorKind;
 use std::rt::Files;
+use std::{fs, io};
 
-/// What stands behind a folder's name where it is not yet committed, and behind a header's that is not yet put.
+/// What stands behind the name of the folder in which a step is staged, and behind a header's that is not yet put.
 pub(crate) const PART: &str = ".part";
+
+/// What stands behind a step's name in that of the file that says that a run is writing it.
+pub(crate) const LOCK: &str = ".lock";
 
 /// The path in the folder of the header file, with some text behind it.
 pub(crate) fn beside(
@@ -75,19 +77,8 @@ pub(crate) fn length_if_there<R: Files>(rt: &R, path: &str) -> Result<Option<u64
     }
 }
 
-/// Makes a folder where none stands, locks it, and removes all that is in it. No other run gets it while it stays open.
-pub(crate) fn hold_empty<R: Files>(rt: &R, alloc: Global, path: &str) -> Result<R::File, Reason>
-where
-    R::File: Lockable,
-{
-    make_if_missing(rt, path)?;
-    let folder = hold(rt, path)?;
-    empty(rt, alloc, path)?;
-    Ok(folder)
-}
-
 /// Makes a folder; one that stands already may stay.
-fn make_if_missing<R: Files>(rt: &R, path: &str) -> Result<(), Reason> {
+pub(crate) fn make_if_missing<R: Files>(rt: &R, path: &str) -> Result<(), Reason> {
     match fs::create_dir(rt, path) {
         Ok(()) => Ok(()),
         Err(error) if error.kind() == ErrorKind::AlreadyExists => stands_as_folder(rt, path),
@@ -95,50 +86,84 @@ fn make_if_missing<R: Files>(rt: &R, path: &str) -> Result<(), Reason> {
     }
 }
 
-/// Fails where what stands there is no folder. One that was taken away is another run's.
+/// Fails where what stands there is no folder. One that another run takes away meanwhile is made again where it is needed.
 fn stands_as_folder<R: Files>(rt: &R, path: &str) -> Result<(), Reason> {
     match fs::symlink_metadata(rt, path) {
         Ok(metadata) if metadata.is_dir() => Ok(()),
         Ok(_) => Err(Reason::StandsAlready),
-        Err(error) if error.kind() == ErrorKind::NotFound => Err(Reason::AnotherRun),
+        Err(error) if error.kind() == ErrorKind::NotFound => Ok(()),
         Err(error) => Err(Reason::from(error)),
     }
 }
 
-/// Removes all that is in a folder.
-pub(crate) fn empty<R: Files>(rt: &R, alloc: Global, path: &str) -> Result<(), Reason> {
-    remove_entries(&(rt, alloc), path)
+/// Whether a folder stands there, and no link to one.
+pub(crate) fn is_folder_itself<R: Files>(rt: &R, path: &str) -> Result<bool, Reason> {
+    Ok(fs::symlink_metadata(rt, path)?.is_dir())
 }
 
-/// The same over files that come with memory.
-fn remove_entries<R: Files + AllocGlobal + Clone + Drop>(rt: &R, path: &str) -> Result<(), Reason> {
-    for entry in fs::read_dir(rt, path)? {
-        remove_entry(rt, entry?)?;
+/// Makes an empty file where nothing stands, in a folder of the run's own. The folders between the two are made where they
+/// are missing, one by one, and the run's own never.
+pub(crate) fn create_file<R: Files>(rt: &R, own: &str, path: &str) -> Result<R::File, Reason> {
+    match File::create_new(rt, path) {
+        Ok(file) => Ok(file),
+        Err(error) if error.kind() == ErrorKind::NotFound => {
+            make_between(rt, own, path)?;
+            or_taken(File::create_new(rt, path))
+        }
+        Err(error) => Err(Reason::from(error)),
+    }
+}
+
+/// What a call answers of what lies in the run's own folder. That the folder is gone says that another run has taken it.
+fn or_taken<T: Drop>(answer: io::Result<T>) -> Result<T, Reason> {
+    match answer {
+        Ok(value) => Ok(value),
+        Err(error) if error.kind() == ErrorKind::NotFound => Err(Reason::Taken),
+        Err(error) => Err(Reason::from(error)),
+    }
+}
+
+/// Makes the folders of a path that lie in another one, where they are missing.
+fn make_between<R: Files>(rt: &R, own: &str, path: &str) -> Result<(), Reason> {
+    for end in own.len()..path.len() {
+        match path.split_at_checked(end) {
+            Some((folder, rest)) if end > own.len() && rest.starts_with('/') => make_below(
+                rt, folder,
+            )?,
+            _ => {}
+        }
     }
     Ok(())
 }
 
-/// Removes an entry of a folder, and all that is in it where it is a folder itself.
-fn remove_entry<R: Files + AllocGlobal + Drop>(rt: &R, entry: DirEntry<R>) -> Result<(), Reason> {
-    if entry.file_type()?.is_dir() {
-        Ok(rt.remove_dir_all(rt.alloc(), entry.path().as_str())?)
-    } else {
-        Ok(fs::remove_file(rt, entry.path())?)
+/// Makes a folder in one that stands; one that stands already may stay.
+fn make_below<R: Files>(rt: &R, folder: &str) -> Result<(), Reason> {
+    match fs::create_dir(rt, folder) {
+        Err(error) if error.kind() == ErrorKind::AlreadyExists => Ok(()),
+        made => or_taken(made),
     }
-}
-
-/// Makes an empty file where nothing stands.
-pub(crate) fn create_file<R: Files>(rt: &R, path: &str) -> Result<R::File, Reason> {
-    Ok(File::create_new(rt, path)?)
 }
 
 /// Gives a folder its own name. Where something stands under that name already, that is a fault.
 pub(crate) fn rename_new<R: Files>(rt: &R, from: &str, to: &str) -> Result<(), Reason> {
     match fs::symlink_metadata(rt, to) {
         Ok(_) => Err(Reason::StandsAlready),
-        Err(error) if error.kind() == ErrorKind::NotFound => Ok(fs::rename(rt, from, to)?),
+        Err(error) if error.kind() == ErrorKind::NotFound => rename(rt, from, to),
         Err(error) => Err(Reason::from(error)),
     }
+}
+
+/// The same, where nothing stood there a moment ago.
+fn rename<R: Files>(rt: &R, from: &str, to: &str) -> Result<(), Reason> {
+    match fs::rename(rt, from, to) {
+        Err(error) if stands(error.kind()) => Err(Reason::StandsAlready),
+        renamed => or_taken(renamed),
+    }
+}
+
+/// Whether a rename says by this that another folder, which is not empty, has the name.
+fn stands(kind: ErrorKind) -> bool {
+    kind == ErrorKind::AlreadyExists || kind == ErrorKind::DirectoryNotEmpty
 }
 
 /// Whether each leaf was written under the path that it is to stand under.
@@ -162,4 +187,14 @@ pub(crate) fn make_folders<R: Files>(rt: &R, folder: &str) -> Result<(), Reason>
         return Ok(());
     }
     Ok(fs::create_dir_all(rt, folder)?)
+}
+
+/// The name of a step without the end that a later revision has, as `.r12`, and the number of that revision; `None` of a
+/// first one.
+pub(crate) fn later_revision(folder: &str) -> Option<(&str, u8)> {
+    let (step, number) = folder.rsplit_once(".r")?;
+    match number.parse::<u8>() {
+        Ok(revision) if revision > 0 => Some((step, revision)),
+        _ => None,
+    }
 }

@@ -46,7 +46,10 @@ fn makes(bay: &mut FolderBay<HostRuntime>, path: &str) -> bool {
 /// Files that are made one after another once the step `t1` was begun, and why they are not.
 static FILES: [(&str, &str); 3] = [
     ("t1/0.bin", ""),
-    ("t1/0.bin", "made/t1.part/0.bin: File exists (os error 17)"),
+    (
+        "t1/0.bin",
+        "made/t1.part/*/0.bin: File exists (os error 17)",
+    ),
     (
         "t10/0.bin",
         "made/t10/0.bin: the file is not in the step that was begun",
@@ -61,10 +64,13 @@ fn a_file_is_made_once_and_in_the_step_that_was_begun(rt: HostRuntime) -> Result
         assert!(rt; makes(&mut bay, path) == fault.is_empty());
         assert!(rt; is_text(rt.alloc(), bay.last_fault(), fault));
     }
-    // What was begun before is dropped.
+    // What was begun before is dropped, and then what is staged and not committed.
     assert!(rt; bay.begin_step(b"t1").is_ok());
-    assert!(rt; fs::metadata(&rt, "made/t1.part/0.bin").is_err());
+    assert!(rt; count_in(&rt, "made/t1.part") == 1 && count_in(&rt, "made") == 2);
+    assert!(rt; bay.begin_step(b"t2").is_ok());
+    assert!(rt; count_in(&rt, "made/t2.part") == 1 && count_in(&rt, "made") == 2);
     drop(bay);
+    assert!(rt; count_in(&rt, "made") == 0);
     fs::remove_dir_all(&rt, "made")?;
     Ok(())
 }

@@ -57,12 +57,16 @@ const SILENT: &str = "the peer let the link wait for too long";
 
 const SLOW: &str = "the peer sent its bytes too slowly";
 
+const TAKES_SLOWLY: &str = "the peer took the reply too slowly";
+
 /// How a link waits in vain for a silent peer, how many bytes it writes before that, and why it ends. A tenth of a second
-/// of silence ends it, also while its peer takes nothing, or a tenth of a second from one reply to the next.
-static VAIN: [((u64, u64), usize, &str); 3] = [
-    ((100, 60_000), 0, SILENT),
-    ((100, 60_000), 1 << 25, SILENT),
-    ((3_600_000, 100), 0, SLOW),
+/// of silence ends it, also while its peer takes nothing, or a tenth of a second from one reply to the next, or a
+/// thousandth of a second for a piece and for each MiB of it.
+static VAIN: [((u64, u64, u64), usize, &str); 4] = [
+    ((100, 60_000, 60_000), 0, SILENT),
+    ((100, 60_000, 60_000), 1 << 25, SILENT),
+    ((3_600_000, 100, 60_000), 0, SLOW),
+    ((100, 60_000, 1), 1 << 25, TAKES_SLOWLY),
 ];
 
 /// Whether a link of a door has one fault for this reason since its peer is silent, or takes nothing of a long piece.
@@ -84,10 +88,12 @@ fn waits_in_vain<R: Sockets>(
 
 #[test]
 fn a_link_ends_whose_peer_lets_it_wait(rt: HostRuntime) -> Result<(), Fail> {
-    for &((silence, turn), count, reason) in &VAIN {
+    for &((silence, turn, piece), count, reason) in &VAIN {
         let patience = Patience {
             silence: Duration::from_millis(silence),
             turn: Duration::from_millis(turn),
+            piece: Duration::from_millis(piece),
+            ..Patience::of_a_server()
         };
         let (mut door, _peer) = door_and_peer(&rt, rt.alloc(), patience)?;
         assert!(rt; waits_in_vain(rt.alloc(), &mut door, count, reason)?);

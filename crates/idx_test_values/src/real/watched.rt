@@ -1,28 +1,64 @@
-//! A runtime in which another run exchanges a folder at a chosen moment.
+//! A runtime in which another run does something at a chosen moment.
 use super::*;
 use std::alloc::Allocator;
 use std::fs::{File, Metadata, OpenOptions};
+use std::random::RandomSource;
 use std::rt::Files;
+use std::sync::atomic::{AtomicU64, Ordering};
 
-/// The staged folder that is exchanged.
-const STAGED: &str = "seized/t0.part";
+/// The file that says that a run is writing the step, and the folder in which it is staged.
+const LOCK: &str = "seized/t0.lock";
 
-/// The files of the system. Another folder stands in the place of the staged one once it was opened.
-#[derive(Drop)]
-struct Exchanging<'a> {
-    rt: &'a HostRuntime,
+const SHARED: &str = "seized/t0.part";
+
+/// What another run does.
+#[derive(Clone, Copy, Debug, PartialEq, Eq)]
+enum Other {
+    /// Another file stands in the place of the lock file each time that it was opened.
+    Relocks,
+    /// Takes the first name of a run's own folder, and removes the folder of all before the second one is made.
+    TakesNames,
 }
 
-impl Files for Exchanging<'_> {
+/// The files of the system, and the other run.
+#[derive(Drop)]
+struct Watched<'a> {
+    rt: &'a HostRuntime,
+    other: Other,
+    /// How many names of a run's own folder were tried.
+    names: AtomicU64,
+}
+
+impl Watched<'_> {
+    /// What the other run does before a folder of this path is made.
+    fn seize(&self, path: &str) -> io::Result<()> {
+        if self.other != Other::TakesNames || !path.starts_with("seized/t0.part/") {
+            return Ok(());
+        }
+        match self.names.fetch_add(1, Ordering::SeqCst) {
+            0 => self.rt.create_dir(path),
+            1 => self.rt.remove_dir_all(self.rt.alloc(), SHARED),
+            _ => Ok(()),
+        }
+    }
+}
+
+impl RandomSource for Watched<'_> {
+    fn fill_bytes(&self, buf: &mut [u8]) -> io::Result<()> {
+        self.rt.fill_bytes(buf)
+    }
+}
+
+impl Files for Watched<'_> {
     type File = File;
 
     type Dir = <HostRuntime as Files>::Dir;
 
     fn open_file(&self, how: &OpenOptions, path: &str) -> io::Result<File> {
         let file = self.rt.open_file(how, path)?;
-        if path == STAGED {
-            self.rt.rename(path, "seized/taken")?;
-            self.rt.create_dir(path)?;
+        if self.other == Other::Relocks && path == LOCK {
+            self.rt.remove_file(path)?;
+            fs::write(self.rt, path, b"".as_slice())?;
         }
         Ok(file)
     }
@@ -56,6 +92,7 @@ impl Files for Exchanging<'_> {
     }
 
     fn create_dir(&self, path: &str) -> io::Result<()> {
+        self.seize(path)?;
         self.rt.create_dir(path)
     }
 
@@ -68,20 +105,32 @@ impl Files for Exchanging<'_> {
     }
 }
 
-/// Whether a step is begun whose staged folder another run exchanges when it is open and not yet locked.
-fn begins_exchanged(rt: &HostRuntime) -> Result<bool, NoMemory> {
+/// Whether a step is begun while another run does this, and else why not; then how many folders are staged.
+fn begins(rt: &HostRuntime, other: Other, fault: &str) -> Result<(bool, usize), NoMemory> {
     let path = String::from_str(rt.alloc(), "seized/set.idx")?;
-    let mut bay = FolderBay::new(Exchanging { rt }, path);
+    let names = AtomicU64::new(0);
+    let mut bay = FolderBay::new(Watched { rt, other, names }, path);
     let begun = bay.begin_step(b"t0").is_ok();
-    let want = "seized/t0.part: another run is writing this step";
-    Ok(begun || !is_text(rt.alloc(), bay.last_fault(), want))
+    let told = is_text(rt.alloc(), bay.last_fault(), fault);
+    Ok((told && begun == fault.is_empty(), count_in(rt, SHARED)))
 }
 
 #[test]
-fn a_staged_folder_that_is_exchanged_before_it_is_locked_is_another_runs(
+fn a_lock_file_that_is_exchanged_before_it_is_locked_is_another_runs(
     rt: HostRuntime,
 ) -> Result<(), Fail> {
-    assert!(rt; !begins_exchanged(&rt)?);
+    let want = "seized/t0.lock: another run is writing this step";
+    assert!(rt; begins(&rt, Other::Relocks, want)? == (true, 0));
+    fs::remove_dir_all(&rt, "seized")?;
+    Ok(())
+}
+
+#[test]
+fn a_name_that_is_taken_gives_another_also_where_the_folder_of_all_goes(
+    rt: HostRuntime,
+) -> Result<(), Fail> {
+    assert!(rt; begins(&rt, Other::TakesNames, "")? == (true, 1));
+    assert!(rt; count_in(&rt, "seized") == 0);
     fs::remove_dir_all(&rt, "seized")?;
     Ok(())
 }
