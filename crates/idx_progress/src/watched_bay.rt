@@ -1,6 +1,7 @@
 ghost use Rattle.std.specs.Prelude.{◌≡◌};
 
 use crate::line::Line;
+use crate::notes::Notes;
 use crate::watched_draft::WatchedDraft;
 use idx_header::Header;
 use idx_layout::{file_len, files};
@@ -10,13 +11,14 @@ use std::io::Write;
 use std::marker::Model;
 use std::time::Clock;
 
-/// A bay that tells a line, where there is one, how much of a step is written, and which files of one are found. A contract
-/// sees the bay.
+/// A bay that tells a line, where there is one, how much of a step is written, and which files of one are found, and says,
+/// where it is to, which step was committed. A contract sees the bay.
 #[derive(Drop)]
 pub struct WatchedBay<B: Bay + Drop, R: Clock + Copy, W: Write + Copy> {
     bay: B,
     alloc: Global,
     line: Option<Line<R, W>>,
+    notes: Option<Notes<W>>,
     /// The header that stands, where it was asked for or put, and where somebody wants to know.
     header: Option<Header>,
 }
@@ -28,14 +30,20 @@ impl<B: Bay + Drop, R: Clock + Copy, W: Write + Copy> Model for WatchedBay<B, R,
 }
 
 impl<B: Bay + Drop, R: Clock + Copy, W: Write + Copy> WatchedBay<B, R, W> {
-    /// The bay, which tells this line.
-    pub fn new(alloc: Global, bay: B, line: Option<Line<R, W>>) -> WatchedBay<B, R, W>
+    /// The bay, which tells this line and says here what was committed.
+    pub fn new(
+        alloc: Global,
+        bay: B,
+        line: Option<Line<R, W>>,
+        notes: Option<Notes<W>>,
+    ) -> WatchedBay<B, R, W>
         ensures { result ≡ bay }
     {
         WatchedBay {
             bay,
             alloc,
             line,
+            notes,
             header: None,
         }
     }
@@ -152,7 +160,11 @@ impl<B: Bay + Drop, R: Clock + Copy, W: Write + Copy> Bay for WatchedBay<B, R, W
     }
 
     fn commit(&mut self, folder: &[u8], leaves: &Vec<(Bytes, B::Leaf)>) -> Result<(), BayFault> {
-        self.bay.commit(folder, leaves)
+        self.bay.commit(folder, leaves)?;
+        if let Some(notes) = &self.notes {
+            notes.published(folder);
+        }
+        Ok(())
     }
 
     fn retire(&mut self, draft: Self::Draft) {

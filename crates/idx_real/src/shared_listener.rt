@@ -4,6 +4,7 @@ use crate::{Reason, Sockets};
 use std::marker::Model;
 use std::net::{SocketAddr, TcpListener};
 use std::sync::Mutex;
+use std::sync::atomic::{AtomicBool, Ordering};
 
 /// An address at which several doors listen. It is opened by the first call that needs it, and stays open. A contract
 /// sees the bytes of the address.
@@ -11,6 +12,8 @@ use std::sync::Mutex;
 pub struct SharedListener {
     address: String,
     listener: Mutex<Option<TcpListener>>,
+    /// Whether it is open.
+    listens: AtomicBool,
 }
 
 impl Model for SharedListener {
@@ -29,6 +32,7 @@ impl SharedListener {
         SharedListener {
             address,
             listener: Mutex::new(None),
+            listens: AtomicBool::new(false),
         }
     }
 
@@ -46,6 +50,11 @@ impl SharedListener {
         Ok(listener.local_addr()?)
     }
 
+    /// Whether it is open.
+    pub fn listens(&self) -> bool {
+        self.listens.load(Ordering::SeqCst)
+    }
+
     /// Another handle of the listener, which is opened where it is not open yet.
     pub(crate) fn handle<R: Sockets>(&self, rt: &R) -> Result<TcpListener, Reason> {
         let mut place = self.listener.lock(rt);
@@ -55,6 +64,7 @@ impl SharedListener {
         let listener = rt.bind(self.socket_address()?)?;
         let handle = listener.try_clone()?;
         *place = Some(listener);
+        self.listens.store(true, Ordering::SeqCst);
         Ok(handle)
     }
 

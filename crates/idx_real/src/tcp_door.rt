@@ -6,24 +6,27 @@ ghost use Rattle.idx_real.specs.Faults.{no_faults};
 ghost use Rattle.idx_real.specs.LinkState.{most_read};
 
 use crate::fault_log::FaultLog;
+use crate::pauses::{Pauses, passes};
 use crate::{Fault, Patience, Reason, SharedListener, Sockets, TcpLink};
 use idx_outside::{Door, Outage, Served};
 use std::alloc::Global;
-use std::io::{self, ErrorKind};
+use std::io::{self, ErrorKind, Read, Write};
 use std::marker::Model;
-use std::net::{TcpListener, TcpStream};
+use std::net::{OpenListener, OpenStream, TcpListener, TcpStream};
 use std::sync::Arc;
+use std::thread;
 use std::time::Clock;
 
-/// How many connections are passed over at most, in one call, that were given up before they were accepted.
-const MOST_GIVEN_UP: u32 = 1_000;
+/// How many answers of the system other than a connection are passed over at most in one call.
+const MOST_PASSED_OVER: u32 = 1_000;
 
 /// A door over TCP, of which nothing is known. It listens at an address that other doors may share. A contract sees the
 /// bytes of the address, how many links it still hands out, and the faults.
 ///
 /// Each is one fault: what is no socket address, one that cannot be listened at, as where another program does, and an
 /// answer of the system to `accept` other than a connection. A connection that its peer gave up meanwhile is passed
-/// over.
+/// over; an answer that passes by itself, as that of too many open files, is a fault only where it comes for as long as the
+/// door's patience lasts.
 #[derive(Drop)]
 pub struct TcpDoor<R: Sockets> {
     rt: R,
@@ -81,7 +84,12 @@ impl<R: Sockets> TcpDoor<R> {
         ensures same { self.new ≡ self.old }
     {
         let listener = opened(&self.rt, &self.shared, &mut self.listener)?;
-        first_begun(self.rt, listener, self.patience)
+        accept_link(self.rt, listener, self.patience)
+    }
+
+    /// Whether the address is listened at.
+    pub fn listens(&self) -> bool {
+        self.shared.listens()
     }
 }
 
@@ -137,25 +145,46 @@ fn opened<'l, R: Sockets>(
     }
 }
 
-/// The next connection that its peer has not given up.
-fn first_begun<R: Clock + Copy>(
+/// The next connection of a listener that its peer has not given up. Answers of the system that pass by themselves are
+/// waited for, a little longer each time, as long as the patience lasts.
+pub fn accept_link<L: OpenListener, R: Clock + Copy>(
     rt: R,
-    listener: &TcpListener,
+    listener: &L,
     patience: Patience,
-) -> Result<TcpLink<TcpStream, R>, Reason>
+) -> Result<TcpLink<L::Stream, R>, Reason>
+where
+    L::Stream: Read + Write + OpenStream + Drop,
     ensures fresh { IfOk result (λ link. link.faults ≡ no_faults) }
     ensures unread { IfOk result (λ link. link.left ≡ most_read) }
 {
+    let mut pauses = Pauses::within(patience.refusals);
     let mut given_up = io::Error::from(ErrorKind::ConnectionAborted);
-    for _ in 0..MOST_GIVEN_UP {
+    for _ in 0..MOST_PASSED_OVER {
         match listener.accept() {
             Ok((stream, _)) => match TcpLink::begin(rt, stream, patience) {
                 Ok(link) => return Ok(link),
                 Err(error) => given_up = error,
             },
-            Err(error) if error.kind() == ErrorKind::ConnectionAborted => given_up = error,
-            Err(error) => return Err(Reason::from(error)),
+            Err(error) => {
+                pass_over(&rt, &mut pauses, error)?;
+                given_up = error;
+            }
         }
     }
     Err(Reason::System(given_up))
+}
+
+/// Passes over what the system said in place of a connection: at once where a peer gave it up, after a pause where it passes
+/// by itself and a pause is left. Anything else is why the call fails.
+fn pass_over<R: Clock>(rt: &R, pauses: &mut Pauses, error: io::Error) -> Result<(), Reason> {
+    if error.kind() == ErrorKind::ConnectionAborted {
+        return Ok(());
+    }
+    if passes(&error)
+        && let Some(pause) = pauses.next()
+    {
+        thread::sleep(rt, pause);
+        return Ok(());
+    }
+    Err(Reason::from(error))
 }

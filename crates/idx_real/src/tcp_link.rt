@@ -1,4 +1,5 @@
-ghost use Rattle.std.specs.Prelude.{◌≡◌, ◌↔◌, ◌+◌, ◌<◌, ◌≤◌, None, Ok, IsSome, IfOk, OnOk, OnErr, false, nat_eq, length};
+ghost use Rattle.std.specs.Prelude.{◌≡◌, ◌↔◌, ◌+◌, ◌*◌, ◌/◌, ◌^◌, ◌<◌, ◌≤◌, None, Ok, IsSome, IfOk, OnOk, OnErr, false, min, nat_eq, length, take};
+ghost use Rattle.std.specs.Duration.{as_nanos, max_nanos};
 ghost use Rattle.std.specs.Io.KnownBytes.{Appends, ReadConsumes};
 ghost use Rattle.idx_outside.specs.Cause.{counted, NeverFalls, Rose};
 ghost use Rattle.idx_real.specs.Faults.{no_faults};
@@ -20,15 +21,18 @@ const MOST_READ: usize = 8 * 1024 * 1024;
 /// more.
 const MOST_DROPPED: usize = 65_536;
 
-/// How often a read is made again at most that a signal interrupted.
+/// How many bytes a MiB has.
+const MIB: usize = 1024 * 1024;
+
+/// How often a read or a write is made again at most that a signal interrupted.
 const MOST_INTERRUPTED: u32 = 1_000;
 
-/// A connection over TCP, of which nothing is known. Pieces are sent at once. Its input ends where its peer ends it, and
-/// behind 8 MiB. A contract sees the stream, how much is still read of it, whether it has ended, how long a read waits and
-/// the faults.
+/// A connection over TCP, of which nothing is known. Pieces are sent at once, each in its time. Its input ends where its peer
+/// ends it, and behind 8 MiB. A contract sees the stream, how much is still read of it, whether it has ended, how long a
+/// read waits and the faults.
 ///
-/// Each is one fault: a peer that is gone, one that lets the link wait longer than its patience, and any other answer
-/// of the system to a read or a write but bytes and the end of the input.
+/// Each is one fault: a peer that is gone, one that lets the link wait longer than its patience or takes a piece too slowly,
+/// and any other answer of the system to a read or a write but bytes and the end of the input.
 #[derive(Drop)]
 pub struct TcpLink<S: Read + Write + OpenStream + Drop, R: Clock + Drop> {
     rt: R,
@@ -177,19 +181,15 @@ impl<S: Read + Write + OpenStream + Drop, R: Clock + Drop> TcpLink<S, R> {
         Ok(count)
     }
 
-    /// Writes the whole piece, and begins the time to the next.
+    /// Writes the whole piece in its time, and begins the time to the next.
     fn write_whole(&mut self, piece: &[u8]) -> Result<(), Reason>
         ensures taken { OnOk result (Appends (S.contents self.old.stream) (S.contents self.new.stream) piece.now) }
         ensures input { ReadsAsBefore self.old self.new }
         ensures faults { self.new.faults ≡ self.old.faults }
     {
-        match self.stream.write_all(piece) {
-            Ok(()) => {
-                self.since = Instant::now(&self.rt)?;
-                Ok(())
-            }
-            Err(error) => Err(reason_of(error, Reason::Silent)),
-        }
+        write_in_time(&self.rt, &mut self.stream, self.patience.piece, piece)?;
+        self.since = Instant::now(&self.rt)?;
+        Ok(())
     }
 }
 
@@ -253,6 +253,70 @@ fn read_once<S: Read>(stream: &mut S, into: &mut [u8]) -> io::Result<usize>
         }
     }
     Err(io::Error::from(ErrorKind::Interrupted))
+}
+
+/// Writes the whole piece, for no longer than this time and as long again for each whole MiB of it that is taken.
+fn write_in_time<S: Write, R: Clock>(
+    rt: &R,
+    stream: &mut S,
+    each: Duration,
+    piece: &[u8],
+) -> Result<(), Reason>
+    ensures taken { OnOk result (Appends (S.contents stream.old) (S.contents stream.new) piece.now) }
+{
+    let since = Instant::now(rt)?;
+    let mut rest = piece;
+    for part in 0..=piece.len() {
+        if rest.is_empty() {
+            return Ok(());
+        }
+        let count = write_once(stream, rest)?;
+        rest = &rest[count..];
+        in_time(rt, since, each, piece, rest)?;
+    }
+    Err(Reason::System(io::Error::from(ErrorKind::WriteZero)))
+}
+
+/// Whether there is time for the rest of a piece; for nothing there always is.
+fn in_time<R: Clock>(
+    rt: &R,
+    since: Instant,
+    each: Duration,
+    piece: &[u8],
+    rest: &[u8],
+) -> Result<(), Reason> {
+    let written = piece.len().saturating_sub(rest.len());
+    if !rest.is_empty() && time_to_write(each, written) <= since.elapsed(rt)? {
+        return Err(Reason::TakesSlowly);
+    }
+    Ok(())
+}
+
+/// How long the write of a piece may take of which so many bytes are taken.
+fn time_to_write(each: Duration, written: usize) -> Duration
+    ensures { written / 1_048_576 + 1 < 2 ^ 32
+        → as_nanos result ≡ min (as_nanos each * (written / 1_048_576 + 1)) max_nanos }
+{
+    match u32::try_from(written / MIB + 1) {
+        Ok(times) => each.saturating_mul(times),
+        Err(_) => Duration::MAX,
+    }
+}
+
+/// Writes once, and again where a signal interrupted the call: one byte at least.
+fn write_once<S: Write>(stream: &mut S, piece: &[u8]) -> Result<usize, Reason>
+    ensures within { IfOk result (λ n. n ≤ length piece.now) }
+    ensures taken { IfOk result (λ n. Appends (S.contents stream.old) (S.contents stream.new) (take n piece.now)) }
+{
+    for again in 0..MOST_INTERRUPTED {
+        match stream.write(piece) {
+            Ok(0) => return Err(Reason::System(io::Error::from(ErrorKind::WriteZero))),
+            Ok(count) => return Ok(count),
+            Err(error) if error.kind() == ErrorKind::Interrupted => {}
+            Err(error) => return Err(reason_of(error, Reason::Silent)),
+        }
+    }
+    Err(Reason::System(io::Error::from(ErrorKind::Interrupted)))
 }
 
 /// Why a call failed, where it is late for this reason once its time is over.

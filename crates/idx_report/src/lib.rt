@@ -9,7 +9,6 @@ mod paths;
 mod plain_words;
 mod printing;
 mod remedy;
-mod shown;
 mod usage;
 mod work_line;
 mod wrong_file;

@@ -1,9 +1,9 @@
 ghost use Rattle.std.specs.Prelude.{◌≡◌};
 
 use crate::buffer::long_buffer;
-use crate::shown::Shown;
 use idx_header::Header;
 use idx_outside::Bay;
+use idx_progress::Shown;
 use idx_real::{SharedListener, Sockets};
 use std::alloc::Global;
 use std::io::{self, Write};

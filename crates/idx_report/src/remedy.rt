@@ -1,8 +1,8 @@
 //! What would do in the place of a value of a header that is too small or over a limit.
-use crate::shown::Shown;
 use idx_header::{HeaderKind, mask_text};
 use idx_hz::guess;
 use idx_outside::Bytes;
+use idx_progress::Shown;
 use idx_text::{Document, read_box, read_number};
 use std::alloc::Global;
 use std::io::{self, Write};

@@ -1,5 +1,5 @@
 //! The line that says on a terminal what is being done, as long as it is done.
-use crate::shown::Shown;
+use idx_progress::Shown;
 use std::io::{self, Write};
 
 /// Takes the line away. One that cannot be taken away stays.

@@ -2,12 +2,12 @@
 ghost use Rattle.std.specs.Prelude.{◌≡◌, ◌<◌};
 ghost use Rattle.idx_header.specs.Header.{block_count};
 
-use crate::shown::Shown;
 use idx_check::WrongKind;
 use idx_commands::Cause;
 use idx_header::Header;
 use idx_layout::{file_len, file_rows, table_len};
 use idx_outside::{Bay, Bytes, Leaf, Outage, Reader};
+use idx_progress::Shown;
 use idx_rowmajor::Layout;
 use idx_table::{ROW_BYTES, write_row};
 use idx_words::{Command, read_words};

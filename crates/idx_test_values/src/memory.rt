@@ -10,6 +10,7 @@ use idx_outside::{
 use std::alloc::Global;
 use std::test::Fail;
 
+mod notes;
 mod progress;
 
 fn bytes_of(alloc: Global, bytes: &[u8]) -> Result<Bytes, NoMemory>

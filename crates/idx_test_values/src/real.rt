@@ -7,6 +7,7 @@ use std::{fs, io};
 
 mod files;
 mod folders;
+mod refusing;
 mod sinks;
 mod sockets;
 mod watched;
@@ -17,13 +18,28 @@ fn folder(rt: &HostRuntime, path: &str) -> Result<FolderBay<HostRuntime>, NoMemo
     Ok(FolderBay::new(rt.clone()?, path))
 }
 
-/// Whether this is the text of a fault, or of none.
+/// Whether this is the text of a fault, or of none. A star in it stands for any text.
 fn is_text(alloc: Global, fault: Option<Fault<'_>>, want: &str) -> bool {
     match fault {
         Some(fault) => match format!(in alloc; "{fault}") {
-            Ok(text) => text.as_str() == want,
+            Ok(text) => is_like(text.as_str(), want),
             Err(_) => false,
         },
         None => want.is_empty(),
+    }
+}
+
+fn is_like(text: &str, want: &str) -> bool {
+    match want.split_once('*') {
+        Some((front, end)) => text.starts_with(front) && text.ends_with(end),
+        None => text == want,
+    }
+}
+
+/// How many files and folders are in a folder; none where it is not there.
+fn count_in(rt: &HostRuntime, folder: &str) -> usize {
+    match fs::read_dir(rt, folder) {
+        Ok(entries) => entries.count(),
+        Err(_) => 0,
     }
 }

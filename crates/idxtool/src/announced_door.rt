@@ -5,7 +5,8 @@ ghost use Rattle.idx_real.specs.Faults.{no_faults};
 ghost use Rattle.idx_real.specs.LinkState.{most_read};
 
 use idx_outside::{Bay, Door, Outage, Served};
-use idx_real::{Fault, Sockets, TcpDoor, TcpLink};
+use idx_progress::NotingDoor;
+use idx_real::{Fault, Sockets, TcpLink};
 use idx_report::Notice;
 use std::io::Write;
 use std::marker::{Model, PhantomData};
@@ -14,14 +15,14 @@ use std::net::TcpStream;
 /// A door over TCP that says where it listens, once, before it waits for its first link; or one that shares what listens
 /// with such a door, and says nothing. A contract sees the door.
 #[derive(Drop)]
-pub struct AnnouncedDoor<R: Sockets, B: Bay + Drop, W: Write + Drop> {
+pub struct AnnouncedDoor<R: Sockets, B: Bay + Drop, W: Write + Copy + Drop> {
     notice: Option<Notice<R, B, W>>,
-    door: TcpDoor<R>,
+    door: NotingDoor<R, W>,
     /// The type of the links, which a function that holds a door of the host has to know.
     links: PhantomData<TcpLink<TcpStream, R>>,
 }
 
-impl<R: Sockets, B: Bay + Drop, W: Write + Drop> Model for AnnouncedDoor<R, B, W> {
+impl<R: Sockets, B: Bay + Drop, W: Write + Copy + Drop> Model for AnnouncedDoor<R, B, W> {
     ghost use Rattle.idx_real.specs.DoorState.{DoorState};
 
     ghost Value = { DoorState };
@@ -29,9 +30,9 @@ impl<R: Sockets, B: Bay + Drop, W: Write + Drop> Model for AnnouncedDoor<R, B, W
     ghost view = { λ s. s.door };
 }
 
-impl<R: Sockets, B: Bay + Drop, W: Write + Drop> AnnouncedDoor<R, B, W> {
+impl<R: Sockets, B: Bay + Drop, W: Write + Copy + Drop> AnnouncedDoor<R, B, W> {
     /// The notice, where there is one, speaks of the address of the door.
-    pub fn new(notice: Option<Notice<R, B, W>>, door: TcpDoor<R>) -> AnnouncedDoor<R, B, W>
+    pub fn new(notice: Option<Notice<R, B, W>>, door: NotingDoor<R, W>) -> AnnouncedDoor<R, B, W>
         ensures { result ≡ door }
     {
         AnnouncedDoor {
@@ -51,7 +52,7 @@ impl<R: Sockets, B: Bay + Drop, W: Write + Drop> AnnouncedDoor<R, B, W> {
     }
 }
 
-impl<R: Sockets, B: Bay + Drop, W: Write + Drop> Door for AnnouncedDoor<R, B, W> {
+impl<R: Sockets, B: Bay + Drop, W: Write + Copy + Drop> Door for AnnouncedDoor<R, B, W> {
     type Link = TcpLink<TcpStream, R>;
 
     ghost told = { λ _. None };

@@ -7,6 +7,8 @@ ghost use Rattle.std.specs.Prelude.{◌<◌, vec_len};
 mod announced_door;
 mod kept_room;
 mod outside;
+mod server_notes;
+mod standard_places;
 mod work_line;
 
 use idx_commands::{Cause, Done, run};
@@ -18,6 +20,8 @@ use outside::{
     StdDoor, dataset_files, file_readers, last_fault, raw_files, refused_header, tcp_doors,
     wrong_file,
 };
+use server_notes::{server_notes, shared_notes};
+use standard_places::hold_standard_places;
 use std::alloc::AllocError;
 use std::io::ErrorKind;
 use std::process::ExitCode;
@@ -27,6 +31,7 @@ use std::{env, io};
 use work_line::show_work;
 
 fn main(rt: HostRuntime) -> ExitCode {
+    let _places = hold_standard_places(&rt);
     match given_words(&rt) {
         Ok(words) => match text_asked_for(&words) {
             Some(text) => give_text(&rt, text),
@@ -80,9 +85,10 @@ fn run_over_files<T: Threads + Wait + Sync, R: Sockets + Send>(
     let mut raws = raw_files(rt, words)?;
     let files = dataset_files(rt, words)?;
     let line = show_work(rt, words);
-    let mut readers = file_readers(rt, words, &line)?;
+    let notes = server_notes(rt, words);
+    let mut readers = file_readers(rt, words, &line, &notes)?;
     let mut out = StdSink::new(rt.stdout());
-    let mut bay = WatchedBay::new(rt.alloc(), files, line);
+    let mut bay = WatchedBay::new(rt.alloc(), files, line, shared_notes(&notes));
     let _room = kept_room(rt, words);
     let done = run(
         threads,

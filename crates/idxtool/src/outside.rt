@@ -6,10 +6,11 @@ ghost use Rattle.idx_words.specs.ServeValue.{ServeValue};
 ghost use Rattle.idx_words.specs.Words.{Give};
 
 use crate::announced_door::AnnouncedDoor;
+use crate::server_notes::{StdNotes, server_notes, shared_notes};
 use crate::work_line::StdLine;
 use idx_commands::Cause;
 use idx_outside::{Bay, Bytes};
-use idx_progress::WatchedReader;
+use idx_progress::{NotingDoor, NotingReader, WatchedReader};
 use idx_real::{
     Fault, FileReader, FileSource, FolderBay, Patience, SharedListener, Sockets, StdSink, TcpDoor,
 };
@@ -21,11 +22,12 @@ use std::alloc::AllocError;
 use std::io::{Stderr, Stdout};
 use std::sync::Arc;
 
-/// A door at the address that the words name, which says on standard error where it listens.
+/// A door at the address that the words name, which says on standard error where it listens, and why it stops.
 pub type StdDoor<R> = AnnouncedDoor<R, FolderBay<HostRuntime>, Stderr>;
 
-/// A reader of a dataset's files, which tells a line on standard error where there is one.
-pub type StdReader = WatchedReader<FileReader<HostRuntime>, HostRuntime, Stderr>;
+/// A reader of a dataset's files, which tells a line on standard error where there is one, and says in a server's notes what
+/// it cannot read.
+pub type StdReader = WatchedReader<NotingReader<HostRuntime, Stderr>, HostRuntime, Stderr>;
 
 /// The raw volume that the words name, once for each rank that they say, so that each has a place of its own in the file;
 /// or one without a path.
@@ -77,11 +79,13 @@ pub fn wrong_file(rt: &HostRuntime, words: &[String], cause: Cause) -> Option<Wr
     look_again(rt.alloc(), words, cause, &mut files, &mut reader)
 }
 
-/// The readers of the dataset's files: one for each worker that the words say. They tell this line.
+/// The readers of the dataset's files: one for each worker that the words say. They tell this line, and say in these notes
+/// what they cannot read.
 pub fn file_readers(
     rt: &HostRuntime,
     words: &[String],
     line: &Option<StdLine>,
+    notes: &Option<StdNotes>,
 ) -> Result<Vec<StdReader>, AllocError>
     ensures some { IfOk result (λ readers. 0 < vec_len readers) }
     ensures workers { (v : ServeValue) → Give (map string_bytes words.now) (Command.Serve v) →
@@ -91,6 +95,7 @@ pub fn file_readers(
     let mut readers = Vec::with_capacity(rt.alloc(), workers as usize)?;
     for worker in 0..workers {
         let reader = FileReader::new(rt.clone()?, rt.alloc());
+        let reader = NotingReader::new(reader, shared_notes(notes));
         readers.push(WatchedReader::new(reader, shared(line)))?;
     }
     Ok(readers)
@@ -127,6 +132,7 @@ pub fn tcp_doors<R: Sockets>(
     });
     let workers = workers_of(words);
     let links = links_of(words);
+    let notes = server_notes(rt, words);
     let mut doors = Vec::with_capacity(rt.alloc(), workers as usize)?;
     for worker in 0..workers {
         let door = TcpDoor::new(
@@ -135,6 +141,7 @@ pub fn tcp_doors<R: Sockets>(
             share_of(links, workers, worker),
             Patience::of_a_server(),
         );
+        let door = NotingDoor::new(door, shared_notes(&notes));
         doors.push(AnnouncedDoor::new(notice.take(), door))?;
     }
     Ok(doors)

@@ -29,7 +29,7 @@ fn told(
 ) -> Result<(Progress, Result<(), BayFault>), Fail> {
     let alloc = rt.alloc();
     let line = Line::begin(alloc, *rt, rt.stderr()).ok_or(NoMemory)?;
-    let mut bay = WatchedBay::new(alloc, empty_bay(alloc, fails)?, line.share());
+    let mut bay = WatchedBay::new(alloc, empty_bay(alloc, fails)?, line.share(), None);
     let result = save(alloc, &mut bay, text, &[116, 47, 48], &[1, 2]);
     Ok((line.progress(), result))
 }
@@ -69,7 +69,7 @@ fn told_of_reading(rt: &HostRuntime, fails: u64) -> Result<(Progress, bool), Fai
     let line = Line::begin(alloc, *rt, rt.stderr()).ok_or(NoMemory)?;
     let text = bytes_of(alloc, TWO_FILES)?;
     let files = MemBay::new(text, one_file(alloc)?, Vec::new(alloc), Vec::new(alloc));
-    let mut bay = WatchedBay::new(alloc, files, line.share());
+    let mut bay = WatchedBay::new(alloc, files, line.share(), None);
     let mut reader = WatchedReader::new(MemReader::new(vec![in alloc; fails]?), line.share());
     let mut into = Bytes::new(alloc);
     bay.header(&mut into)?;
