@@ -10,13 +10,14 @@ that all other events are refused or done, all questions answered and all files 
 came; or there is no world, for want of memory; or what was asked for had no need of the allocation, and all is as it is with
 memory; or the memory for a row or for the text was refused, and the program ends with status 1 and an error, behind nothing but the
 front of what is right. Some allocations of the reading are refused too. starved.c is the library that refuses; it is compiled by
-$CC, or cc. The last line is `N passed, M failed`, of runs.
+$CC, or cc; without it nothing is tried, and a line says so. The last line is `N passed, M failed`, of runs.
 """
 from __future__ import annotations
 
 import argparse
 import os
 import re
+import shutil
 import struct
 import subprocess
 import sys
@@ -185,6 +186,9 @@ def main() -> int:
     parser.add_argument("--events", type=int, default=60, help="how many events each has")
     given = parser.parse_args()
     results: list[bool] = []
+    if shutil.which(compiler()[0]) is None:
+        print(f"starved: no C compiler {compiler()[0]} here, so nothing is tried")
+        return status_of(results)
     with tempfile.TemporaryDirectory() as folder:
         library = Path(folder) / "starved.so"
         subprocess.run([*compiler(), "-O2", "-shared", "-fPIC", "-o", library, Path(__file__).with_suffix(".c")], check=True)
